@@ -1,0 +1,202 @@
+-- Reading and checking a run record, and the table that the check writes (01, "Record", "Checking"; refusals 30 to 39).
+use Prim.Native.Nat.{ℕ, zero, suc, _+_}
+use mathlib.Core.Bool.{Bool, true, false, not, _&&_, _||_, cond}
+use mathlib.Core.Option.{Option, none, some}
+use mathlib.Core.List.{List, [], _∷_, _++_, map}
+use lib.ListN.{length}
+use lib.Dec.{eqb, ltb, leb}
+use Rattle.spec.specs.Lists.{any, count, upTo, lowest, sum, flat, asCount}
+use Rattle.spec.specs.Answer.{Answer, gives, refuses, _>>=_, _>>_, refuse_at_when_, refuse_at?_}
+use Rattle.spec.specs.Text.{Line, linesOf, byLines, rowOf, mostDigits}
+use Rattle.spec.specs.Forms.{isOne, isTwo, isThree, valueOf}
+use Rattle.spec.specs.Net.{Net, places, takes, makes, readNet}
+use Rattle.spec.specs.Step.{tokensAt}
+use Rattle.spec.specs.Record.{RunRecord, Condition, Mark, bench, marked, due, transitionOf, conditionAt}
+use Rattle.spec.specs.Order.{strictlyBefore, notLater}
+use Rattle.spec.specs.Process.{initialIn, consumedIn, producedIn, wrongEnd, below}
+use Rattle.spec.specs.declared.Class.the-variants.{LetterE, LetterC, LetterB, LetterA}
+use Rattle.spec.specs.declared.Field.{Field}
+use Rattle.spec.specs.declared.Field.the-variants.{Number, Dash, Wrong, Absent}
+use Rattle.spec.specs.declared.Row.{Row}
+use Rattle.spec.specs.declared.Limits.{Limits}
+use Rattle.spec.specs.declared.MarkKind.{MarkKind}
+use Rattle.spec.specs.declared.MarkKind.the-variants.{Before, After}
+
+-- ---- "per line 31 malformed or group out of order, 32 limit passed, 33 undeclared number, 34 condition and event marked
+-- already (spot: line);"
+
+unfoldable pub isEmpty : {A : Type 0} → List A → Bool
+isEmpty [] = true
+isEmpty (x ∷ xs) = false
+
+unfoldable pub withEvent : ℕ → RunRecord → RunRecord
+withEvent t r = record { events = r .events ++ t ∷ []; conditions = r .conditions; marks = r .marks }
+
+unfoldable pub withCondition : Condition → RunRecord → RunRecord
+withCondition c r = record { events = r .events; conditions = r .conditions ++ c ∷ []; marks = r .marks }
+
+unfoldable pub withMark : Mark → RunRecord → RunRecord
+withMark m r = record { events = r .events; conditions = r .conditions; marks = r .marks ++ m ∷ [] }
+
+-- events stand before conditions and marks
+unfoldable pub enterEvent : Limits → Net → ℕ → ℕ → RunRecord → Answer RunRecord
+enterEvent lim n k t r = do
+  refuse 31 at k when not (isEmpty (r .conditions) && isEmpty (r .marks))
+  refuse 32 at k when leb (lim .events) (length (r .events))
+  refuse 33 at k when leb (n .transitions) t
+  gives (withEvent t r)
+
+-- conditions stand before marks
+unfoldable pub enterCondition : Limits → Net → ℕ → Condition → RunRecord → Answer RunRecord
+enterCondition lim n k c r = do
+  refuse 31 at k when not (isEmpty (r .marks))
+  refuse 32 at k when leb (lim .conditions) (length (r .conditions))
+  refuse 33 at k when not (ltb (c .place) (places n) && below (length (r .events)) (c .producer) && below (length (r .events)) (c .consumer))
+  gives (withCondition c r)
+
+unfoldable pub enterMark : Limits → ℕ → Mark → RunRecord → Answer RunRecord
+enterMark lim k m r = do
+  refuse 32 at k when leb (lim .marks) (length (r .marks))
+  refuse 33 at k when not (ltb (m .condition) (length (r .conditions)) && ltb (m .event) (length (r .events)))
+  refuse 34 at k when marked r (m .condition) (m .event)
+  gives (withMark m r)
+
+-- a dash is no event
+abbrev pub eventOf : Field → Option ℕ
+eventOf (Number e) = some e
+eventOf Dash = none
+eventOf Wrong = none
+eventOf Absent = none
+
+unfoldable pub conditionOf : Row → Condition
+conditionOf w = record { place = valueOf (w .first); producer = eventOf (w .second); consumer = eventOf (w .third) }
+
+unfoldable pub markIn : MarkKind → Row → Mark
+markIn x w = record { kind = x; condition = valueOf (w .first); event = valueOf (w .second) }
+
+-- "`E,transition`", "`C,place,producer,consumer`", "`B,condition,event` or `A,condition,event`"
+unfoldable pub enterRow : Limits → Net → ℕ → Row → RunRecord → Answer RunRecord
+enterRow lim n k w r =
+    cond (isOne LetterE w) (enterEvent lim n k (valueOf (w .first)) r)
+    (cond (isThree LetterC w) (enterCondition lim n k (conditionOf w) r)
+    (cond (isTwo LetterB w) (enterMark lim k (markIn Before w) r)
+    (cond (isTwo LetterA w) (enterMark lim k (markIn After w) r)
+    (refuses 31 k))))
+
+unfoldable pub enterLine : Limits → Net → ℕ → Line → RunRecord → Answer RunRecord
+enterLine lim n k l r = do
+  refuse 31 at k when not (l .ended)
+  enterRow lim n k (rowOf mostDigits (l .bytes)) r
+
+unfoldable pub emptyRecord : RunRecord
+emptyRecord = record { events = []; conditions = []; marks = [] }
+
+-- ---- "then 35 initial count (lowest place), 36 inputs or outputs, 37 mark missing or undue, 38 B on initial or A on
+-- unconsumed, 39 event strictly before itself (36 to 39: lowest event), each rule over the whole record before the next."
+
+-- 35: the place has another number of initial conditions than of initial tokens
+unfoldable pub wrongInitial : Net → RunRecord → ℕ → Bool
+wrongInitial n r p = not (eqb (count (initialIn p) (r .conditions)) (tokensAt (n .tokens) p))
+
+-- 36: for some place the event consumes or produces another number of conditions than its transition takes or makes
+unfoldable pub wrongArcsAt : Net → RunRecord → ℕ → ℕ → Bool
+wrongArcsAt n r e p =
+    not (eqb (count (consumedIn e p) (r .conditions)) (takes n (transitionOf r e) p)
+    && eqb (count (producedIn e p) (r .conditions)) (makes n (transitionOf r e) p))
+
+unfoldable pub wrongArcs : Net → RunRecord → ℕ → Bool
+wrongArcs n r e = any (wrongArcsAt n r e) (upTo (places n))
+
+unfoldable pub same : Bool → Bool → Bool
+same true b = b
+same false b = not b
+
+-- 37: at some condition the event's mark is missing or undue
+unfoldable pub wrongMarkAt : Net → RunRecord → ℕ → ℕ → Bool
+wrongMarkAt n r e c = not (same (marked r c e) (due n e (transitionOf r e) (conditionAt r c)))
+
+unfoldable pub wrongMarks : Net → RunRecord → ℕ → Bool
+wrongMarks n r e = any (wrongMarkAt n r e) (upTo (length (r .conditions)))
+
+-- 38: some mark of the event is B on an initial or A on an unconsumed condition
+unfoldable pub wrongKindAt : RunRecord → ℕ → Mark → Bool
+wrongKindAt r e m = eqb (m .event) e && wrongEnd (m .kind) (conditionAt r (m .condition))
+
+unfoldable pub wrongKind : RunRecord → ℕ → Bool
+wrongKind r e = any (wrongKindAt r e) (r .marks)
+
+-- 39: the event is strictly before itself
+unfoldable pub beforeItself : RunRecord → ℕ → Bool
+beforeItself r e = strictlyBefore r e e
+
+unfoldable pub obeys : Net → RunRecord → Answer (Unit {0})
+obeys n r = do
+  refuse 35 at? lowest (wrongInitial n r) (places n)
+  refuse 36 at? lowest (wrongArcs n r) (length (r .events))
+  refuse 37 at? lowest (wrongMarks n r) (length (r .events))
+  refuse 38 at? lowest (wrongKind r) (length (r .events))
+  refuse 39 at? lowest (beforeItself r) (length (r .events))
+
+unfoldable pub readRecord : Limits → Net → List ℕ → Answer RunRecord
+readRecord lim n text = do
+  r ← byLines (enterLine lim n) 1 (linesOf text) emptyRecord
+  obeys n r
+  gives r
+
+-- ---- "net's; check's but 30": what check, replay and arrange share
+
+-- a net and a record that are accepted
+pub record Accepted : Type 0 where
+  pub net : Net
+  pub run : RunRecord
+
+unfoldable pub accepts : Limits → List ℕ → List ℕ → Answer Accepted
+accepts lim net text = do
+  n ← readNet net
+  r ← readRecord lim n text
+  gives (record { net = n; run = r })
+
+-- ---- "The check writes 16,384 bytes: at 128 × e + f, 2 if e is strictly before f, 1 if only not later, else 0; 0 beyond the
+-- events."
+
+unfoldable pub related : RunRecord → ℕ → ℕ → ℕ
+related r e f = cond (strictlyBefore r e f) 2 (cond (notLater r e f) 1 0)
+
+unfoldable pub tableAt : RunRecord → ℕ → ℕ → ℕ
+tableAt r e f = cond (ltb e (length (r .events)) && ltb f (length (r .events))) (related r e f) 0
+
+unfoldable pub tableBytes : RunRecord → List ℕ
+tableBytes r = flat (map (λ e. map (tableAt r e) (upTo 128)) (upTo 128))
+
+-- "independent pairs, unordered: two different events, neither strictly before the other."
+unfoldable pub independent : RunRecord → ℕ → ℕ → Bool
+independent r e f = not (eqb e f) && not (strictlyBefore r e f) && not (strictlyBefore r f e)
+
+-- each pair is counted once, at its higher event
+unfoldable pub independentPairs : RunRecord → ℕ
+independentPairs r = sum (map (λ e. count (independent r e) (upTo e)) (upTo (length (r .events))))
+
+-- "It also returns the events, conditions and independent pairs"
+pub record Checked : Type 0 where
+  pub events : ℕ
+  pub conditions : ℕ
+  pub independents : ℕ
+  pub table : List ℕ
+
+unfoldable pub checked : RunRecord → Checked
+checked r = record { events = length (r .events); conditions = length (r .conditions); independents = independentPairs r; table = tableBytes r }
+
+-- "Check: 30 buffer under 16,384 bytes (spot 0); net's; .."
+unfoldable pub checkWithin : Limits → List ℕ → List ℕ → ℕ → Answer Checked
+checkWithin lim net text room = do
+  refuse 30 at 0 when ltb room 16384
+  a ← accepts lim net text
+  gives (checked (a .run))
+
+unfoldable pub check : List ℕ → List ℕ → ℕ → Answer Checked
+check net text room = checkWithin bench net text room
+
+-- opens every definition of this module, for what computes with them
+unfoldable pub openCheck : Unit {0}
+unfolding isEmpty withEvent withCondition withMark enterEvent enterCondition enterMark conditionOf markIn enterRow enterLine emptyRecord wrongInitial wrongArcsAt wrongArcs same wrongMarkAt wrongMarks wrongKindAt wrongKind beforeItself obeys readRecord accepts related tableAt tableBytes independent independentPairs checked checkWithin check
+openCheck = tt

@@ -1,0 +1,125 @@
+-- Nets, and how a net text is read (01, "Net"; refusals 11 to 15).
+use Prim.Native.Nat.{ℕ, zero, suc, _+_}
+use mathlib.Core.Bool.{Bool, true, false, not, _&&_, _||_, cond}
+use mathlib.Core.List.{List, [], _∷_, _++_}
+use lib.ListN.{length}
+use lib.Dec.{eqb, ltb, leb}
+use Rattle.spec.specs.Lists.{any, upTo, sum, lowest, asCount}
+use Rattle.spec.specs.Answer.{Answer, gives, refuses, _>>=_, _>>_, refuse_at_when_, refuse_at?_}
+use Rattle.spec.specs.Text.{Line, linesOf, byLines, rowOf, mostDigits}
+use Rattle.spec.specs.Forms.{isAlone, isOne, isTwo, valueOf}
+use Rattle.spec.specs.declared.Row.{Row}
+use Rattle.spec.specs.declared.ArcKind.{ArcKind}
+use Rattle.spec.specs.declared.ArcKind.the-variants.{Input, Output, Inhibitor}
+use Rattle.spec.specs.declared.Class.the-variants.{LetterP, LetterT, LetterI, LetterO, LetterH}
+
+abbrev pub kindCode : ArcKind → ℕ
+kindCode Input = 0
+kindCode Output = 1
+kindCode Inhibitor = 2
+
+pub record Arc : Type 0 where
+  pub kind : ArcKind
+  pub place : ℕ
+  pub transition : ℕ
+
+-- "Things are numbered from 0 as they appear."
+-- tokens: the initial tokens of each place, in the places' order; transitions: how many there are
+pub record Net : Type 0 where
+  pub tokens : List ℕ
+  pub transitions : ℕ
+  pub arcs : List Arc
+
+abbrev pub places : Net → ℕ
+places n = length (n .tokens)
+
+unfoldable pub isArc : ArcKind → ℕ → ℕ → Arc → Bool
+isArc x p t a = eqb (kindCode (a .kind)) (kindCode x) && eqb (a .place) p && eqb (a .transition) t
+
+-- the net has an arc of this kind between p and t
+unfoldable pub joined : Net → ArcKind → ℕ → ℕ → Bool
+joined n x p t = any (isArc x p t) (n .arcs)
+
+-- how many tokens transition t takes from place p: 1 where that input arc exists, else 0
+unfoldable pub takes : Net → ℕ → ℕ → ℕ
+takes n t p = asCount (joined n Input p t)
+
+-- how many tokens it makes in place p
+unfoldable pub makes : Net → ℕ → ℕ → ℕ
+makes n t p = asCount (joined n Output p t)
+
+-- place p inhibits transition t
+unfoldable pub inhibits : Net → ℕ → ℕ → Bool
+inhibits n p t = joined n Inhibitor p t
+
+-- ---- what each line adds
+
+unfoldable pub withPlace : ℕ → Net → Net
+withPlace v n = record { tokens = n .tokens ++ v ∷ []; transitions = n .transitions; arcs = n .arcs }
+
+unfoldable pub withTransition : Net → Net
+withTransition n = record { tokens = n .tokens; transitions = n .transitions + 1; arcs = n .arcs }
+
+unfoldable pub withArc : ArcKind → ℕ → ℕ → Net → Net
+withArc x p t n = record { tokens = n .tokens; transitions = n .transitions; arcs = record { kind = x; place = p; transition = t } ∷ n .arcs }
+
+-- "At most 32 places, 32 transitions, 512 initial tokens in all." Line k declares a place with v tokens:
+unfoldable pub addPlace : ℕ → ℕ → Net → Answer Net
+addPlace k v n = do
+  refuse 12 at k when (leb 32 (places n) || ltb 512 (sum (n .tokens) + v))
+  gives (withPlace v n)
+
+unfoldable pub addTransition : ℕ → Net → Answer Net
+addTransition k n = do
+  refuse 12 at k when leb 32 (n .transitions)
+  gives (withTransition n)
+
+-- "An arc names things declared above it."
+unfoldable pub addArc : ArcKind → ℕ → ℕ → ℕ → Net → Answer Net
+addArc x k p t n = do
+  refuse 13 at k when not (ltb p (places n) && ltb t (n .transitions))
+  refuse 14 at k when joined n x p t
+  gives (withArc x p t n)
+
+-- "`P,tokens` place. `T` transition. `I,place,transition` input. `O,transition,place` output. `H,place,transition` inhibitor."
+unfoldable pub addRow : ℕ → Row → Net → Answer Net
+addRow k r n =
+    cond (isOne LetterP r) (addPlace k (valueOf (r .first)) n)
+    (cond (isAlone LetterT r) (addTransition k n)
+    (cond (isTwo LetterI r) (addArc Input k (valueOf (r .first)) (valueOf (r .second)) n)
+    (cond (isTwo LetterO r) (addArc Output k (valueOf (r .second)) (valueOf (r .first)) n)
+    (cond (isTwo LetterH r) (addArc Inhibitor k (valueOf (r .first)) (valueOf (r .second)) n)
+    (refuses 11 k)))))
+
+unfoldable pub addLine : ℕ → Line → Net → Answer Net
+addLine k l n = do
+  refuse 11 at k when not (l .ended)
+  addRow k (rowOf mostDigits (l .bytes)) n
+
+unfoldable pub emptyNet : Net
+emptyNet = record { tokens = []; transitions = 0; arcs = [] }
+
+-- "Each transition has an input and an output.": transition t lacks one
+unfoldable pub lacking : Net → ℕ → Bool
+lacking n t = not (any (λ p. ltb 0 (takes n t p)) (upTo (places n))) || not (any (λ p. ltb 0 (makes n t p)) (upTo (places n)))
+
+-- the rule that is judged after all lines
+unfoldable pub whole : Net → Answer Net
+whole n = do
+  refuse 15 at? lowest (lacking n) (n .transitions)
+  gives n
+
+-- "Net: per line 11 malformed, 12 limit passed, 13 undeclared number, 14 arc repeated (spot: line); then 15 transition
+-- lacking input or output (spot: lowest such)."
+unfoldable pub netOf : List Line → Answer Net
+netOf ls = do
+  n ← byLines addLine 1 ls emptyNet
+  whole n
+
+unfoldable pub readNet : List ℕ → Answer Net
+readNet text = netOf (linesOf text)
+
+-- opens every definition of this module, for what computes with them
+unfoldable pub openNet : Unit {0}
+unfolding isArc joined takes makes inhibits withPlace withTransition withArc addPlace addTransition addArc addRow addLine emptyNet lacking whole netOf readNet
+openNet = tt

@@ -1,0 +1,95 @@
+-- Run records and the bytes of one (01, "Record").
+use Prim.Native.Nat.{ℕ}
+use mathlib.Core.Bool.{Bool, true, false, not, _&&_}
+use mathlib.Core.Option.{Option, none, some}
+use mathlib.Core.List.{List, [], _∷_, _++_, map}
+use lib.ListN.{getD}
+use lib.Dec.{eqb}
+use Rattle.spec.specs.Lists.{any, flat}
+use Rattle.spec.specs.Text.{line}
+use Rattle.spec.specs.Net.{Net, inhibits}
+use Rattle.spec.specs.declared.Field.{Field}
+use Rattle.spec.specs.declared.Field.the-variants.{Number, Dash, Wrong, Absent}
+use Rattle.spec.specs.declared.MarkKind.{MarkKind}
+use Rattle.spec.specs.declared.MarkKind.the-variants.{Before, After}
+use Rattle.spec.specs.declared.Limits.{Limits}
+
+-- "`C,place,producer,consumer` (conditions; `-` for initial or unconsumed)": producer and consumer are events, or none
+pub record Condition : Type 0 where
+  pub place : ℕ
+  pub producer : Option ℕ
+  pub consumer : Option ℕ
+
+-- "marks `B,condition,event` or `A,condition,event`": Busi and Pinna's before and after arcs
+pub record Mark : Type 0 where
+  pub kind : MarkKind
+  pub condition : ℕ
+  pub event : ℕ
+
+-- "All `E,transition` (events), then all [conditions], then all marks"; events: the transition of each event
+pub record RunRecord : Type 0 where
+  pub events : List ℕ
+  pub conditions : List Condition
+  pub marks : List Mark
+
+-- "At most 128 events, 512 conditions, 4,096 marks."
+unfoldable pub bench : Limits
+bench = record { events = 128; conditions = 512; marks = 4096 }
+
+-- what stands for a condition beyond the last
+unfoldable pub noCondition : Condition
+noCondition = record { place = 0; producer = none; consumer = none }
+
+abbrev pub transitionOf : RunRecord → ℕ → ℕ
+transitionOf r e = getD (r .events) e 0
+
+abbrev pub conditionAt : RunRecord → ℕ → Condition
+conditionAt r c = getD (r .conditions) c noCondition
+
+-- the producer or consumer is event e
+unfoldable pub names : Option ℕ → ℕ → Bool
+names none e = false
+names (some f) e = eqb f e
+
+unfoldable pub isNone : Option ℕ → Bool
+isNone none = true
+isNone (some f) = false
+
+-- the mark stands at condition c and event e
+unfoldable pub isAt : ℕ → ℕ → Mark → Bool
+isAt c e m = eqb (m .condition) c && eqb (m .event) e
+
+unfoldable pub marked : RunRecord → ℕ → ℕ → Bool
+marked r c e = any (isAt c e) (r .marks)
+
+-- ".. where the condition's place inhibits the event's transition and the event isn't its producer": a mark is due at
+-- condition c and event e, whose transition is t
+unfoldable pub due : Net → ℕ → ℕ → Condition → Bool
+due n e t c = inhibits n (c .place) t && not (names (c .producer) e)
+
+-- ---- the record as a text
+
+unfoldable pub eventField : Option ℕ → Field
+eventField none = Dash
+eventField (some e) = Number e
+
+unfoldable pub eventLine : ℕ → List ℕ
+eventLine t = line "E" (Number t ∷ [])
+
+unfoldable pub conditionLine : Condition → List ℕ
+conditionLine c = line "C" (Number (c .place) ∷ eventField (c .producer) ∷ eventField (c .consumer) ∷ [])
+
+unfoldable pub markLineOf : MarkKind → ℕ → ℕ → List ℕ
+markLineOf Before c e = line "B" (Number c ∷ Number e ∷ [])
+markLineOf After c e = line "A" (Number c ∷ Number e ∷ [])
+
+unfoldable pub markLine : Mark → List ℕ
+markLine m = markLineOf (m .kind) (m .condition) (m .event)
+
+unfoldable pub recordBytes : RunRecord → List ℕ
+recordBytes r = flat (map eventLine (r .events)) ++ flat (map conditionLine (r .conditions)) ++ flat (map markLine (r .marks))
+
+-- opens every definition of this module, for what computes with them
+unfoldable pub openRecord : Unit {0}
+unfolding bench noCondition names isNone isAt marked due eventField eventLine conditionLine markLineOf markLine recordBytes
+openRecord = tt
