@@ -1,0 +1,74 @@
+-- Tests and sums over the elements of a list that a loop meets one after the other.
+use Prim.Native.Nat.{ℕ, _+_, _≤_, _<_}
+use mathlib.Core.Path.{_≡_, refl, ap, _∙_}
+use mathlib.Core.Bool.{Bool, true, false, _||_}
+use mathlib.Core.List.{List, [], _∷_, _++_}
+use native.Mathlib.Nat.{zero-add}
+use native.Mathlib.Numerals.{add-one}
+use native.Mathlib.Omega.{arith}
+use lib.ListN.{length, getD, take}
+use lib.Dec.{ltb}
+use lib.Seq.{take-suc, getD-take, length-take-le}
+use borrow.Author.Tests.{lt-ltb}
+use Rattle.spec.specs.Lists.{In, any, sumOf, asCount}
+use Rattle.lists.specs.Laws.{here, there, at-in, any-in, sumOf-append}
+
+-- ---- a list known by its first element and the others
+
+module _ {A : Type 0} (q : A → Bool) {xs ys : List A} {x : A} (e : xs ≡ x ∷ ys) where
+  pub any-first : q x ≡ true → any q xs ≡ true
+  unfolding any
+  any-first h = rw (e, h)
+
+  pub any-next : q x ≡ false → any q ys ≡ any q xs
+  unfolding any
+  any-next h = rw (e, h)
+
+pub any-nil : {A : Type 0} (q : A → Bool) {xs : List A} → xs ≡ [] → any q xs ≡ false
+unfolding any
+any-nil q e = rw e
+
+-- ---- two tests that agree on the elements of a list
+
+module _ {A : Type 0} (f g : A → Bool) where
+  pub any-agree : (xs : List A) → ((x : A) → In x xs → f x ≡ g x) → any f xs ≡ any g xs
+  unfolding any
+  any-agree [] h = refl
+  any-agree (x ∷ xs) h = rw (h x here, any-agree xs (λ y m. h y (there m)))
+
+-- a test counted over a list is passed by some element where the sum is not 0
+pub some-counted : {A : Type 0} (q : A → Bool) (xs : List A) → ltb 0 (sumOf (λ x. asCount (q x)) xs) ≡ any q xs
+unfolding sumOf any asCount
+some-counted q [] = refl
+some-counted q (x ∷ xs) = go (q x) (some-counted q xs)
+  where
+    go : (b : Bool) → ltb 0 (sumOf (λ x. asCount (q x)) xs) ≡ any q xs → ltb 0 (asCount b + sumOf (λ x. asCount (q x)) xs) ≡ (b || any q xs)
+    go true h = lt-ltb 0 (1 + sumOf (λ x. asCount (q x)) xs) (omega arith)
+    go false h = rw (zero-add (sumOf (λ x. asCount (q x)) xs)) h
+
+-- ---- the first elements of a list
+
+module _ {A : Type 0} (d : A) where
+  pub take-more : (xs : List A) (i : ℕ) → i < length xs → take (i + 1) xs ≡ take i xs ++ getD xs i d ∷ []
+  take-more xs i h = rw (add-one i) (take-suc xs i d h)
+
+  pub sumOf-more : (f : A → ℕ) (xs : List A) (i : ℕ) → i < length xs → sumOf f (take (i + 1) xs) ≡ sumOf f (take i xs) + f (getD xs i d)
+  unfolding sumOf
+  sumOf-more f xs i h = rw (take-more xs i h) (sumOf-append f (take i xs) (getD xs i d ∷ []) ∙ omega arith)
+
+  any-append : (q : A → Bool) (s t : List A) → any q (s ++ t) ≡ (any q s || any q t)
+  unfolding any
+  any-append q [] t = refl
+  any-append q (x ∷ s) t = go (q x) (any-append q s t)
+    where
+      go : (b : Bool) → any q (s ++ t) ≡ (any q s || any q t) → (b || any q (s ++ t)) ≡ ((b || any q s) || any q t)
+      go true h = refl
+      go false h = h
+
+  pub none-more : (q : A → Bool) (xs : List A) (i : ℕ) → i < length xs → q (getD xs i d) ≡ false → any q (take i xs) ≡ false → any q (take (i + 1) xs) ≡ false
+  unfolding any
+  none-more q xs i h e n = rw (take-more xs i h, any-append q (take i xs) (getD xs i d ∷ []), n, e)
+
+  pub any-taken : (q : A → Bool) (xs : List A) (i n : ℕ) → i < n → n ≤ length xs → q (getD xs i d) ≡ true → any q (take n xs) ≡ true
+  any-taken q xs i n h l e =
+      any-in q (getD (take n xs) i d) (take n xs) (at-in d (take n xs) i (omega (arith, length-take-le n xs l))) (ap q (getD-take n xs i d h) ∙ e)

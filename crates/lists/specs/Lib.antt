@@ -1,0 +1,14 @@
+pub mod Laws
+pub mod Search
+pub mod Arrays
+pub mod Mapped
+pub mod Lowest
+pub mod Running
+pub mod Along
+pub mod Tables
+pub mod Grouped
+pub mod First
+pub mod Parts
+pub mod Among
+pub mod Stretch
+pub mod Rows
