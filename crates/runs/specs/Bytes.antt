@@ -1,0 +1,143 @@
+-- What a byte's class says of the byte: a digit is the digit of its value, and every other class in use has one byte.
+use mathlib.Core.Path.{_≡_, refl}
+use Prim.Native.Nat.{ℕ, _+_, _-_, _<_}
+use Prim.Native.Char.{Char, code}
+use native.Mathlib.Omega.{arith}
+use mathlib.Core.Bool.{Bool, true, false, not, _&&_, _||_, cond}
+use mathlib.Core.List.{List, [], _∷_}
+use lib.Dec.{eqb, leb}
+use borrow.Author.Tests.{le-leb, leb-true, eqb-true}
+use Rattle.spec.specs.Lists.{every}
+use Rattle.spec.specs.Text.{classNames, named, inDigits, classOf, digitOf, classCode, alike, isA, digit}
+use Rattle.spec.specs.declared.Class.{Class}
+use Rattle.spec.specs.declared.Class.the-variants.{Digit, Comma, Dash as DashByte, LineEnd, LetterS, LetterE, LetterC, LetterB, LetterA, LetterG, Foreign}
+use Rattle.lists.specs.Laws.{clash, and-true, and-three, true-and, not-is-true}
+
+-- a test that Foreign passes at every byte, and each name of a list, the named class passes
+named-passes : (p : ℕ → Class → Bool) → ((b : ℕ) → p b Foreign ≡ true) → (b : ℕ) (ns : List (ℕ × Class)) → every (λ n. p (n .0) (n .1)) ns ≡ true → p b (named b ns) ≡ true
+unfolding named every
+named-passes p f b [] h = f b
+named-passes p f b (n ∷ ns) h = let z = and-true (p (n .0) (n .1)) (every (λ n. p (n .0) (n .1)) ns) h in go (eqb b (n .0)) refl (z .0) (named-passes p f b ns (z .1))
+  where
+    go : (t : Bool) → eqb b (n .0) ≡ t → p (n .0) (n .1) ≡ true → p b (named b ns) ≡ true → p b (cond t (n .1) (named b ns)) ≡ true
+    go true e q r = rw (eqb-true b (n .0) e) q
+    go false e q r = r
+
+-- a byte of one class is of no other
+pub other-class : (j k : Class) → alike j k ≡ false → (b : ℕ) → isA j b ≡ true → isA k b ≡ false
+unfolding isA alike
+other-class j k h b e = rw (eqb-true (classCode (classOf b)) (classCode j) e) h
+
+-- ---- digits
+
+digit-within : (d : ℕ) → d < 10 → inDigits (digit d) ≡ true
+unfolding inDigits digit
+digit-within d h = true-and (le-leb 48 (48 + d) (omega arith)) (le-leb (48 + d) 57 (omega arith))
+
+pub digit-isA : (d : ℕ) → d < 10 → isA Digit (digit d) ≡ true
+unfolding isA alike classOf
+digit-isA d h = rw (digit-within d h)
+
+pub digit-value : (d : ℕ) → d < 10 → digitOf (digit d) ≡ d
+unfolding digitOf
+digit-value d h = rw (digit-within d h) (minus d)
+  where
+    minus : (d : ℕ) → digit d - 48 ≡ d
+    minus d = unfold digit in (omega arith)
+
+isA-within : (b : ℕ) → isA Digit b ≡ true → inDigits b ≡ true
+unfolding isA alike classOf every
+isA-within b h = go (inDigits b) refl h
+  where
+    go : (t : Bool) → inDigits b ≡ t → eqb (classCode (cond t Digit (named b classNames))) 0 ≡ true → inDigits b ≡ true
+    go true e q = e
+    go false e q = clash q (not-is-true _ (named-passes (λ b k. not (eqb (classCode k) 0)) (λ b. refl) b classNames refl))
+
+-- a digit's byte has a value below ten, and is that value's digit
+pub isA-digit : (b : ℕ) → isA Digit b ≡ true → (digitOf b < 10) × (digit (digitOf b) ≡ b)
+unfolding digitOf digit inDigits
+isA-digit b h =
+    let w : inDigits b ≡ true = isA-within b h in
+    let z = and-true (leb 48 b) (leb b 57) w in
+    let l = leb-true 48 b (z .0) in
+    let m = leb-true b 57 (z .1) in
+    rw w (omega arith, omega arith)
+
+-- ---- the other classes in use
+
+-- the class is not that of byte x, or the byte is x
+unfoldable unlike : ℕ → ℕ → Class → Bool
+unlike x b k = not (alike k (classOf x)) || eqb b x
+
+-- byte x is no digit and not foreign, and its class is named for no other byte
+unfoldable pub alone : ℕ → Bool
+unfolding unlike
+alone x = not (alike Digit (classOf x)) && not (alike Foreign (classOf x)) && every (λ n. unlike x (n .0) (n .1)) classNames
+
+alone-parts : (x : ℕ) → alone x ≡ true → (alike Digit (classOf x) ≡ false) × (alike Foreign (classOf x) ≡ false) × (every (λ n. unlike x (n .0) (n .1)) classNames ≡ true)
+unfolding alone
+alone-parts x h =
+    let z = and-three (not (alike Digit (classOf x))) (not (alike Foreign (classOf x))) (every (λ n. unlike x (n .0) (n .1)) classNames) h in
+    (not-is-true _ (z .0), not-is-true _ (z .1), z .2)
+
+pub one-byte : (x : ℕ) → alone x ≡ true → (b : ℕ) → isA (classOf x) b ≡ true → b ≡ x
+unfolding isA unlike classOf
+one-byte x h b e = let z = alone-parts x h in go (inDigits b) e (z .0) (named-passes (unlike x) (λ b. rw (z .1)) b classNames (z .2))
+  where
+    last : (k : Class) → alike k (classOf x) ≡ true → unlike x b k ≡ true → b ≡ x
+    last k p q = eqb-true b x (rw p at q)
+
+    go : (t : Bool) → alike (cond t Digit (named b classNames)) (classOf x) ≡ true → alike Digit (classOf x) ≡ false → unlike x b (named b classNames) ≡ true → b ≡ x
+    go true p d q = clash p d
+    go false p d q = last (named b classNames) p q
+
+pub comma-is : (b : ℕ) → isA Comma b ≡ true → b ≡ code ","
+unfolding alone every alike classOf inDigits named
+comma-is = one-byte (code ",") refl
+
+pub dash-is : (b : ℕ) → isA DashByte b ≡ true → b ≡ code "-"
+unfolding alone every alike classOf inDigits named
+dash-is = one-byte (code "-") refl
+
+pub lineEnd-is : (b : ℕ) → isA LineEnd b ≡ true → b ≡ 10
+unfolding alone every alike classOf inDigits named
+lineEnd-is = one-byte 10 refl
+
+-- ---- letters
+
+-- the letter c is in use: class k is that of this byte alone, which parts no fields and ends no line
+pub record Letter (c : Char) (k : Class) : Type 0 where
+  pub class : classOf (code c) ≡ k
+  pub only : (b : ℕ) → isA k b ≡ true → b ≡ code c
+  pub notForeign : alike Foreign k ≡ false
+  pub noComma : isA Comma (code c) ≡ false
+  pub noEnd : isA LineEnd (code c) ≡ false
+
+letter : (c : Char) → alone (code c) && not (isA Comma (code c)) && not (isA LineEnd (code c)) ≡ true → Letter c (classOf (code c))
+letter c h =
+    let z = and-three (alone (code c)) (not (isA Comma (code c))) (not (isA LineEnd (code c))) h in
+    record { class = refl; only = one-byte (code c) (z .0); notForeign = alone-parts (code c) (z .0) .1; noComma = not-is-true _ (z .1); noEnd = not-is-true _ (z .2) }
+
+pub S-letter : Letter "S" LetterS
+unfolding alone every isA alike classOf inDigits named
+S-letter = letter "S" refl
+
+pub E-letter : Letter "E" LetterE
+unfolding alone every isA alike classOf inDigits named
+E-letter = letter "E" refl
+
+pub C-letter : Letter "C" LetterC
+unfolding alone every isA alike classOf inDigits named
+C-letter = letter "C" refl
+
+pub B-letter : Letter "B" LetterB
+unfolding alone every isA alike classOf inDigits named
+B-letter = letter "B" refl
+
+pub A-letter : Letter "A" LetterA
+unfolding alone every isA alike classOf inDigits named
+A-letter = letter "A" refl
+
+pub G-letter : Letter "G" LetterG
+unfolding alone every isA alike classOf inDigits named
+G-letter = letter "G" refl

@@ -1,0 +1,161 @@
+-- The third demand, proved: the order that an accepted record carries is the order of its runs.
+use mathlib.Core.Path.{_≡_, refl, sym, ap, _∙_}
+use mathlib.Core.Logic.{_⊎_, inl, inr, _≢_, _↔_}
+use Prim.Native.Nat.{ℕ, _+_, _*_, _≤_, _<_}
+use native.Mathlib.Nat.{le-of-eq, le-trans}
+use native.Mathlib.Omega.{arith}
+use mathlib.Core.Bool.{Bool, true, false, cond}
+use mathlib.Core.List.{List, map}
+use lib.ListN.{length, getD, length-map, length-replicate}
+use lib.Dec.{leb}
+use borrow.Author.Tests.{le-ltb, lt-ltb, le-leb}
+use Rattle.spec.specs.Lists.{upTo}
+use Rattle.spec.specs.Answer.{Answer, gives, _>>=_, _>>_, refuse_at_when_}
+use Rattle.spec.specs.Net.{Net, readNet}
+use Rattle.spec.specs.Step.{tokensAt}
+use Rattle.spec.specs.Record.{RunRecord, bench, recordBytes}
+use Rattle.spec.specs.Order.{strictlyBefore, notLater, StrictlyBefore, NotLater}
+use Rattle.spec.specs.Process.{Process, WellFormed}
+use Rattle.spec.specs.Build.{recordFor, build}
+use Rattle.spec.specs.Check.{Accepted, accepts, readRecord, related, tableAt, tableBytes, checked, checkWithin, check}
+use Rattle.spec.specs.Arrange.{levels, lineCount, arrangedLines, arrangementBytes, arranged, arrange}
+use Rattle.spec.specs.Replay.{rowAt, row, firedBy, replayed, replay}
+use Rattle.spec.specs.Runs.{EnabledSequence, KeepsOrder, WithinLimits, markingAt, asSteps, eventLines, logBytes}
+use Rattle.spec.specs.Demand.{Replays, Tables, OrderOfRuns, RunIsRecorded, Demand, IsProcess}
+use Rattle.lists.specs.Laws
+use Rattle.runs.specs.Play.{enabled-steps, row-is, one-end}
+use Rattle.runs.specs.Levels.{arranged-keeps, arranged-count, arranged-least, strict-exact, weak-exact}
+use Rattle.runs.specs.Closure.{strict-is, weak-is}
+use Rattle.runs.specs.Sizes.{lines-few}
+use Rattle.runs.specs.ReadArrangement.{arrangement-read}
+use Rattle.runs.specs.Log.{built-well-formed, built-process, built-keeps, built-reads}
+use Rattle.runs.specs.Accepted.{record-accepted}
+use Rattle.runs.specs.NetLimits.{net-limits}
+use Rattle.runs.specs.Exactness.{exactness, printed, within-fits}
+
+-- ---- of an accepted record
+
+-- entries 0, 1 and 2 of the table
+related-strict : (b c : Bool) → _≡_ {A = ℕ} (cond b 2 (cond c 1 0)) 2 ↔ (b ≡ true)
+related-strict true c = (λ h. refl, λ h. refl)
+related-strict false true = (λ h. absurd (omega arith), λ h. Laws.clash h refl)
+related-strict false false = (λ h. absurd (omega arith), λ h. Laws.clash h refl)
+
+related-weak : (b c : Bool) → (b ≡ true → c ≡ true) → (_≡_ {A = ℕ} (cond b 2 (cond c 1 0)) 1 ⊎ _≡_ {A = ℕ} (cond b 2 (cond c 1 0)) 2) ↔ (c ≡ true)
+related-weak true c h = (λ s. h refl, λ q. inr refl)
+related-weak false true h = (λ s. refl, λ q. inl refl)
+related-weak false false h = (λ s. absurd (none s), λ q. Laws.clash q refl)
+  where
+    none : _≡_ {A = ℕ} 0 1 ⊎ _≡_ {A = ℕ} 0 2 → ⊥
+    none (inl e) = omega arith
+    none (inr e) = omega arith
+
+module _ (net : List ℕ) (N : Net) (hN : readNet net ≡ gives N) (text : List ℕ) (R : RunRecord) (hR : readRecord bench N text ≡ gives R) where
+  I : IsProcess N text R
+  I = exactness .checks net N hN text R .0 hR
+
+  W : WellFormed N R
+  W = I .wellFormed
+
+  P : Process N R
+  P = I .process
+
+  accepted : accepts bench net text ≡ gives (record { net = N; run = R })
+  unfolding accepts _>>=_
+  accepted = rw (hN, hR)
+
+  writes : (room : ℕ) → 768 ≤ room → arrange net text room ≡ gives (record { lines = length (arrangedLines (levels R)); bytes = arrangementBytes (arrangedLines (levels R)) })
+  unfolding arrange _>>=_ _>>_ refuse_at_when_ arranged
+  writes room h = rw (le-ltb room 768 h, accepted, arranged-count R)
+
+  -- ---- replay
+
+  row-length : (lines : List (List ℕ)) (k : ℕ) → length (row N R lines k) ≡ 32
+  unfolding row
+  row-length lines k = go (leb k (length lines))
+    where
+      go : (b : Bool) → length (cond b (map (rowAt N (firedBy R lines k)) (upTo 32)) (lib.ListN.replicate 32 0)) ≡ 32
+      go true = length-map (upTo 32) (rowAt N (firedBy R lines k)) ∙ Laws.length-upTo 32
+      go false = length-replicate {A = ℕ} 32 0
+
+  module _ (lines : List (List ℕ)) (K : KeepsOrder R lines) where
+    plays : (room : ℕ) → 4128 ≤ room → replay net text (arrangementBytes lines) room ≡ gives (replayed N R lines)
+    unfolding replay _>>=_ _>>_ refuse_at_when_
+    plays room h = rw (le-ltb room 4128 h, accepted, arrangement-read N R W (omega (arith, I .events)) lines K)
+
+    row-count : (k p : ℕ) → k ≤ length lines → p < 32 → getD (row N R lines k) p 0 ≡ tokensAt (markingAt N (asSteps R lines) k) p
+    unfolding row
+    row-count k p l h = rw (le-leb k (length lines) l) (Laws.getD-table (rowAt N (firedBy R lines k)) 32 p 0 h ∙ row-is N R W P lines K k p l)
+
+    few : length lines ≤ 128
+    few = le-trans (lines-few (length (R .events)) lines (K .arranged)) (I .events)
+
+    replays : Replays net text N R lines
+    unfolding replayed
+    replays = record {
+      counts = replayed N R lines .counts;
+      plays = plays;
+      rows = λ k p l h. Laws.getD-table-rows 32 129 (row N R lines) (row-length lines) k p 0 (omega (arith, few)) h ∙ row-count k p l h;
+    }
+
+  -- ---- the check's table
+
+  checks : (room : ℕ) → 16384 ≤ room → check net text room ≡ gives (checked R)
+  unfolding check checkWithin _>>=_ _>>_ refuse_at_when_
+  checks room h = rw (le-ltb room 16384 h, accepted)
+
+  entry-is : (e f : ℕ) → e < length (R .events) → f < length (R .events) → getD (checked R .table) (128 * e + f) 0 ≡ related R e f
+  unfolding checked tableBytes tableAt
+  entry-is e f l m =
+      Laws.getD-table-rows 128 128 (λ e. map (tableAt R e) (upTo 128)) (λ k. length-map (upTo 128) (tableAt R k) ∙ Laws.length-upTo 128) e f 0 (omega (arith, I .events)) (omega (arith, I .events))
+      ∙ Laws.getD-table (tableAt R e) 128 f 0 (omega (arith, I .events))
+      ∙ rw (lt-ltb e (length (R .events)) l, lt-ltb f (length (R .events)) m)
+
+  strict-weak : (e f : ℕ) → e ≢ f → strictlyBefore R e f ≡ true → notLater R e f ≡ true
+  strict-weak e f d h = weak-is N R W e f .1 (d, (true, strict-is N R W e f .0 h))
+
+  tables : Tables net text R
+  unfolding related
+  tables = record {
+    checked = checked R;
+    checks = checks;
+    strict = λ e f l m d. (
+      λ h. strict-is N R W e f .0 (related-strict (strictlyBefore R e f) (notLater R e f) .0 (sym (entry-is e f l m) ∙ h)),
+      λ p. entry-is e f l m ∙ related-strict (strictlyBefore R e f) (notLater R e f) .1 (strict-is N R W e f .1 p),
+    );
+    weak = λ e f l m d. (
+      λ h. weak-is N R W e f .0 (related-weak (strictlyBefore R e f) (notLater R e f) (strict-weak e f d) .0 (rw (entry-is e f l m) at h)),
+      λ p. rw (entry-is e f l m) (related-weak (strictlyBefore R e f) (notLater R e f) (strict-weak e f d) .1 (weak-is N R W e f .1 p)),
+    );
+  }
+
+  order-of-runs : OrderOfRuns net text N R
+  order-of-runs = record {
+    written = arrangedLines (levels R);
+    writes = writes;
+    keeps = arranged-keeps N R W P;
+    shortest = arranged-least N R W P;
+    enabled = enabled-steps N R W P;
+    replays = replays;
+    one-end = λ lines others K M. one-end N R W P lines others K M;
+    strict = λ e f l m d. strict-exact N R W P e f l m;
+    weak = weak-exact N R W P;
+    table = tables;
+  }
+
+-- ---- of an enabled step sequence within the limits
+
+module _ (net : List ℕ) (N : Net) (hN : readNet net ≡ gives N) (steps : List (List ℕ)) (E : EnabledSequence N steps) (F : WithinLimits N steps) where
+  runs-recorded : RunIsRecorded net N steps
+  runs-recorded = record {
+    bytes = recordBytes (recordFor N steps);
+    builds = λ room h. exactness .builds net N hN (logBytes steps) (recordBytes (recordFor N steps)) room h .1
+        (record { steps = steps; written = refl; enabled = E; within = F; named = refl });
+    run = recordFor N steps;
+    accepts = record-accepted bench N (printed N (net-limits net N hN)) (recordFor N steps) (built-well-formed N steps E) (within-fits N steps .0 F) (built-process N steps E);
+    among = built-keeps N steps E;
+    reads = built-reads N steps;
+  }
+
+pub demand : Demand
+demand = record { order-of-runs = order-of-runs; runs-recorded = runs-recorded }

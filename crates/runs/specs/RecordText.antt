@@ -1,0 +1,199 @@
+-- A record text that is read is the text of the record that was read: a well-formed one, within the limits, that marks no
+-- condition and event twice.
+use mathlib.Core.Path.{_≡_, refl, sym, ap, _∙_, subst}
+use mathlib.Core.Logic.{inl, inr}
+use Prim.Native.Nat.{ℕ, _<_, zero-le}
+use native.Mathlib.Omega.{arith}
+use mathlib.Core.Bool.{true, false, not}
+use mathlib.Core.List.{List, [], _∷_, _++_, map, append-nil, append-assoc, List·Memᴰ·not-nil}
+use lib.ListN.{length, length-append}
+use lib.Dec.{eqb, ltb}
+use borrow.Author.Tests.{ltb-true, leb-false, eqb-true}
+use Rattle.spec.specs.Lists.{In, any, count, flat}
+use Rattle.spec.specs.Answer.{gives}
+use Rattle.spec.specs.Text.{Line, linesOf, byLines, rowOf, mostDigits}
+use Rattle.spec.specs.Forms.{isOne, isTwo, isThree, valueOf}
+use Rattle.spec.specs.Net.{Net, places}
+use Rattle.spec.specs.Record.{RunRecord, Condition, Mark, isAt, marked, eventLine, conditionLine, markLineOf, markLine, recordBytes}
+use Rattle.spec.specs.Process.{WellFormed, below}
+use Rattle.spec.specs.Check.{isEmpty, withEvent, withCondition, withMark, enterEvent, enterCondition, enterMark, conditionOf, markIn, enterRow, enterLine, emptyRecord}
+use Rattle.spec.specs.declared.Class.the-variants.{LetterE, LetterC, LetterB, LetterA}
+use Rattle.spec.specs.declared.Limits.{Limits}
+use Rattle.spec.specs.declared.MarkKind.the-variants.{Before, After}
+use Rattle.lists.specs.Laws.{clash, true-or-false, and-true, and-three, not-is-false, all-snoc, any-none, count-none, count-append, count-cons, count-false, one-le, flat-map-snoc}
+use Rattle.runs.specs.Bytes.{E-letter, C-letter, B-letter, A-letter}
+use Rattle.runs.specs.LineForms.{one-is, two-is, three-is}
+use Rattle.runs.specs.Answers.{of-gives, not-refused, of-when, of-cond}
+use Rattle.runs.specs.Texts.{lineBytes, ended-line}
+use Rattle.runs.specs.Readers.{text-keeps}
+use Rattle.runs.specs.ReadRecord.{Fits, MarksOnce}
+
+-- the text is that of the record
+pub record IsRecord (lim : Limits) (N : Net) (text : List ℕ) (R : RunRecord) : Type 0 where
+  pub written : text ≡ recordBytes R
+  pub wellFormed : WellFormed N R
+  pub fits : Fits lim R
+  pub once : MarksOnce R
+
+-- ---- the bytes of a record with one line more
+
+event-bytes : (r : RunRecord) (t : ℕ) → r .conditions ≡ [] → r .marks ≡ [] → recordBytes r ++ eventLine t ≡ recordBytes (withEvent t r)
+unfolding recordBytes withEvent flat
+event-bytes r t p q = rw (p, q) (
+    ap (λ (x : List ℕ). x ++ eventLine t) (bare (flat (map eventLine (r .events))))
+    ∙ sym (bare (flat (map eventLine (r .events ++ t ∷ []))) ∙ flat-map-snoc eventLine (r .events) t))
+  where
+    bare : (x : List ℕ) → x ++ [] ++ [] ≡ x
+    bare x = append-nil (x ++ []) ∙ append-nil x
+
+condition-bytes : (r : RunRecord) (c : Condition) → r .marks ≡ [] → recordBytes r ++ conditionLine c ≡ recordBytes (withCondition c r)
+unfolding recordBytes withCondition flat
+condition-bytes r c q = rw q (moved (flat (map eventLine (r .events))) (flat (map conditionLine (r .conditions))) (conditionLine c) (flat-map-snoc conditionLine (r .conditions) c))
+  where
+    moved : (x y z : List ℕ) {w : List ℕ} → w ≡ y ++ z → x ++ y ++ [] ++ z ≡ x ++ w ++ []
+    moved x y z e = ap (λ (v : List ℕ). v ++ z) (append-nil (x ++ y)) ∙ append-assoc x y z ∙ ap (λ (v : List ℕ). x ++ v) (sym e) ∙ sym (append-nil _)
+
+mark-bytes : (r : RunRecord) (m : Mark) → recordBytes r ++ markLine m ≡ recordBytes (withMark m r)
+unfolding recordBytes withMark
+mark-bytes r m =
+    let x = flat (map eventLine (r .events)) ++ flat (map conditionLine (r .conditions)) in
+    append-assoc x (flat (map markLine (r .marks))) (markLine m) ∙ ap (λ (v : List ℕ). x ++ v) (sym (flat-map-snoc markLine (r .marks) m))
+
+-- ---- a line
+
+empty-nil : {A : Type 0} (xs : List A) → isEmpty xs ≡ true → xs ≡ []
+unfolding isEmpty
+empty-nil [] h = refl
+empty-nil (x ∷ xs) h = clash h refl
+
+in-empty : {A X : Type 0} (x : A) (xs : List A) → xs ≡ [] → In x xs → X
+in-empty x xs e m = absurd (List·Memᴰ·not-nil (subst (λ z. In x z) e m))
+
+-- one mark more, at a condition and event that had none
+marks-once : (r : RunRecord) (m : Mark) → MarksOnce r → marked r (m .condition) (m .event) ≡ false → MarksOnce (withMark m r)
+unfolding withMark count
+marks-once r m h q c e =
+    let both = count-append (isAt c e) (r .marks) (m ∷ []) in
+    let new = count-cons (isAt c e) m [] in
+    elim (true-or-false (isAt c e m)) [
+      | inl a ↦ omega (arith, one-le (isAt c e m), count-none (isAt c e) (r .marks) (any-none (isAt c e) (r .marks) (here-none a)))
+      | inr a ↦ omega (arith, count-false a, h c e)
+    ]
+  where
+    here-none : isAt c e m ≡ true → any (isAt c e) (r .marks) ≡ false
+    here-none a = unfold isAt marked in (let z = and-true (eqb (m .condition) c) (eqb (m .event) e) a in rw (← eqb-true (m .condition) c (z .0), ← eqb-true (m .event) e (z .1)) q)
+
+module _ (lim : Limits) (N : Net) (k : ℕ) (r s : RunRecord) (done : List ℕ) (I : IsRecord lim N done r) where
+  abbrev W : WellFormed N r
+  W = I .wellFormed
+
+  event-entered : (t : ℕ) → enterEvent lim N k t r ≡ gives s → IsRecord lim N (done ++ eventLine t) s
+  unfolding enterEvent withEvent
+  event-entered t h =
+      let a = of-when 31 k _ _ h in
+      let b = of-when 32 k _ _ (a .1) in
+      let c = of-when 33 k _ _ (b .1) in
+      let e = and-true (isEmpty (r .conditions)) (isEmpty (r .marks)) (not-is-false _ (a .0)) in
+      let p = empty-nil (r .conditions) (e .0) in
+      let q = empty-nil (r .marks) (e .1) in
+      subst (IsRecord lim N (done ++ eventLine t)) (of-gives (c .1)) (record {
+        written = ap (λ (x : List ℕ). x ++ eventLine t) (I .written) ∙ event-bytes r t p q;
+        wellFormed = record {
+          known = all-snoc (λ t. t < N .transitions) (r .events) t (W .known) (leb-false (N .transitions) t (c .0));
+          placed = W .placed;
+          producers = λ x m. in-empty x (r .conditions) p m;
+          consumers = λ x m. in-empty x (r .conditions) p m;
+          conditions = W .conditions;
+          events = λ x m. in-empty x (r .marks) q m;
+        };
+        fits = record {
+          events = omega (arith, length-append (r .events) (t ∷ []), leb-false (lim .events) (length (r .events)) (b .0));
+          conditions = I .fits .conditions;
+          marks = I .fits .marks;
+        };
+        once = I .once;
+      })
+
+  condition-entered : (c : Condition) → enterCondition lim N k c r ≡ gives s → IsRecord lim N (done ++ conditionLine c) s
+  unfolding enterCondition withCondition
+  condition-entered c h =
+      let a = of-when 31 k _ _ h in
+      let b = of-when 32 k _ _ (a .1) in
+      let d = of-when 33 k _ _ (b .1) in
+      let q = empty-nil (r .marks) (not-is-false _ (a .0)) in
+      let z = and-three (ltb (c .place) (places N)) (below (length (r .events)) (c .producer)) (below (length (r .events)) (c .consumer)) (not-is-false _ (d .0)) in
+      subst (IsRecord lim N (done ++ conditionLine c)) (of-gives (d .1)) (record {
+        written = ap (λ (x : List ℕ). x ++ conditionLine c) (I .written) ∙ condition-bytes r c q;
+        wellFormed = record {
+          known = W .known;
+          placed = all-snoc (λ (c : Condition). c .place < places N) (r .conditions) c (W .placed) (ltb-true (c .place) (places N) (z .0));
+          producers = all-snoc (λ (c : Condition). below (length (r .events)) (c .producer) ≡ true) (r .conditions) c (W .producers) (z .1);
+          consumers = all-snoc (λ (c : Condition). below (length (r .events)) (c .consumer) ≡ true) (r .conditions) c (W .consumers) (z .2);
+          conditions = λ x m. in-empty x (r .marks) q m;
+          events = W .events;
+        };
+        fits = record {
+          events = I .fits .events;
+          conditions = omega (arith, length-append (r .conditions) (c ∷ []), leb-false (lim .conditions) (length (r .conditions)) (b .0));
+          marks = I .fits .marks;
+        };
+        once = I .once;
+      })
+
+  mark-entered : (m : Mark) → enterMark lim k m r ≡ gives s → IsRecord lim N (done ++ markLine m) s
+  unfolding enterMark withMark
+  mark-entered m h =
+      let a = of-when 32 k _ _ h in
+      let b = of-when 33 k _ _ (a .1) in
+      let d = of-when 34 k _ _ (b .1) in
+      let z = and-true (ltb (m .condition) (length (r .conditions))) (ltb (m .event) (length (r .events))) (not-is-false _ (b .0)) in
+      subst (IsRecord lim N (done ++ markLine m)) (of-gives (d .1)) (record {
+        written = ap (λ (x : List ℕ). x ++ markLine m) (I .written) ∙ mark-bytes r m;
+        wellFormed = record {
+          known = W .known;
+          placed = W .placed;
+          producers = W .producers;
+          consumers = W .consumers;
+          conditions = all-snoc (λ (m : Mark). m .condition < length (r .conditions)) (r .marks) m (W .conditions) (ltb-true _ _ (z .0));
+          events = all-snoc (λ (m : Mark). m .event < length (r .events)) (r .marks) m (W .events) (ltb-true _ _ (z .1));
+        };
+        fits = record {
+          events = I .fits .events;
+          conditions = I .fits .conditions;
+          marks = omega (arith, length-append (r .marks) (m ∷ []), leb-false (lim .marks) (length (r .marks)) (a .0));
+        };
+        once = marks-once r m (I .once) (d .0);
+      })
+
+  line-entered : (l : Line) → enterLine lim N k l r ≡ gives s → IsRecord lim N (done ++ lineBytes l) s
+  unfolding enterLine enterRow eventLine conditionLine markLine markLineOf conditionOf markIn
+  line-entered l h =
+      let w = rowOf mostDigits (l .bytes) in
+      let a = of-when 31 k (not (l .ended)) (enterRow lim N k w r) h in
+      let ends = not-is-false (l .ended) (a .0) in
+      of-cond (isOne LetterE w) _ _ (a .1) (λ t q. rw (ended-line "E" _ l ends (one-is E-letter (l .bytes) t)) (event-entered (valueOf (w .first)) q)) λ h.
+      of-cond (isThree LetterC w) _ _ h (λ t q. rw (ended-line "C" _ l ends (three-is C-letter (l .bytes) t)) (condition-entered (conditionOf w) q)) λ h.
+      of-cond (isTwo LetterB w) _ _ h (λ t q. rw (ended-line "B" _ l ends (two-is B-letter (l .bytes) t)) (mark-entered (markIn Before w) q)) λ h.
+      of-cond (isTwo LetterA w) _ _ h (λ t q. rw (ended-line "A" _ l ends (two-is A-letter (l .bytes) t)) (mark-entered (markIn After w) q)) not-refused
+
+-- ---- a text
+
+nothing : (lim : Limits) (N : Net) → IsRecord lim N [] emptyRecord
+unfolding emptyRecord recordBytes flat count
+nothing lim N = record {
+  written = refl;
+  wellFormed = record {
+    known = λ x m. absurd (List·Memᴰ·not-nil m);
+    placed = λ x m. absurd (List·Memᴰ·not-nil m);
+    producers = λ x m. absurd (List·Memᴰ·not-nil m);
+    consumers = λ x m. absurd (List·Memᴰ·not-nil m);
+    conditions = λ x m. absurd (List·Memᴰ·not-nil m);
+    events = λ x m. absurd (List·Memᴰ·not-nil m);
+  };
+  fits = record { events = zero-le; conditions = zero-le; marks = zero-le };
+  once = λ c e. zero-le;
+}
+
+pub record-text : (lim : Limits) (N : Net) (text : List ℕ) (R : RunRecord) → byLines (enterLine lim N) 1 (linesOf text) emptyRecord ≡ gives R → IsRecord lim N text R
+record-text lim N text R h =
+    text-keeps (enterLine lim N) (λ k r done. IsRecord lim N done r) (λ k l r s done h I. line-entered lim N k r s done I l h) 1 text emptyRecord R h (nothing lim N) .1

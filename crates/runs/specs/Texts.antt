@@ -1,0 +1,81 @@
+-- Texts as lines: a line that is written is read back, and a text is the bytes of its lines.
+use mathlib.Core.Path.{_≡_, refl, sym, ap, ap₂, _∙_}
+use mathlib.Core.Logic.{inl, inr}
+use Prim.Native.Nat.{ℕ, _<_}
+use Prim.Native.Char.{Char}
+use mathlib.Core.Bool.{Bool, true, false, _&&_, cond}
+use mathlib.Core.List.{List, [], _∷_, _++_, map, append-assoc, List·Memᴰ·head, List·Memᴰ·tail, List·Memᴰ·not-nil, List·Memᴰ·append-cases}
+use lib.ListN.{length}
+use Rattle.spec.specs.Lists.{flat}
+use Rattle.spec.specs.Text.{named, inDigits, classOf, alike, isA, Line, onFirst, linesOf, fieldBytes, fieldsBytes, line, mostDigits}
+use Rattle.spec.specs.Forms.{isList, numbersOf}
+use Rattle.spec.specs.declared.Class.{Class}
+use Rattle.spec.specs.declared.Class.the-variants.{LineEnd}
+use Rattle.spec.specs.declared.Field.{Field}
+use Rattle.spec.specs.declared.Field.the-variants.{Number}
+use Rattle.lists.specs.Laws.{here, there, and-true}
+use Rattle.runs.specs.Bytes.{lineEnd-is, Letter}
+use Rattle.runs.specs.Fields.{Lacks, AllWritable, field-lacks, body}
+use Rattle.runs.specs.LineForms.{list-is}
+
+-- ---- the lines of a text
+
+abbrev pub ended : List ℕ → Line
+ended bs = record { bytes = bs; ended = true }
+
+line-ends : isA LineEnd 10 ≡ true
+unfolding isA alike classOf named inDigits
+line-ends = refl
+
+first-line : (bs rest : List ℕ) → Lacks LineEnd bs → linesOf (bs ++ 10 ∷ rest) ≡ ended bs ∷ linesOf rest
+unfolding linesOf onFirst
+first-line [] rest w = rw line-ends
+first-line (b ∷ bs) rest w = rw (w b here, first-line bs rest (λ x m. w x (there m)))
+
+fields-lack : (fs : List Field) → AllWritable fs → Lacks LineEnd (fieldsBytes fs)
+unfolding fieldsBytes alike
+fields-lack [] w b m = absurd (List·Memᴰ·not-nil m)
+fields-lack (f ∷ fs) w b (List·Memᴰ·head e) = rw e (unfold isA classOf named inDigits in refl)
+fields-lack (f ∷ fs) w b (List·Memᴰ·tail m) = elim (List·Memᴰ·append-cases (fieldBytes f) m) [
+  | inl i ↦ field-lacks LineEnd refl refl f (w .0) b i
+  | inr i ↦ fields-lack fs (w .1) b i
+]
+
+body-lacks : {c : Char} {k : Class} → Letter c k → (fs : List Field) → AllWritable fs → Lacks LineEnd (body c fs)
+unfolding body
+body-lacks L fs w b (List·Memᴰ·head e) = rw e (L .noEnd)
+body-lacks L fs w b (List·Memᴰ·tail m) = fields-lack fs w b m
+
+pub line-back : {c : Char} {k : Class} → Letter c k → (fs : List Field) → AllWritable fs → (rest : List ℕ) → linesOf (line c fs ++ rest) ≡ ended (body c fs) ∷ linesOf rest
+unfolding line body
+line-back {c} L fs w rest = ap linesOf (append-assoc (body c fs) (10 ∷ []) rest) ∙ first-line (body c fs) rest (body-lacks L fs w)
+
+-- a line's bytes with its end
+unfoldable pub lineBytes : Line → List ℕ
+lineBytes l = l .bytes ++ cond (l .ended) (10 ∷ []) []
+
+lines-grow : (b : ℕ) (ls : List Line) → flat (map lineBytes (onFirst b ls)) ≡ b ∷ flat (map lineBytes ls)
+unfolding onFirst lineBytes flat
+lines-grow b [] = refl
+lines-grow b (l ∷ ls) = refl
+
+pub text-is : (text : List ℕ) → flat (map lineBytes (linesOf text)) ≡ text
+unfolding linesOf
+text-is [] = unfold flat in refl
+text-is (b ∷ bs) = go (isA LineEnd b) refl (text-is bs)
+  where
+    go : (t : Bool) → isA LineEnd b ≡ t → flat (map lineBytes (linesOf bs)) ≡ bs → flat (map lineBytes (cond t (ended [] ∷ linesOf bs) (onFirst b (linesOf bs)))) ≡ b ∷ bs
+    go true e h = unfold flat lineBytes in (ap₂ (λ (x : ℕ) (xs : List ℕ). x ∷ xs) (sym (lineEnd-is b e)) h)
+    go false e h = lines-grow b (linesOf bs) ∙ ap (λ (l : List ℕ). b ∷ l) h
+
+-- a line of a form is what is written for its values
+pub ended-line : (c : Char) (fs : List Field) (l : Line) → l .ended ≡ true → l .bytes ≡ body c fs → lineBytes l ≡ line c fs
+unfolding lineBytes line body
+ended-line c fs l e h = rw (e, h)
+
+pub ended-list : {c : Char} {k : Class} → Letter c k → (l : Line) → (l .ended && isList mostDigits k (l .bytes)) ≡ true
+    → (lineBytes l ≡ line c (map Number (numbersOf mostDigits (l .bytes)))) × (0 < length (numbersOf mostDigits (l .bytes)))
+ended-list {c} {k} L l h =
+    let z = and-true (l .ended) (isList mostDigits k (l .bytes)) h in
+    let y = list-is L (l .bytes) (z .1) in
+    (ended-line c _ l (z .0) (y .0), y .1)
