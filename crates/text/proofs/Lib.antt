@@ -1,0 +1,4 @@
+pub mod Classes
+pub mod Scans
+pub mod ByLines
+pub mod Answers

@@ -1,0 +1,10 @@
+use Rattle.spec.specs.Forms.{isAlone}
+use Rattle.text.proofs.is_alone.Statement.{statement}
+use Rattle.text.proofs.is_alone.Tie as tie
+
+pub is-alone-spec : {M : Type 1} → statement M
+unfolding isAlone
+is-alone-spec = tie.close (tie.spec
+    (λ c κs. tt)
+    (λ c κs. tt)
+    (λ c. cc))

@@ -1,0 +1,11 @@
+use Rattle.spec.specs.Forms.{isOne}
+use Rattle.text.proofs.is_one.Statement.{statement}
+use Rattle.text.proofs.is_one.Tie as tie
+
+pub is-one-spec : {M : Type 1} → statement M
+unfolding isOne
+is-one-spec = tie.close (tie.spec
+    (λ c κs. tt)
+    (λ c κs. tt)
+    (λ c κs. tt)
+    (λ c. cc))
