@@ -1,0 +1,131 @@
+-- Writes one after another, and a write from the start of a buffer.
+use Prim.Native.Nat.{ℕ, zero, suc, _+_, _-_, _/_, _%_, _≤_, _<_}
+use mathlib.Core.Path.{_≡_, refl, sym, ap, ap₂, _∙_}
+use mathlib.Core.Bool.{Bool, true, false, cond}
+use mathlib.Core.List.{List, [], _∷_, _++_, append-assoc, append-nil}
+use native.Mathlib.Numerals.{add-one}
+use native.Mathlib.Nat.{add-zero, le-of-eq}
+use native.Mathlib.Omega.{arith}
+use lib.Dec.{ltb}
+use lib.ListN.{length, set, take, drop, getD, length-set, length-append}
+use lib.Seq.{sets, sets-eq, take-suc}
+use borrow.Author.Tests.{lt-ltb, le-ltb}
+use Rattle.spec.specs.Text.{digit, digits, fieldsBytes, fieldBytes}
+use Rattle.spec.specs.Buffer.{over}
+use Rattle.spec.specs.declared.Field.{Field}
+use Rattle.spec.specs.declared.Field.the-variants.{Number, Dash, Wrong, Absent}
+use Rattle.writing.specs.Written.{putAt, Wrote, lineBytes}
+
+-- ---- writes
+
+pub put-length : (old : List ℕ) (at : ℕ) (bs : List ℕ) → length (putAt old at bs) ≡ length old
+unfolding putAt
+put-length old at [] = refl
+put-length old at (b ∷ bs) = put-length (set old at b) (at + 1) bs ∙ length-set old at b
+
+-- two writes, the second where the first ended, are one
+put-put : (old : List ℕ) (at : ℕ) (xs ys : List ℕ) → putAt (putAt old at xs) (at + length xs) ys ≡ putAt old at (xs ++ ys)
+unfolding putAt
+put-put old at [] ys = rw (add-zero at)
+put-put old at (x ∷ xs) ys =
+    let e : at + suc (length xs) ≡ at + 1 + length xs = omega arith in
+    rw e (put-put (set old at x) (at + 1) xs ys)
+
+as-sets : (old : List ℕ) (at : ℕ) (bs : List ℕ) → putAt old at bs ≡ sets old at bs
+unfolding putAt
+as-sets old at [] = refl
+as-sets old at (b ∷ bs) = rw (add-one at) (as-sets (set old at b) (suc at) bs)
+
+-- a write from the start: what is written, and behind it the old contents
+pub put-over : (old bs : List ℕ) → length bs ≤ length old → putAt old 0 bs ≡ over bs old
+unfolding over
+put-over old bs h = as-sets old 0 bs ∙ sets-eq bs old 0 (omega arith) ∙ let e : 0 + length bs ≡ length bs = omega arith in rw e
+
+pub wrote-length : {old new : List ℕ} {at r : ℕ} {bs : List ℕ} → Wrote old at bs r new → length new ≡ length old
+wrote-length {old} {at} {bs} w = ap length (w .bytes) ∙ put-length old at bs
+
+-- nothing
+pub none : (old : List ℕ) (at : ℕ) → Wrote old at [] at old
+unfolding putAt
+none old at = record { next = sym (add-zero at); bytes = refl }
+
+pub one : (old : List ℕ) (at b : ℕ) → Wrote old at (b ∷ []) (at + 1) (set old at b)
+unfolding putAt
+one old at b = record { next = refl; bytes = refl }
+
+-- a write, and another where it ended
+pub after : {old mid new : List ℕ} {at i r : ℕ} {xs ys : List ℕ} → Wrote old at xs i mid → Wrote mid i ys r new → Wrote old at (xs ++ ys) r new
+after {old} {at} {xs} {ys} a b = record {
+  next = omega (arith, length-append xs ys, a .next, b .next);
+  bytes = b .bytes ∙ ap₂ (λ (m : List ℕ) (k : ℕ). putAt m k ys) (a .bytes) (a .next) ∙ put-put old at xs ys;
+}
+
+-- ---- numbers
+
+pub positive : {n : ℕ} → (n ≡ 0 → ⊥) → 0 < n
+positive h = omega arith
+
+pub digits-low : (most n : ℕ) → 0 < most → n < 10 → digits most n ≡ (48 + n) ∷ []
+unfolding digits digit
+digits-low zero n h l = absurd (omega arith)
+digits-low (suc most) n h l = rw (lt-ltb n 10 l)
+
+pub digits-high : (most n : ℕ) → 0 < most → 10 ≤ n → digits most n ≡ digits (most - 1) (n / 10) ++ (48 + n % 10) ∷ []
+unfolding digits digit
+digits-high zero n h l = absurd (omega arith)
+digits-high (suc most) n h l = let e : suc most - 1 ≡ most = omega arith in rw (le-ltb n 10 l, e)
+
+pub digits-none : (most n : ℕ) → most ≡ 0 → digits most n ≡ []
+unfolding digits
+digits-none most n e = rw e
+
+-- ---- fields
+
+pub number-bytes : {f : Field} {n : ℕ} → f ≡ Number n → fieldBytes f ≡ digits 4 n
+unfolding fieldBytes
+number-bytes e = rw e
+
+pub dash-bytes : {f : Field} → f ≡ Dash → fieldBytes f ≡ 45 ∷ []
+unfolding fieldBytes
+dash-bytes e = rw e
+
+pub wrong-bytes : {f : Field} → f ≡ Wrong → fieldBytes f ≡ []
+unfolding fieldBytes
+wrong-bytes e = rw e
+
+pub absent-bytes : {f : Field} → f ≡ Absent → fieldBytes f ≡ []
+unfolding fieldBytes
+absent-bytes e = rw e
+
+pub fields-append : (xs ys : List Field) → fieldsBytes (xs ++ ys) ≡ fieldsBytes xs ++ fieldsBytes ys
+unfolding fieldsBytes
+fields-append [] ys = refl
+fields-append (x ∷ xs) ys = ap (λ l. 44 ∷ l) (ap (λ l. fieldBytes x ++ l) (fields-append xs ys) ∙ sym (append-assoc (fieldBytes x) (fieldsBytes xs) (fieldsBytes ys)))
+
+pub field-one : (f : Field) → fieldsBytes (f ∷ []) ≡ 44 ∷ fieldBytes f
+unfolding fieldsBytes
+field-one f = ap (λ l. 44 ∷ l) (append-nil (fieldBytes f))
+
+-- one field more
+pub fields-more : (fs : List Field) (i : ℕ) (d : Field) → i < length fs → fieldsBytes (take (i + 1) fs) ≡ fieldsBytes (take i fs) ++ fieldsBytes (getD fs i d ∷ [])
+fields-more fs i d h = rw (add-one i, take-suc fs i d h) (fields-append (take i fs) (getD fs i d ∷ []))
+
+pub fields-none : (fs : List Field) → fieldsBytes (take 0 fs) ≡ []
+unfolding fieldsBytes
+fields-none fs = refl
+
+-- the first fields are no longer than all of them
+pub fields-part : (fs : List Field) (i k : ℕ) (d : Field) → i < k → k ≤ length fs → length (fieldsBytes (take i fs)) + length (fieldsBytes (getD fs i d ∷ [])) ≤ length (fieldsBytes (take k fs))
+fields-part fs i k d h l = go (k - (i + 1)) (omega arith)
+  where
+    go : (j : ℕ) → i + 1 + j ≡ k → length (fieldsBytes (take i fs)) + length (fieldsBytes (getD fs i d ∷ [])) ≤ length (fieldsBytes (take k fs))
+    go j e = rw (← e) (more j (omega arith))
+      where
+        more : (j : ℕ) → i + 1 + j ≤ length fs → length (fieldsBytes (take i fs)) + length (fieldsBytes (getD fs i d ∷ [])) ≤ length (fieldsBytes (take (i + 1 + j) fs))
+        more zero p = rw (add-zero (i + 1)) (le-of-eq (sym (ap length (fields-more fs i d (omega arith)) ∙ length-append (fieldsBytes (take i fs)) (fieldsBytes (getD fs i d ∷ [])))))
+        more (suc j) p =
+            let q : i + 1 + suc j ≡ i + 1 + j + 1 = omega arith in
+            rw (q, fields-more fs (i + 1 + j) d (omega arith), length-append) (omega (arith, more j (omega arith)))
+
+pub line-length : (b : ℕ) (fs : List Field) → length (lineBytes b fs) ≡ length (fieldsBytes fs) + 2
+line-length b fs = omega (arith, length-append (fieldsBytes fs) (10 ∷ []))

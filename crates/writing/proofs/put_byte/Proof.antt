@@ -1,0 +1,11 @@
+use borrow.Author.Needs.{needs}
+use Rattle.writing.proofs.Laws.{one}
+use Rattle.writing.proofs.put_byte.Statement.{statement}
+use Rattle.writing.proofs.put_byte.Tie as tie
+
+pub put-byte-spec : {M : Type 1} → statement M
+put-byte-spec = tie.close (tie.spec
+    (λ c. search needs)
+    (λ c. search needs)
+    (λ c. search needs)
+    (λ c. one _ _ _))

@@ -1,0 +1,31 @@
+use Prim.Native.Nat.{_+_, _-_, _≤_}
+use mathlib.Core.Path.{_≡_, refl, _∙_}
+use native.Mathlib.Omega.{arith}
+use lib.ListN.{length, take}
+use Rattle.spec.specs.Text.{fieldsBytes}
+use Rattle.spec.specs.declared.Field.the-variants.{Number}
+use Rattle.writing.specs.Written.{Wrote}
+use Rattle.writing.proofs.Laws.{none, after, fields-none, fields-more, fields-part, wrote-length}
+use Rattle.writing.proofs.put_fields.Statement.{statement}
+use Rattle.writing.proofs.put_fields.Tie as tie
+
+abbrev Inv-loop : tie.InvT-loop
+Inv-loop out₀ at count fields next₀ i₀ out next i =
+    (i ≤ count) × (count ≤ 4) × (length fields ≡ 4) × (at + length (fieldsBytes (take count fields)) ≤ length out₀) × Wrote out₀ at (fieldsBytes (take i fields)) next out
+
+abbrev μ-loop : tie.MeasureT-loop
+μ-loop out₀ at count fields next₀ i₀ out next i = count - i
+
+pub put-fields-spec : {M : Type 1} → statement M
+put-fields-spec = tie.close (tie.spec Inv-loop μ-loop
+    (λ c. let p = c .before .pre in (omega arith, p .0, p .1, p .2, rw (fields-none _) (none _ _)))
+    (λ c. omega arith)
+    (λ c. omega arith)
+    (λ c κs. let l = c .before .before .before in let a = l .before .before .args in
+    omega (arith, fields-part (a .t3) (l .loop .i) (a .count) (Number 0) (omega arith) (omega arith), l .loop .inv .4 .next, wrote-length (l .loop .inv .4)))
+    (λ c. omega arith)
+    (λ c. omega arith)
+    (λ c. let l = c .before .before .before .before .before .before in let a = l .before .before .args in let v = l .loop .inv in
+    (omega arith, v .1, v .2, v .3, rw (fields-more (a .t3) (l .loop .i) (Number 0) (omega arith)) (after (v .4) (c .before .before .put-field .ensures))))
+    (λ c. wrote-length (c .before .loop .inv .4))
+    (λ c. let e : c .before .loop .i ≡ c .before .before .before .args .count = omega arith in rw e at (c .before .loop .inv .4)))

@@ -1,0 +1,21 @@
+-- What a write leaves behind.
+use mathlib.Core.Path.{_≡_}
+use Prim.Native.Nat.{ℕ, _+_}
+use mathlib.Core.List.{List, [], _∷_, _++_}
+use lib.ListN.{length, set}
+use Rattle.spec.specs.Text.{fieldsBytes}
+use Rattle.spec.specs.declared.Field.{Field}
+
+-- the buffer with the values written from a position on
+unfoldable pub putAt : List ℕ → ℕ → List ℕ → List ℕ
+putAt old at [] = old
+putAt old at (b ∷ bs) = putAt (set old at b) (at + 1) bs
+
+-- the next position, and the buffer with the values in it
+pub record Wrote (old : List ℕ) (at : ℕ) (bs : List ℕ) (r : ℕ) (new : List ℕ) : Type 0 where
+  pub next : r ≡ at + length bs
+  pub bytes : new ≡ putAt old at bs
+
+-- the line with this letter, as its byte, and these fields
+abbrev pub lineBytes : ℕ → List Field → List ℕ
+lineBytes b fs = b ∷ fieldsBytes fs ++ 10 ∷ []
