@@ -1,0 +1,79 @@
+// The refused line: the part of the net text or the second text that a line number names.
+ghost use mathlib.Core.Path.{_≡_};
+ghost use denote.Ref.{ptr};
+ghost use Rattle.spec.specs.Answer.{returned};
+ghost use Rattle.spec.specs.Line.{refusedLine, partOf, chosenText};
+ghost use Rattle.refused.specs.Shown.{Finds, answerOf, span, placeOf};
+use text::line_at;
+
+// From where to where a line goes in its text, without its end.
+pub enum Found {
+    At(usize, usize),
+    Nothing,
+}
+
+// The answer: where the line starts in the chosen text and how long it is, or that there is no such line.
+pub enum LineAnswer {
+    Shown(usize, usize),
+    NoSuchLine(usize),
+}
+
+// The line with a number, from 1; an unended last piece counts as a line.
+fn find_line(text: &[u8], line: usize) -> Found
+    ensures { λ r. ⌜ Finds (now (text .entry)) line r ⌝ }
+{
+    if line == 0 {
+        return Found::Nothing;
+    }
+    let mut k: usize = 1;
+    let mut at: usize = 0;
+    while at < text.len() {
+        let l = line_at(text, at);
+        if k == line {
+            return Found::At(at, l.end);
+        }
+        k += 1;
+        at = l.next;
+    }
+    Found::Nothing
+}
+
+// The same in the chosen text: 0 the net text, 1 the second.
+fn find(net: &[u8], second: &[u8], choice: u8, line: usize) -> Found
+    ensures { λ r. ⌜ Finds (chosenText (now (net .entry)) (now (second .entry)) choice) line r ⌝ }
+{
+    if choice == 0 {
+        return find_line(net, line);
+    }
+    if choice == 1 {
+        return find_line(second, line);
+    }
+    Found::Nothing
+}
+
+// The part itself; where there is no such line it is empty, at the start of the net text.
+pub fn refused_line<'a>(net: &'a [u8], second: &'a [u8], choice: u8, line: usize) -> &'a [u8]
+    ensures bytes { λ r. ⌜ now r ≡ partOf (refusedLine (now (net .entry)) (now (second .entry)) choice line) .bytes ⌝ }
+    ensures place { λ r. ⌜ ptr r ≡ placeOf (net .entry) (second .entry) (partOf (refusedLine (now (net .entry)) (now (second .entry)) choice line)) ⌝ }
+{
+    match find(net, second, choice, line) {
+        Found::At(start, end) => {
+            if choice == 0 {
+                &net[start..end]
+            } else {
+                &second[start..end]
+            }
+        }
+        Found::Nothing => &net[..0],
+    }
+}
+
+// Where the part lies, or refusal 46.
+pub fn refused_line_answer(net: &[u8], second: &[u8], choice: u8, line: usize) -> LineAnswer
+    ensures { λ r. ⌜ answerOf r ≡ returned span (refusedLine (now (net .entry)) (now (second .entry)) choice line) ⌝ }
+{
+    match find(net, second, choice, line) {
+        Found::At(start, end) => LineAnswer::Shown(start, end - start),
+        Found::Nothing => LineAnswer::NoSuchLine(line),
+    }
+}
