@@ -1,0 +1,8 @@
+use native.Mathlib.Omega.{arith}
+use Rattle.steps.proofs.is_list_line.Statement.{statement}
+use Rattle.steps.proofs.is_list_line.Tie as tie
+
+pub is-list-line-spec : {M : Type 1} → statement M
+is-list-line-spec = tie.close (tie.spec
+    (λ c κs. omega arith)
+    (λ c. cc))
