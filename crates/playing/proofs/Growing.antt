@@ -1,0 +1,53 @@
+-- The history after a step, from what was added, taken and made.
+use Prim.Native.Nat.{ℕ, _+_, _≤_, _<_}
+use mathlib.Core.Path.{_≡_, refl, sym, ap, _∙_}
+use mathlib.Core.List.{List, _++_, map}
+use native.Mathlib.Omega.{arith}
+use lib.ListN.{length, getD, List·getD-append, length-map}
+use Rattle.spec.specs.Record.{Condition, noCondition}
+use Rattle.spec.specs.Build.{isFree}
+use Rattle.steps.specs.Holds.{cellAt}
+use Rattle.runs.specs.Flows.{Flow, flows}
+use Rattle.runs.specs.Consume.{taking, made-of}
+use Rattle.playing.specs.Conditions.{conditionIn, conditionsIn, freeAt, Cursors, Sized, Took, Made}
+use Rattle.playing.specs.Holds.{eventsOf, conditionsOf, Added, Whole, Grown}
+use Rattle.playing.specs.declared.History.{History}
+use Rattle.playing.proofs.Coded.{length-conditions, condition-at, free-is}
+
+-- the old conditions are as they were
+module _ {cs : List Condition} {n r : ℕ} {ps gs fs ps′ gs′ fs′ : List ℕ} (M : Made cs n ps gs fs r ps′ gs′ fs′) where
+  kept : (j : ℕ) → j < n → conditionIn ps′ gs′ fs′ j ≡ conditionIn ps gs fs j
+  kept j l =
+      sym (condition-at r ps′ gs′ fs′ j (omega (arith, M .next)))
+      ∙ ap (λ z. getD z j noCondition) (M .conditions)
+      ∙ List·getD-append (conditionsIn n ps gs fs) cs noCondition j (omega (arith, length-conditions n ps gs fs))
+      ∙ condition-at n ps gs fs j l
+
+  kept-free : (p j : ℕ) → j < n → freeAt p ps′ fs′ j ≡ freeAt p ps fs j
+  kept-free p j l = sym (free-is p ps′ gs′ fs′ j) ∙ ap (isFree p) (kept j l) ∙ free-is p ps gs fs j
+
+  cursors-kept : {nx : List ℕ} → Cursors n ps fs nx → Cursors r ps′ fs′ nx
+  cursors-kept C = record {
+    within = λ p. omega (arith, C .within p, M .next);
+    passed = λ p j l. kept-free p j (omega (arith, C .within p)) ∙ C .passed p j l;
+  }
+
+pub grown : {k m r : ℕ} {ts inputs outputs ts′ ks′ fs nx ps′ gs′ fs′ : List ℕ} {h : History} (count : ℕ) → Whole h → h .events + count ≤ 128
+    → h .conditions + length (flows (cellAt outputs) m (h .events) ts) ≤ 512
+    → Added k ts (h .events) (h .transitions) (h .steps) (h .events + count) ts′ ks′
+    → Took (flows (cellAt inputs) m (h .events) ts) (h .conditions) (h .places) (h .consumers) (h .next) fs nx
+    → Made (map made-of (flows (cellAt outputs) m (h .events) ts)) (h .conditions) (h .places) (h .producers) fs r ps′ gs′ fs′
+    → Grown k ts inputs outputs m h (record { events = h .events + count; transitions = ts′; steps = ks′; conditions = r; places = ps′; producers = gs′; consumers = fs′; next = nx })
+grown {k} {m} {r} {ts} {inputs} {outputs} {h = h} count W l f A T M = record {
+  whole = record {
+    events = l;
+    conditions = omega (arith, M .next, length-map (flows (cellAt outputs) m (h .events) ts) made-of);
+    transitions = A .transitions;
+    steps = A .steps;
+    sized = M .sized;
+    wide = T .ready .wide;
+    cursors = cursors-kept M (T .ready .cursors);
+  };
+  events = unfold eventsOf in (A .events);
+  conditions = unfold conditionsOf in (M .conditions ∙ ap (λ z. z ++ map made-of (flows (cellAt outputs) m (h .events) ts)) (T .conditions (h .producers)));
+}

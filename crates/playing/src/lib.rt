@@ -1,0 +1,467 @@
+// The run that a step log plays, held by arrays.
+ghost use mathlib.Core.Path.{_≡_};
+ghost use mathlib.Core.List.{[], _∷_, map};
+ghost use Prim.Native.Nat.{_+_, _*_, _≤_, _<_};
+ghost use lib.ListN.{length, replicate, take};
+ghost use Rattle.runs.specs.Flows.{flow, flows};
+ghost use Rattle.runs.specs.Consume.{made-of};
+ghost use Rattle.steps.specs.Holds.{IsStep, Sums, cellAt};
+ghost use Rattle.spec.specs.Lists.{upTo, sum, sumOf};
+ghost use Rattle.spec.specs.Build.{initialOf};
+ghost use Rattle.lists.specs.Mapped.{Mapped};
+ghost use Rattle.playing.specs.Tally.{plusAt, timesAt, bothOf, AtMost, entryAt, Small, Tallies};
+ghost use Rattle.playing.specs.Holds.{Added, Whole, Grown, Starts};
+ghost use Rattle.playing.specs.Conditions.{tokensOf, FirstFree, Ready, Took, fresh, Sized, Made};
+
+fn wide(x: u8) -> usize
+    ensures { λ r. ⌜ (r ≡ x) × (r ≤ 255) ⌝ }
+{
+    x as usize
+}
+
+fn wider(x: u16) -> usize
+    ensures { λ r. ⌜ r ≡ x ⌝ }
+{
+    x as usize
+}
+
+// The first condition of place p from a number on that no event has taken, or the end.
+fn first_free(
+    p: usize,
+    start: usize,
+    end: usize,
+    places: &[u8; 512],
+    consumers: &[u8; 512],
+) -> usize
+    requires { ⌜ (start ≤ end) × (end ≤ 512) ⌝ }
+    ensures { λ r. ⌜ FirstFree p start end (now (places .entry)) (now (consumers .entry)) r ⌝ }
+{
+    let mut i = start;
+    while i < end {
+        if (wide(places[i]) == p) & (consumers[i] == 128) {
+            return i;
+        }
+        i += 1;
+    }
+    i
+}
+
+// Event e takes the first free condition of place p among the first n.
+fn take_one(
+    e: usize,
+    p: usize,
+    n: usize,
+    places: &[u8; 512],
+    consumers: &mut [u8; 512],
+    next: &mut [u16; 32],
+)
+    requires { ⌜ (e < 128) × (p < 32) × Ready n (now places) (now consumers) (now next) ⌝ }
+    ensures { λ _. ⌜ Took (flow e p ∷ []) n (now (places .entry)) (now (consumers .entry)) (now (next .entry)) (now (consumers .exit)) (now (next .exit)) ⌝ }
+{
+    let i = first_free(p, wider(next[p]), n, places, consumers);
+    if n <= i {
+        return;
+    }
+    consumers[i] = e as u8;
+    next[p] = (i + 1) as u16;
+}
+
+// It takes so many of that place, one after the other.
+fn take_times(
+    e: usize,
+    p: usize,
+    count: usize,
+    n: usize,
+    places: &[u8; 512],
+    consumers: &mut [u8; 512],
+    next: &mut [u16; 32],
+)
+    requires { ⌜ (e < 128) × (p < 32) × Ready n (now places) (now consumers) (now next) ⌝ }
+    ensures { λ _. ⌜ Took (replicate count (flow e p)) n (now (places .entry)) (now (consumers .entry)) (now (next .entry)) (now (consumers .exit)) (now (next .exit)) ⌝ }
+{
+    let mut k: usize = 0;
+    while k < count {
+        take_one(e, p, n, places, consumers, next);
+        k += 1;
+    }
+}
+
+// It takes the inputs of its transition, by place.
+fn take_event(
+    e: usize,
+    t: usize,
+    inputs: &[u8; 1024],
+    m: usize,
+    n: usize,
+    places: &[u8; 512],
+    consumers: &mut [u8; 512],
+    next: &mut [u16; 32],
+)
+    requires { ⌜ (e < 128) × (t < 32) × (m ≤ 32) × Ready n (now places) (now consumers) (now next) ⌝ }
+    ensures { λ _. ⌜ Took (tokensOf (now (inputs .entry)) m e t) n (now (places .entry)) (now (consumers .entry)) (now (next .entry)) (now (consumers .exit)) (now (next .exit)) ⌝ }
+{
+    let mut p: usize = 0;
+    while p < m {
+        take_times(e, p, wide(inputs[32 * t + p]), n, places, consumers, next);
+        p += 1;
+    }
+}
+
+// The events of a step, numbered from e, take from the first n conditions, in their order.
+fn take_step(
+    e: usize,
+    step: &[u8; 128],
+    count: usize,
+    inputs: &[u8; 1024],
+    m: usize,
+    n: usize,
+    places: &[u8; 512],
+    consumers: &mut [u8; 512],
+    next: &mut [u16; 32],
+)
+    requires { ⌜ (e + count ≤ 128) × IsStep (now step) count × (m ≤ 32) × Ready n (now places) (now consumers) (now next) ⌝ }
+    ensures { λ _. ⌜ Took (flows (cellAt (now (inputs .entry))) m e (take count (now (step .entry)))) n (now (places .entry)) (now (consumers .entry)) (now (next .entry)) (now (consumers .exit)) (now (next .exit)) ⌝ }
+{
+    let mut i: usize = 0;
+    while i < count {
+        take_event(e + i, wide(step[i]), inputs, m, n, places, consumers, next);
+        i += 1;
+    }
+}
+
+// So many new conditions of place p, with the code of their producer, are put behind the first n; how many there are then.
+fn make_times(
+    v: u8,
+    p: usize,
+    count: usize,
+    n: usize,
+    places: &mut [u8; 512],
+    producers: &mut [u8; 512],
+    consumers: &mut [u8; 512],
+) -> usize
+    requires { ⌜ (p < 32) × (n + count ≤ 512) × Sized (now places) (now producers) (now consumers) ⌝ }
+    ensures { λ r. ⌜ Made (replicate count (fresh v p)) n (now (places .entry)) (now (producers .entry)) (now (consumers .entry)) r (now (places .exit)) (now (producers .exit)) (now (consumers .exit)) ⌝ }
+{
+    let mut k: usize = 0;
+    while k < count {
+        let i = n + k;
+        places[i] = p as u8;
+        producers[i] = v;
+        consumers[i] = 128;
+        k += 1;
+    }
+    n + count
+}
+
+// Event e makes the outputs of its transition, by place.
+fn make_event(
+    e: usize,
+    t: usize,
+    outputs: &[u8; 1024],
+    m: usize,
+    n: usize,
+    places: &mut [u8; 512],
+    producers: &mut [u8; 512],
+    consumers: &mut [u8; 512],
+) -> usize
+    requires { ⌜ (e < 128) × (t < 32) × (m ≤ 32) × (n + length (tokensOf (now outputs) m e t) ≤ 512) × Sized (now places) (now producers) (now consumers) ⌝ }
+    ensures { λ r. ⌜ Made (map made-of (tokensOf (now (outputs .entry)) m e t)) n (now (places .entry)) (now (producers .entry)) (now (consumers .entry)) r (now (places .exit)) (now (producers .exit)) (now (consumers .exit)) ⌝ }
+{
+    let mut r = n;
+    let mut p: usize = 0;
+    while p < m {
+        r = make_times(
+            e as u8,
+            p,
+            wide(outputs[32 * t + p]),
+            r,
+            places,
+            producers,
+            consumers,
+        );
+        p += 1;
+    }
+    r
+}
+
+// The events of a step, numbered from e, make theirs.
+fn make_step(
+    e: usize,
+    step: &[u8; 128],
+    count: usize,
+    outputs: &[u8; 1024],
+    m: usize,
+    n: usize,
+    places: &mut [u8; 512],
+    producers: &mut [u8; 512],
+    consumers: &mut [u8; 512],
+) -> usize
+    requires { ⌜ (e + count ≤ 128) × IsStep (now step) count × (m ≤ 32) × (n + length (flows (cellAt (now outputs)) m e (take count (now step))) ≤ 512) × Sized (now places) (now producers) (now consumers) ⌝ }
+    ensures { λ r. ⌜ Made (map made-of (flows (cellAt (now (outputs .entry))) m e (take count (now (step .entry))))) n (now (places .entry)) (now (producers .entry)) (now (consumers .entry)) r (now (places .exit)) (now (producers .exit)) (now (consumers .exit)) ⌝ }
+{
+    let mut r = n;
+    let mut i: usize = 0;
+    while i < count {
+        r = make_event(
+            e + i,
+            wide(step[i]),
+            outputs,
+            m,
+            r,
+            places,
+            producers,
+            consumers,
+        );
+        i += 1;
+    }
+    r
+}
+
+// ---- what is counted of a run
+
+fn widest(x: u32) -> usize
+    ensures { λ r. ⌜ (r ≡ x) × (r ≤ 4294967295) ⌝ }
+{
+    x as usize
+}
+
+// Two arrays of counts, added in the first m places.
+fn plus(xs: [u32; 32], ys: &[u32; 32], m: usize) -> [u32; 32]
+    requires { ⌜ (m ≤ 32) × (length xs ≡ 32) × AtMost 1000000 m xs × AtMost 1000000 m (now ys) ⌝ }
+    ensures { λ r. ⌜ Mapped xs m (plusAt xs (now (ys .entry))) r ⌝ }
+{
+    let mut r = xs;
+    let mut p: usize = 0;
+    while p < m {
+        r[p] += ys[p];
+        p += 1;
+    }
+    r
+}
+
+// The products of two arrays of counts in the first m places, added.
+pub fn products(xs: &[u32; 32], ys: &[u32; 32], m: usize) -> usize
+    requires { ⌜ (m ≤ 32) × AtMost 1000000 m (now xs) × AtMost 1000000 m (now ys) ⌝ }
+    ensures { λ r. ⌜ r ≡ sumOf (timesAt (now (xs .entry)) (now (ys .entry))) (upTo m) ⌝ }
+{
+    let mut r: usize = 0;
+    let mut p: usize = 0;
+    while p < m {
+        r += widest(xs[p]) * widest(ys[p]);
+        p += 1;
+    }
+    r
+}
+
+// How often transition t makes a token in a place that inhibits it.
+fn own_of(inhibitors: &[u8; 1024], outputs: &[u8; 1024], t: usize, m: usize) -> usize
+    requires { ⌜ (t < 32) × (m ≤ 32) ⌝ }
+    ensures { λ r. ⌜ (r ≡ bothOf (now (inhibitors .entry)) (now (outputs .entry)) m t) × (r ≤ 65025 * m) ⌝ }
+{
+    let mut r: usize = 0;
+    let mut p: usize = 0;
+    while p < m {
+        r += wide(inhibitors[32 * t + p]) * wide(outputs[32 * t + p]);
+        p += 1;
+    }
+    r
+}
+
+// How often the events of a step do.
+fn own_all(
+    inhibitors: &[u8; 1024],
+    outputs: &[u8; 1024],
+    step: &[u8; 128],
+    count: usize,
+    m: usize,
+) -> usize
+    requires { ⌜ IsStep (now step) count × (m ≤ 32) ⌝ }
+    ensures { λ r. ⌜ (r ≡ sumOf (bothOf (now (inhibitors .entry)) (now (outputs .entry)) m) (take count (now (step .entry)))) × (r ≤ 2080800 * count) ⌝ }
+{
+    let mut r: usize = 0;
+    let mut i: usize = 0;
+    while i < count {
+        r += own_of(inhibitors, outputs, wide(step[i]), m);
+        i += 1;
+    }
+    r
+}
+
+// An array of counts added up for the first m places.
+pub fn total(xs: &[u32; 32], m: usize) -> usize
+    requires { ⌜ m ≤ 32 ⌝ }
+    ensures { λ r. ⌜ (r ≡ sumOf (entryAt (now (xs .entry))) (upTo m)) × (r ≤ 4294967295 * m) ⌝ }
+{
+    let mut r: usize = 0;
+    let mut p: usize = 0;
+    while p < m {
+        r += widest(xs[p]);
+        p += 1;
+    }
+    r
+}
+
+// What is counted of a run: of each place its conditions and the events that it inhibits, and how often an event made a
+// condition in a place that inhibits it.
+pub struct Tally {
+    pub held: [u32; 32],
+    pub watched: [u32; 32],
+    pub own: usize,
+}
+
+// The tally after a step, of which it is known what its events make in each place, and how many of them it inhibits.
+pub fn tally_step(
+    t: Tally,
+    made: &[u32; 32],
+    guards: &[u32; 32],
+    step: &[u8; 128],
+    count: usize,
+    inhibitors: &[u8; 1024],
+    outputs: &[u8; 1024],
+    m: usize,
+) -> Tally
+    requires { ⌜ Small m t × IsStep (now step) count × Sums (cellAt (now outputs)) (take count (now step)) (now made) × Sums (cellAt (now inhibitors)) (take count (now step)) (now guards) ⌝ }
+    ensures { λ r. ⌜ Tallies (now (inhibitors .entry)) (now (outputs .entry)) m (take count (now (step .entry))) t r ⌝ }
+{
+    let held = t.held;
+    let watched = t.watched;
+    let own = own_all(inhibitors, outputs, step, count, m);
+    Tally {
+        held: plus(held, made, m),
+        watched: plus(watched, guards, m),
+        own: t.own + own,
+    }
+}
+
+// ---- the history of a run
+
+// Its events, with their transitions and their steps, and its conditions, with their places, producers and consumers, where
+// 128 stands for no event. Of each place, no condition with a number below `next` is free.
+pub struct History {
+    pub events: usize,
+    pub transitions: [u8; 128],
+    pub steps: [u8; 128],
+    pub conditions: usize,
+    pub places: [u8; 512],
+    pub producers: [u8; 512],
+    pub consumers: [u8; 512],
+    pub next: [u16; 32],
+}
+
+// The events of step k are put behind the first n.
+fn add_events(
+    k: usize,
+    step: &[u8; 128],
+    count: usize,
+    n: usize,
+    transitions: &mut [u8; 128],
+    steps: &mut [u8; 128],
+)
+    requires { ⌜ (k < 256) × (n + count ≤ 128) × (length (now step) ≡ 128) × (length (now transitions) ≡ 128) × (length (now steps) ≡ 128) ⌝ }
+    ensures { λ _. ⌜ Added k (take count (now (step .entry))) n (now (transitions .entry)) (now (steps .entry)) (n + count) (now (transitions .exit)) (now (steps .exit)) ⌝ }
+{
+    let mut i: usize = 0;
+    while i < count {
+        let at = n + i;
+        transitions[at] = step[i];
+        steps[at] = k as u8;
+        i += 1;
+    }
+}
+
+// The history after step k.
+pub fn grow(
+    k: usize,
+    step: &[u8; 128],
+    count: usize,
+    inputs: &[u8; 1024],
+    outputs: &[u8; 1024],
+    m: usize,
+    h: History,
+) -> History
+    requires { ⌜ (k < 256) × (m ≤ 32) × IsStep (now step) count × (h .events + count ≤ 128) × (h .conditions + length (flows (cellAt (now outputs)) m (h .events) (take count (now step))) ≤ 512) × Whole h ⌝ }
+    ensures { λ r. ⌜ Grown k (take count (now (step .entry))) (now (inputs .entry)) (now (outputs .entry)) m h r ⌝ }
+{
+    let e = h.events;
+    let n = h.conditions;
+    let mut transitions = h.transitions;
+    let mut steps = h.steps;
+    let mut places = h.places;
+    let mut producers = h.producers;
+    let mut consumers = h.consumers;
+    let mut next = h.next;
+    add_events(k, step, count, e, &mut transitions, &mut steps);
+    take_step(
+        e,
+        step,
+        count,
+        inputs,
+        m,
+        n,
+        &places,
+        &mut consumers,
+        &mut next,
+    );
+    let conditions = make_step(
+        e,
+        step,
+        count,
+        outputs,
+        m,
+        n,
+        &mut places,
+        &mut producers,
+        &mut consumers,
+    );
+    History {
+        events: e + count,
+        transitions,
+        steps,
+        conditions,
+        places,
+        producers,
+        consumers,
+        next,
+    }
+}
+
+// The conditions of the initial marking, by place; how many there are.
+fn initial(
+    tokens: &[u16; 32],
+    m: usize,
+    places: &mut [u8; 512],
+    producers: &mut [u8; 512],
+    consumers: &mut [u8; 512],
+) -> usize
+    requires { ⌜ (m ≤ 32) × (length (now tokens) ≡ 32) × (sum (take m (now tokens)) ≤ 512) × Sized (now places) (now producers) (now consumers) ⌝ }
+    ensures { λ r. ⌜ Made (initialOf 0 (take m (now (tokens .entry)))) 0 (now (places .entry)) (now (producers .entry)) (now (consumers .entry)) r (now (places .exit)) (now (producers .exit)) (now (consumers .exit)) ⌝ }
+{
+    let mut r: usize = 0;
+    let mut p: usize = 0;
+    while p < m {
+        r = make_times(128, p, wider(tokens[p]), r, places, producers, consumers);
+        p += 1;
+    }
+    r
+}
+
+// The history before the first step.
+pub fn start(tokens: &[u16; 32], m: usize) -> History
+    requires { ⌜ (m ≤ 32) × (length (now tokens) ≡ 32) × (sum (take m (now tokens)) ≤ 512) ⌝ }
+    ensures { λ r. ⌜ Starts (take m (now (tokens .entry))) r ⌝ }
+{
+    let mut places = [0u8; 512];
+    let mut producers = [0u8; 512];
+    let mut consumers = [0u8; 512];
+    let conditions = initial(tokens, m, &mut places, &mut producers, &mut consumers);
+    History {
+        events: 0,
+        transitions: [0u8; 128],
+        steps: [0u8; 128],
+        conditions,
+        places,
+        producers,
+        consumers,
+        next: [0u16; 32],
+    }
+}
