@@ -1,0 +1,100 @@
+-- Lines written one after the other.
+use Prim.Native.Nat.{ℕ, zero, suc, _+_, _-_, _*_, _≤_, _<_}
+use mathlib.Core.Path.{_≡_, refl, sym, ap, _∙_}
+use mathlib.Core.Bool.{Bool, true, false, not, _&&_}
+use mathlib.Core.List.{List, [], _∷_, _++_, map, map-append, append-nil}
+use native.Mathlib.Nat.{le-trans, le-of-eq}
+use native.Mathlib.Numerals.{add-one}
+use native.Mathlib.Omega.{arith}
+use lib.Dec.{eqb, ltb}
+use lib.ListN.{length, getD, length-append}
+use Rattle.spec.specs.Lists.{from, upTo, flat}
+use Rattle.lists.specs.Laws
+use Rattle.spec.specs.Text.{line}
+use Rattle.spec.specs.Record.{eventField, conditionLine, markLineOf}
+use Rattle.spec.specs.declared.Field.{Field}
+use Rattle.spec.specs.declared.Field.the-variants.{Number}
+use Rattle.steps.specs.Holds.{cellAt}
+use Rattle.playing.specs.Conditions.{decoded}
+use Rattle.writing.specs.Written.{Wrote, lineBytes}
+use Rattle.writing.proofs.Laws.{none, after, wrote-length}
+use Rattle.building.specs.Bytes.{joinedTo, codedLine, kindIf, dueAt, earlierAt, markBytes, eventBytes, conditionBytes, marksBytes, historyBytes}
+use Rattle.playing.specs.declared.History.{History}
+
+module _ (f : ℕ → List ℕ) where
+  joined-none : joinedTo f 0 ≡ []
+  unfolding joinedTo upTo from flat
+  joined-none = refl
+
+  joined-next : (n : ℕ) → joinedTo f (n + 1) ≡ joinedTo f n ++ f n
+  unfolding joinedTo flat
+  joined-next n =
+      ap (λ xs. flat (map f xs)) (ap upTo (add-one n) ∙ Laws.upTo-snoc n)
+      ∙ ap flat (map-append f (upTo n) (n ∷ []))
+      ∙ Laws.flat-append (map f (upTo n)) (f n ∷ [])
+      ∙ ap (λ xs. flat (map f (upTo n)) ++ xs) (append-nil (f n))
+
+  joined-more : (n d : ℕ) → length (joinedTo f n) ≤ length (joinedTo f (n + d))
+  joined-more n zero = le-of-eq (ap (λ (z : ℕ). length (joinedTo f z)) (omega arith))
+  joined-more n (suc d) =
+      let q : n + 1 + d ≡ n + suc d = omega arith in
+      le-trans (omega (arith, ap length (joined-next n), length-append (joinedTo f n) (f n))) (rw q at (joined-more (n + 1) d))
+
+  -- a line before the last is within what is written
+  joined-fits : (i n : ℕ) → i < n → length (joinedTo f i) + length (f i) ≤ length (joinedTo f n)
+  joined-fits i n l =
+      let d : n ≡ i + 1 + (n - (i + 1)) = omega arith in
+      rw d (le-trans (omega (arith, ap length (joined-next i), length-append (joinedTo f i) (f i))) (joined-more (i + 1) (n - (i + 1))))
+
+  pub wrote-none : (old : List ℕ) (at : ℕ) → Wrote old at (joinedTo f 0) at old
+  wrote-none old at = rw joined-none (none old at)
+
+  pub wrote-next : {old mid new : List ℕ} {at r s : ℕ} (i : ℕ) → Wrote old at (joinedTo f i) r mid → Wrote mid r (f i) s new → Wrote old at (joinedTo f (i + 1)) s new
+  wrote-next i a b = rw (joined-next i) (after a b)
+
+  -- there is room for the next one
+  pub wrote-room : {old mid : List ℕ} {at r : ℕ} (i n : ℕ) → Wrote old at (joinedTo f i) r mid → i < n → at + length (joinedTo f n) ≤ length old → r + length (f i) ≤ length mid
+  wrote-room i n a l h = omega (arith, a .next, wrote-length a, joined-fits i n l)
+
+  pub wrote-all : {old new : List ℕ} {at r i n : ℕ} → i ≡ n → Wrote old at (joinedTo f i) r new → Wrote old at (joinedTo f n) r new
+  wrote-all e a = rw (← e) a
+
+pub wrote-as : {old new xs ys : List ℕ} {at r : ℕ} → Wrote old at xs r new → xs ≡ ys → Wrote old at ys r new
+wrote-as a e = rw (← e) a
+
+-- ---- the lines of conditions and marks
+
+pub coded-fields : (p g f : ℕ) {a b : Field} → a ≡ eventField (decoded g) → b ≡ eventField (decoded f) → lineBytes 67 (Number p ∷ a ∷ b ∷ []) ≡ codedLine p g f
+unfolding codedLine conditionLine line
+coded-fields p g f e h = rw (e, h)
+
+pub mark-before : {after : Bool} (c e : ℕ) → after ≡ false → lineBytes 66 (Number c ∷ Number e ∷ []) ≡ markLineOf (kindIf after) c e
+unfolding markLineOf line
+mark-before c e h = rw h
+
+pub mark-after : {after : Bool} (c e : ℕ) → after ≡ true → lineBytes 65 (Number c ∷ Number e ∷ []) ≡ markLineOf (kindIf after) c e
+unfolding markLineOf line
+mark-after c e h = rw h
+
+module _ (hs ks ps gs fs : List ℕ) (e t c : ℕ) where
+  pub mark-due : {a : Bool} → (ltb 0 (getD hs (32 * t + getD ps c 0) 0) && not (eqb (getD gs c 0) e)) ≡ true → a ≡ earlierAt ks e (getD fs c 0)
+      → markLineOf (kindIf a) c e ≡ markBytes hs ks ps gs fs e t c
+  unfolding markBytes dueAt cellAt
+  mark-due d h = rw (d, h)
+
+  pub mark-none : (ltb 0 (getD hs (32 * t + getD ps c 0) 0) && not (eqb (getD gs c 0) e)) ≡ false → markBytes hs ks ps gs fs e t c ≡ []
+  unfolding markBytes dueAt cellAt
+  mark-none d = rw d
+
+-- ---- the record
+
+pub history-length : (hs : List ℕ) (h : History) → length (historyBytes hs h)
+    ≡ length (joinedTo (eventBytes (h .transitions)) (h .events))
+    + length (joinedTo (conditionBytes (h .places) (h .producers) (h .consumers)) (h .conditions))
+    + length (joinedTo (marksBytes hs (h .transitions) (h .steps) (h .places) (h .producers) (h .consumers) (h .conditions)) (h .events))
+unfolding historyBytes
+history-length hs h =
+    let es = joinedTo (eventBytes (h .transitions)) (h .events) in
+    let cs = joinedTo (conditionBytes (h .places) (h .producers) (h .consumers)) (h .conditions) in
+    let ms = joinedTo (marksBytes hs (h .transitions) (h .steps) (h .places) (h .producers) (h .consumers) (h .conditions)) (h .events) in
+    omega (arith, length-append (es ++ cs) ms, length-append es cs)

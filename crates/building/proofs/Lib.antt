@@ -1,0 +1,8 @@
+pub mod Reaching
+pub mod Judging
+pub mod Lines
+pub mod Running
+pub mod Beginning
+pub mod Joining
+pub mod Recorded
+pub mod Operation

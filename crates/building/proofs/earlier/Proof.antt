@@ -1,0 +1,14 @@
+use mathlib.Core.Path.{_≡_, refl}
+use native.Mathlib.Omega.{arith}
+use borrow.Author.Tests.{eq-eqb, ne-eqb}
+use Rattle.building.specs.Bytes.{earlierAt}
+use Rattle.building.proofs.earlier.Statement.{statement}
+use Rattle.building.proofs.earlier.Tie as tie
+
+pub earlier-spec : {M : Type 1} → statement M
+unfolding earlierAt
+earlier-spec = tie.close (tie.spec
+    (λ c. rw (eq-eqb _ _ (c .if1 .taken)))
+    (λ c. omega arith)
+    (λ c. omega arith)
+    (λ c. rw (ne-eqb _ _ (c .before .before .if1 .left))))
