@@ -1,0 +1,3 @@
+pub mod Stores
+pub mod Steps
+pub mod Reading

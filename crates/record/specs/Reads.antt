@@ -1,0 +1,86 @@
+-- What the functions of the reader promise.
+use Prim.Native.Nat.{ℕ, _≤_}
+use mathlib.Core.Path.{_≡_}
+use mathlib.Core.Bool.{Bool, true, false}
+use mathlib.Core.List.{List}
+use lib.ListN.{length, getD}
+use Rattle.spec.specs.Answer.{Answer, gives, refuses}
+use Rattle.spec.specs.Text.{Line, linesOf, byLines}
+use Rattle.spec.specs.Net.{Net, places}
+use Rattle.spec.specs.Record.{RunRecord, Condition, Mark}
+use Rattle.spec.specs.Check.{eventOf, enterLine, emptyRecord}
+use Rattle.spec.specs.declared.Field.{Field}
+use Rattle.spec.specs.declared.MarkKind.{MarkKind}
+use Rattle.spec.specs.declared.Limits.{Limits}
+use Rattle.text.specs.Agree.{Agrees}
+use Rattle.record.specs.Holds.{HoldsRecord}
+use Rattle.record.specs.declared.Counts.{Counts}
+use Rattle.record.specs.declared.RecordRead.{RecordRead}
+use Rattle.record.specs.declared.RecordAnswer.{RecordAnswer}
+use Rattle.record.specs.declared.RecordAnswer.the-variants.{Read, Malformed, LimitPassed, Undeclared, MarkedAlready}
+
+-- the paper's number and spot of an answer
+abbrev pub answerOf : RecordAnswer → Answer (Unit {0})
+answerOf Read = gives tt
+answerOf (Malformed k) = refuses 31 k
+answerOf (LimitPassed k) = refuses 32 k
+answerOf (Undeclared k) = refuses 33 k
+answerOf (MarkedAlready k) = refuses 34 k
+
+-- the reading goes on
+abbrev pub goesOf : RecordAnswer → Bool
+goesOf Read = true
+goesOf (Malformed k) = false
+goesOf (LimitPassed k) = false
+goesOf (Undeclared k) = false
+goesOf (MarkedAlready k) = false
+
+-- nothing is returned of a record beside its counts
+abbrev pub noValues : RunRecord → Unit {0}
+noValues R = tt
+
+-- the bytes hold a record with these counts
+abbrev pub Holds : Counts → List ℕ → RunRecord → Type 0
+Holds s b R = HoldsRecord (s .events) (s .conditions) (s .marks) b R
+
+-- limits, places and transitions whose numbers the bytes have room for
+pub record Room (lim : Limits) (ps ts : ℕ) : Type 0 where
+  pub events : lim .events ≤ 128
+  pub conditions : lim .conditions ≤ 512
+  pub marks : lim .marks ≤ 4096
+  pub places : ps ≤ 32
+  pub transitions : ts ≤ 32
+
+-- bytes that hold nothing yet
+pub record Blank (b : List ℕ) : Type 0 where
+  pub long : 67200 ≤ length b
+  pub zero : (i : ℕ) → getD b i 0 ≡ 0
+
+-- what the code relies on while it reads
+pub record Fits (s : Counts) (b : List ℕ) : Type 0 where
+  pub events : s .events ≤ 128
+  pub conditions : s .conditions ≤ 512
+  pub long : 67200 ≤ length b
+
+-- the net has so many places and transitions
+pub record Declares (ps ts : ℕ) (N : Net) : Type 0 where
+  pub places : places N ≡ ps
+  pub transitions : N .transitions ≡ ts
+
+-- what a step of the definitions answers, of every record that the bytes hold
+abbrev pub Enters : Counts → List ℕ → (RunRecord → Answer RunRecord) → RecordRead → List ℕ → Type 0
+Enters s b f r b′ = (R : RunRecord) → Holds s b R → Agrees noValues (answerOf (r .answer)) (Holds (r .counts) b′) (f R)
+
+-- the condition and the mark that a line names
+abbrev pub conditionIn : ℕ → Field → Field → Condition
+conditionIn p x y = record { place = p; producer = eventOf x; consumer = eventOf y }
+
+abbrev pub markOf : MarkKind → ℕ → ℕ → Mark
+markOf x c e = record { kind = x; condition = c; event = e }
+
+abbrev pub lineOf : List ℕ → Bool → Line
+lineOf l e = record { bytes = l; ended = e }
+
+-- the answer is the paper's, and where it is a record the bytes hold it
+abbrev pub ReadsRecord : Limits → ℕ → ℕ → List ℕ → RecordRead → List ℕ → Type 0
+ReadsRecord lim ps ts text r b = (N : Net) → Declares ps ts N → Agrees noValues (answerOf (r .answer)) (Holds (r .counts) b) (byLines (enterLine lim N) 1 (linesOf text) emptyRecord)
