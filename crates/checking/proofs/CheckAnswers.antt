@@ -1,0 +1,83 @@
+-- The check's answers, and what it leaves in the buffer.
+use mathlib.Core.Path.{_≡_, refl, sym, ap, ap₂, _∙_, subst}
+use Prim.Native.Nat.{ℕ, _≤_, _<_}
+use native.Mathlib.Omega.{arith}
+use mathlib.Core.List.{List}
+use lib.ListN.{length}
+use borrow.Author.Tests.{lt-ltb, le-ltb}
+use Rattle.spec.specs.Answer.{Answer, gives, refuses, _>>=_, _>>_, refuse_at_when_, returned}
+use Rattle.spec.specs.Net.{Net as NetD, readNet}
+use Rattle.spec.specs.Record.{RunRecord}
+use Rattle.spec.specs.Process.{Process, WellFormed}
+use Rattle.spec.specs.Check.{readRecord, accepts, Accepted as AcceptedD, checked, checkWithin, tableBytes, independentPairs as pairsD}
+use Rattle.spec.specs.Buffer.{over, leaves, checkLeaves}
+use Rattle.spec.specs.declared.Limits.{Limits}
+use Rattle.lists.specs.Mapped.{Mapped}
+use Rattle.order.specs.Table.{cellAt}
+use Rattle.runs.specs.Answers.{of-gives, not-refused, of-bind}
+use Rattle.runs.specs.Accepted.{accepted-record}
+use Rattle.text.specs.Agree.{Agrees, giving, refusing}
+use Rattle.closure.specs.Pairs.{independentPairs}
+use Rattle.checking.specs.Accepting.{refusedBy, verdictOf, nothing, HoldsAccepted, Accepts}
+use Rattle.checking.specs.Checking.{byteIn, checkCounts, Checks}
+use Rattle.checking.specs.declared.Refusal.{Refusal}
+use Rattle.checking.specs.declared.Verdict.{Verdict}
+use Rattle.checking.specs.declared.Verdict.the-variants.{Given, Refused}
+use Rattle.checking.specs.declared.Accepted.{Accepted}
+use Rattle.checking.specs.declared.CheckAnswer.the-variants.{Checked, ShortBuffer, Refused as CheckRefused}
+use Rattle.checking.proofs.CheckTable.{table-written, pairs-counted}
+
+-- what is accepted is a well-formed record that is a process
+pub accepted-process : (lim : Limits) (net text : List ℕ) (a : AcceptedD) → accepts lim net text ≡ gives a → WellFormed (a .net) (a .run) × Process (a .net) (a .run)
+unfolding accepts
+accepted-process lim net text a h =
+    let x = of-bind (readNet net) _ h in
+    let y = of-bind (readRecord lim (x .0) text) _ (x .2) in
+    let z = accepted-record lim (x .0) text (y .0) (y .1) in
+    subst (λ (a : AcceptedD). WellFormed (a .net) (a .run) × Process (a .net) (a .run)) (of-gives (y .2)) (z .0 .wellFormed, z .1)
+
+module _ (lim : Limits) (net text : List ℕ) where
+  pub few-events : (a : Accepted) (t : List ℕ) → a .verdict ≡ Given → Accepts lim net text a t → a .events ≤ 128
+  few-events a t q (giving b e y k) = k .bytes .few
+  few-events a t q (refusing n p e y) = not-refused (sym y ∙ ap verdictOf q)
+
+  -- ---- 30
+
+  short : (room : ℕ) → room < 16384 → checkWithin lim net text room ≡ refuses 30 0
+  unfolding checkWithin refuse_at_when_ _>>_
+  short room h = rw (lt-ltb room 16384 h)
+
+  pub short-checks : (out : List ℕ) → length out < 16384 → Checks (checkWithin lim net text (length out)) out ShortBuffer out
+  unfolding returned checkLeaves leaves
+  short-checks out h = rw (short (length out) h) (record { answer = refl; buffer = refl })
+
+  module _ (out : List ℕ) (h : 16384 ≤ length out) where
+    -- ---- a refusal of the net or the record
+
+    refused : {n p : ℕ} → accepts lim net text ≡ refuses n p → checkWithin lim net text (length out) ≡ refuses n p
+    unfolding checkWithin refuse_at_when_ _>>_ _>>=_
+    refused e = rw (le-ltb (length out) 16384 h, e)
+
+    pub refused-checks : (a : Accepted) (t : List ℕ) (x : Refusal) → a .verdict ≡ Refused x → Accepts lim net text a t → Checks (checkWithin lim net text (length out)) out (CheckRefused x) out
+    unfolding returned checkLeaves leaves
+    refused-checks a t x q (giving b e y k) = not-refused (sym (ap verdictOf q) ∙ y)
+    refused-checks a t x q (refusing n p e y) =
+        let z : refusedBy {A = Unit {0}} x ≡ refuses n p = sym (ap verdictOf q) ∙ y in
+        rw (refused e) (record { answer = ap (returned (λ (u : Unit {0}). (0, 0, 0))) z; buffer = refl })
+
+    -- ---- an accepted record
+
+    given : (b : AcceptedD) → accepts lim net text ≡ gives b → checkWithin lim net text (length out) ≡ gives (checked (b .run))
+    unfolding checkWithin refuse_at_when_ _>>_ _>>=_
+    given b e = rw (le-ltb (length out) 16384 h, e)
+
+    pub given-checks : (a : Accepted) (t new : List ℕ) (k : ℕ) → a .verdict ≡ Given → Accepts lim net text a t → k ≡ independentPairs (a .events) (cellAt 128 t)
+        → Mapped out 16384 (byteIn t (a .events)) new → Checks (checkWithin lim net text (length out)) out (Checked (a .events) (a .conditions) k) new
+    unfolding returned checkLeaves leaves checked
+    given-checks a t new k q (refusing n p e y) c m = not-refused (sym y ∙ ap verdictOf q)
+    given-checks a t new k q (giving b e y z) c m =
+        let w = accepted-process lim net text b e in
+        rw (given b e) (record {
+          answer = rw (z .bytes .events, z .bytes .conditions, c, pairs-counted (b .net) (b .run) t (a .events) (w .0) (z .bytes .order) (z .bytes .events)) refl;
+          buffer = table-written (b .net) (b .run) t (a .events) (w .0) (z .bytes .order) (z .bytes .events) (w .1) out new h m;
+        })

@@ -1,0 +1,11 @@
+pub mod Tallies
+pub mod Codes
+pub mod Rules
+pub mod MarkBytes
+pub mod Raising
+pub mod RecordPairs
+pub mod RecordOrder
+pub mod Judging
+pub mod Accepting
+pub mod CheckTable
+pub mod CheckAnswers

@@ -1,0 +1,5 @@
+pub mod Held
+pub mod Tests
+pub mod Relation
+pub mod Accepting
+pub mod Checking
