@@ -1,0 +1,63 @@
+-- Lists in which no number stands twice, and how long they are.
+use Prim.Native.Nat.{ℕ, _+_, _≤_, _<_}
+use mathlib.Core.Path.{_≡_, refl, sym, ap, _∙_}
+use mathlib.Core.Logic.{inl, inr}
+use mathlib.Core.Bool.{Bool, true, false, _||_, or-false as bool-or-false, or-assoc}
+use mathlib.Core.List.{List, [], _∷_, _++_, Memᴰ·append-right}
+use native.Mathlib.Nat.{zero-add}
+use native.Mathlib.Decide.{ℕ-discrete}
+use native.Mathlib.Omega.{arith}
+use lib.Dec.{eqb}
+use lib.ListN.{length}
+use borrow.Author.Tests.{eq-eqb, ne-eqb}
+use Rattle.spec.specs.Lists.{In, any, count, asCount, upTo, member}
+use Rattle.spec.specs.Replay.{repeats}
+use Rattle.lists.specs.Laws.{here, there, clash, or-true, or-false, true-or-l, true-or-r, false-or, any-in, count-either, count-none, count-length, count-upTo, length-upTo, eqb-sym}
+
+pub member-in : {x : ℕ} (xs : List ℕ) → In x xs → member x xs ≡ true
+unfolding member
+member-in {x} xs m = any-in (eqb x) x xs m (eq-eqb x x refl)
+
+pub member-snoc : (x : ℕ) (s : List ℕ) (v : ℕ) → member x (s ++ v ∷ []) ≡ (member x s || eqb x v)
+unfolding member any
+member-snoc x [] v = bool-or-false (eqb x v)
+member-snoc x (y ∷ s) v = ap (λ (b : Bool). eqb x y || b) (member-snoc x s v) ∙ sym (or-assoc (eqb x y) (member x s) (eqb x v))
+
+-- ---- one number more
+
+module _ (v : ℕ) where
+  pub repeats-hit : (s t : List ℕ) → member v s ≡ true → repeats (s ++ v ∷ t) ≡ true
+  unfolding repeats member any
+  repeats-hit [] t h = clash h refl
+  repeats-hit (x ∷ s) t h = elim (or-true (eqb v x) (member v s) h) [
+    | inl a ↦ true-or-l (repeats (s ++ v ∷ t)) (any-in (eqb x) v (s ++ v ∷ t) (Memᴰ·append-right s here) (eqb-sym x v ∙ a))
+    | inr a ↦ true-or-r (member x (s ++ v ∷ t)) (repeats-hit s t a)
+  ]
+
+  pub repeats-more : (s : List ℕ) → member v s ≡ false → repeats s ≡ false → repeats (s ++ v ∷ []) ≡ false
+  unfolding repeats member any
+  repeats-more [] h r = refl
+  repeats-more (x ∷ s) h r =
+      let a = or-false (eqb v x) (member v s) h in
+      let b = or-false (member x s) (repeats s) r in
+      false-or (member-snoc x s v ∙ false-or (b .0) (eqb-sym x v ∙ a .0)) (repeats-more s (a .1) (b .1))
+
+-- ---- numbers below n
+
+module _ (n : ℕ) where
+  distinct-count : (xs : List ℕ) → ((x : ℕ) → In x xs → x < n) → repeats xs ≡ false → count (λ e. member e xs) (upTo n) ≡ length xs
+  unfolding repeats member any asCount
+  distinct-count [] h r = count-none (λ e. member e []) (upTo n) (λ e m. refl)
+  distinct-count (x ∷ xs) h r =
+      let z = or-false (member x xs) (repeats xs) r in
+      omega (arith, count-either (eqb x) (λ e. member e xs) (λ e. member e (x ∷ xs)) (upTo n) (λ e m. apart e (z .0)), count-upTo x n (h x here), distinct-count xs (λ y m. h y (there m)) (z .1))
+    where
+      apart : (e : ℕ) → member x xs ≡ false → asCount (eqb e x || member e xs) ≡ asCount (eqb x e) + asCount (member e xs)
+      apart e d = elim (ℕ-discrete e x) [
+        | yes q ↦ rw (q, eq-eqb x x refl, d)
+        | no q ↦ rw (ne-eqb e x q, ne-eqb x e (λ p. q (sym p))) (sym (zero-add (asCount (member e xs))))
+      ]
+
+  -- there are at most n of them
+  pub distinct-few : (xs : List ℕ) → ((x : ℕ) → In x xs → x < n) → repeats xs ≡ false → length xs ≤ n
+  distinct-few xs h r = omega (arith, distinct-count xs h r, count-length (λ e. member e xs) (upTo n), length-upTo n)

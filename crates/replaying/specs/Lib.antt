@@ -1,0 +1,3 @@
+pub mod Lined
+pub mod Rows
+pub mod Replays
