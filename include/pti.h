@@ -1,0 +1,55 @@
+/* Run records of PTI-nets: the C interface of the verified library (libpti.a, made by `rt staticlib pti`).
+ *
+ * Texts and buffers are lent for the length of a call: a pointer and a length. A refused call writes to no buffer; past what
+ * an accepted one writes, a buffer keeps its contents. The numbers and spots are those of document 01; number and spot are 0
+ * where a call is accepted. A length of 0 goes with any pointer that is not null.
+ */
+#ifndef PTI_H
+#define PTI_H
+
+#include <stddef.h>
+#include <stdint.h>
+
+#ifdef __cplusplus
+extern "C" {
+#endif
+
+typedef struct { uint64_t number, spot, a, b, c; } pti_answer;
+
+/* Buffers of these sizes, in bytes and in counts, are never too short. */
+#define PTI_RECORD_BYTES 48256
+#define PTI_TABLE_BYTES 16384
+#define PTI_ROW_COUNTS 4128
+#define PTI_ARRANGEMENT_BYTES 768
+#define PTI_PROGRAM_BYTES 48275
+
+/* Reads a net. a: places, b: transitions. Refusals 11 to 15. */
+pti_answer pti_read_net(const uint8_t *net, size_t net_len);
+
+/* Builds the record of a step log. a: bytes written. Refusals 20, the net's, 21 to 27. */
+pti_answer pti_build(const uint8_t *net, size_t net_len, const uint8_t *log, size_t log_len, uint8_t *out, size_t out_len);
+
+/* Checks a proposed record and writes its order: at 128 * e + f, 2 if e is strictly before f, 1 if only not later, else 0.
+ * a: events, b: conditions, c: independent pairs. Refusals 30, the net's, 31 to 39. */
+pti_answer pti_check(const uint8_t *net, size_t net_len, const uint8_t *record, size_t record_len, uint8_t *table, size_t table_len);
+
+/* Replays an arrangement and writes the markings: row k's count of place p at 32 * k + p. a: lines played.
+ * Refusals 40, the net's, 31 to 39, 41 to 45. */
+pti_answer pti_replay(const uint8_t *net, size_t net_len, const uint8_t *record, size_t record_len, const uint8_t *arrangement, size_t arrangement_len, uint16_t *rows, size_t rows_len);
+
+/* Writes the shortest arrangement. a: bytes written, b: lines. Refusals 50, the net's, 31 to 39. */
+pti_answer pti_arrange(const uint8_t *net, size_t net_len, const uint8_t *record, size_t record_len, uint8_t *out, size_t out_len);
+
+/* Where a line stands, of the net text (choice 0) or the second text (choice 1), without byte 10.
+ * a: its start in the chosen text, b: its length; both 0 when refused. Refusal 46. */
+pti_answer pti_refused_line(const uint8_t *net, size_t net_len, const uint8_t *second, size_t second_len, uint8_t choice, size_t line);
+
+/* What the program prints for an input: net, a line `=`, log. a: bytes written, also of an `X` line, for which number and spot
+ * stay 0. Refusal 20 where out is under 48,275 bytes. */
+pti_answer pti_program(const uint8_t *input, size_t input_len, uint8_t *out, size_t out_len);
+
+#ifdef __cplusplus
+}
+#endif
+
+#endif
