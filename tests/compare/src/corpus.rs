@@ -1,0 +1,206 @@
+//! Fixed cases without an answer written out: texts damaged at every byte, and the limits from both sides.
+
+use crate::case::{lent, run, Case, Operation};
+use crate::gen::{build, BYTES};
+use crate::sim::Simulator;
+use crate::vectors::{line_of, times, Text, CASE_A, CASE_B, DRIVE, MUTUAL, MUTUAL_RECORD};
+
+pub fn all() -> Vec<Case> {
+    let mut cases = Vec::new();
+    for case in sound() {
+        damaged(&case, &mut cases);
+        rooms(&case, &mut cases);
+    }
+    net_limits(&mut cases);
+    log_limits(&mut cases);
+    record_limits(&mut cases);
+    lines_asked(&mut cases);
+    long_texts(&mut cases);
+    cases
+}
+
+fn text(words: &str) -> Vec<u8> {
+    Text::from(words).0
+}
+
+/// A case of each operation in which nothing is wrong.
+fn sound() -> Vec<Case> {
+    let (drive, input) = (text(DRIVE), text(&format!("{DRIVE} = S,0 S,1,0 S,2")));
+    vec![
+        Case::new(Operation::ReadNet, &[&drive]),
+        Case::new(Operation::Build, &[&drive, &text("S,0 S,1 S,2")]),
+        Case::new(Operation::Check, &[&drive, &text(CASE_A)]),
+        Case::new(Operation::Check, &[&text(MUTUAL), &text(MUTUAL_RECORD)]),
+        Case::new(Operation::Replay, &[&drive, &text(CASE_B), &text("G,1 G,0")]),
+        Case::new(Operation::Arrange, &[&drive, &text(CASE_A)]),
+        Case::new(Operation::Program, &[&input]),
+        Case::new(Operation::RefusedLine, &[&drive, &text(CASE_A)]).asking(1, 4),
+    ]
+}
+
+/// Each text cut at every byte, and at every byte each of many bytes put in its place, put before it, or none.
+fn damaged(case: &Case, cases: &mut Vec<Case>) {
+    for (which, text) in case.texts.iter().enumerate() {
+        let mut add = |changed: Vec<u8>| {
+            let mut texts = case.texts.clone();
+            texts[which] = changed;
+            cases.push(Case { texts, ..case.clone() });
+        };
+        for at in 0..text.len() {
+            add(text[..at].to_vec());
+            add([&text[..at], &text[at + 1..]].concat());
+            for byte in BYTES {
+                add([&text[..at], &[byte], &text[at + 1..]].concat());
+            }
+            for byte in *b"0,-\n\r=" {
+                add([&text[..at], &[byte], &text[at..]].concat());
+            }
+        }
+    }
+}
+
+/// Buffers around the stated size. The program's is never too short: document 01 has no answer for that.
+fn rooms(case: &Case, cases: &mut Vec<Case>) {
+    let stated = case.operation.stated_room();
+    if stated == 0 {
+        return;
+    }
+    let short = [0, 1, stated / 2, stated - 1];
+    let short = short.iter().filter(|_| case.operation != Operation::Program);
+    for room in short.copied().chain([stated, stated + 1, stated + 4_096]) {
+        cases.push(case.clone().with_room(room));
+        let mut broken = case.clone().with_room(room);
+        broken.texts[0].insert(0, b'x');
+        cases.push(broken);
+    }
+}
+
+fn net_limits(cases: &mut Vec<Case>) {
+    let mut add = |words: String| cases.push(Case::new(Operation::ReadNet, &[&text(&words)]));
+    for count in [31, 32, 33, 40] {
+        add(times(count, "P,0"));
+        add(format!("P,1 {}", times(count, "T")));
+        add(format!("{} {}", times(count, "P,1"), times(33, "T")));
+        let arcs: Vec<String> = (0..count).map(|t| format!("I,0,{t} O,{t},0")).collect();
+        add(format!("P,1 {} {}", times(count, "T"), arcs.join(" ")));
+        add(format!("P,1 {} {} x", times(count, "T"), arcs.join(" ")));
+    }
+    for tokens in [511, 512, 513, 1_000, 9_999] {
+        add(format!("P,{tokens}"));
+        add(format!("P,0 P,{tokens} P,0"));
+        add(format!("P,{} P,12", tokens - 12));
+        add(format!("P,{} {}", tokens - 31, times(31, "P,1")));
+    }
+}
+
+/// A net and a log with so many events (a multiple of four): a quarter watches two places from before they are
+/// filled, a quarter fills both, a quarter drains both, and a quarter watches after; so many squared and over four marks.
+/// With 128 events the record has 512 conditions and 4,096 marks: the greatest there is.
+pub fn watched_run(events: usize) -> (Vec<u8>, Vec<u8>) {
+    let quarter = events / 4;
+    let tokens = 11 * quarter;
+    let net = format!("P,{tokens} P,0 P,0 P,0 P,0 T T T I,0,0 O,0,1 H,2,0 H,3,0 I,0,1 O,1,2 O,1,3 I,2,2 I,3,2 O,2,4");
+    let log = [0, 1, 2, 0].map(|transition| times(quarter, &format!("S,{transition}"))).join(" ");
+    (text(&net), text(&log))
+}
+
+/// The same run in four steps.
+fn watched_steps(events: usize) -> (Vec<u8>, Vec<u8>) {
+    let (net, _) = watched_run(events);
+    let log = [0, 1, 2, 0].map(|transition| line_of('S', events / 4, transition)).join(" ");
+    (net, text(&log))
+}
+
+fn log_limits(cases: &mut Vec<Case>) {
+    let mut add = |net: &str, log: &str| {
+        cases.push(Case::new(Operation::Build, &[&text(net), &text(log)]));
+        cases.push(Case::new(Operation::Program, &[&text(&format!("{net} = {log}"))]));
+    };
+    for count in [126, 127, 128, 129, 130] {
+        add("P,150 P,0 T I,0,0 O,0,1", &times(count, "S,0"));
+        add("P,150 P,0 T I,0,0 O,0,1", &line_of('S', count, 0));
+        add("P,150 P,0 T I,0,0 O,0,1", &format!("{} S,0,0", line_of('S', count - 2, 0)));
+        add("P,1 T I,0,0 O,0,0", &times(count, "S,0"));
+    }
+    for tokens in [127, 128, 129] {
+        add(&format!("P,{tokens} P,0 P,0 P,0 T I,0,0 O,0,1 O,0,2 O,0,3"), &times(128, "S,0"));
+        add(&format!("P,{tokens} P,0 P,0 P,0 T I,0,0 O,0,1 O,0,2 O,0,3"), &line_of('S', 128, 0));
+    }
+    for count in [62, 63, 64, 65, 66] {
+        add("P,150 P,0 P,0 T T I,0,0 O,0,1 H,2,0 I,0,1 O,1,2", &format!("{} {}", times(count, "S,0"), times(64, "S,1")));
+        add("P,150 P,0 P,0 T T I,0,0 O,0,1 H,2,0 I,0,1 O,1,2", &format!("{} {}", times(64, "S,0"), line_of('S', count, 1)));
+        add("P,150 P,0 T I,0,0 O,0,1 H,1,0", &line_of('S', count, 0));
+    }
+}
+
+/// The greatest record and what is around it, in every operation.
+fn record_limits(cases: &mut Vec<Case>) {
+    for (net, log) in [watched_run(128), watched_steps(128), watched_run(32), watched_steps(64)] {
+        cases.push(Case::new(Operation::Build, &[&net, &log]));
+        cases.push(Case::new(Operation::Program, &[&[&net[..], b"=\n", &log].concat()]));
+        let record = build(&net, &log).expect("the run is one of the net");
+        around(&net, &record, cases);
+    }
+}
+
+fn around(net: &[u8], record: &[u8], cases: &mut Vec<Case>) {
+    let more = |lines: &str| [record, &text(lines)].concat();
+    let first = |lines: &str| [&text(lines), record].concat();
+    let flipped: Vec<u8> = record.iter().map(|byte| if *byte == b'A' { b'B' } else { *byte }).collect();
+    let shorter = record[..record.len() - 1].iter().rposition(|byte| *byte == 10).map_or(0, |end| end + 1);
+    let records = [record.to_vec(), more("B,0,0"), more("A,999,0"), more("x"), first("E,0"), first("C,0,-,-"), flipped, record[..shorter].to_vec()];
+    for record in records {
+        cases.push(Case::new(Operation::Check, &[net, &record]));
+        cases.push(Case::new(Operation::Arrange, &[net, &record]));
+        cases.push(Case::new(Operation::Replay, &[net, &record, b"G,0\n"]));
+    }
+    let case = Case::new(Operation::Arrange, &[net, record]);
+    let mut outcome = run(&Simulator, &case);
+    let shortest = lent(&mut outcome.bytes)[..outcome.answer.a as usize].to_vec();
+    let events = record.iter().filter(|byte| **byte == b'E').count();
+    let single: String = (0..events).map(|event| format!("G,{event}\n")).collect();
+    let again = format!("{single}G,0\n");
+    let short: String = (0..events - 1).map(|event| format!("G,{event}\n")).collect();
+    for arrangement in [shortest, single.into_bytes(), again.into_bytes(), short.into_bytes()] {
+        cases.push(Case::new(Operation::Replay, &[net, record, &arrangement]));
+    }
+}
+
+/// Every line number around those of small texts, and every choice.
+fn lines_asked(cases: &mut Vec<Case>) {
+    let texts: [&[u8]; 7] = [b"", b"\n", b"a", b"a\n", b"\n\n", b"a\nbc\n\nd", b"\r\n=\n"];
+    for net in texts {
+        for second in texts {
+            for line in 0..6 {
+                cases.extend((0..=255).step_by(15).chain([1, 2]).map(|choice| Case::new(Operation::RefusedLine, &[net, second]).asking(choice, line)));
+            }
+        }
+    }
+}
+
+/// Texts far past every limit: calls must end, and counts of lines, fields and bytes must not wrap round at 16 bits.
+fn long_texts(cases: &mut Vec<Case>) {
+    let (drive, record) = (text(DRIVE), text(CASE_B));
+    let many = |line: &str| format!("{line}\n").repeat(70_000).into_bytes();
+    let wide = |letter: &str, number: &str| format!("{letter}{}\n", format!(",{number}").repeat(70_000)).into_bytes();
+    let unended = |byte: u8| vec![byte; 200_000];
+    for net in [many("P,0"), many("T"), many(""), wide("P", "0"), unended(b'P'), unended(b'0')] {
+        cases.push(Case::new(Operation::ReadNet, &[&net]));
+        cases.push(Case::new(Operation::Program, &[&net]));
+    }
+    for log in [many("S,2"), wide("S", "0"), wide("S", "3"), unended(b'S')] {
+        cases.push(Case::new(Operation::Build, &[&drive, &log]));
+    }
+    for record in [many("E,0"), many("C,0,-,-"), [&b"E,0\nC,0,-,0\n"[..], &many("B,0,0")].concat(), unended(b',')] {
+        cases.push(Case::new(Operation::Check, &[&drive, &record]));
+        cases.push(Case::new(Operation::Arrange, &[&drive, &record]));
+    }
+    for arrangement in [many("G,1"), wide("G", "1"), wide("G", "2"), unended(b'G')] {
+        cases.push(Case::new(Operation::Replay, &[&drive, &record, &arrangement]));
+    }
+    let lines = [&many("ab")[..], b"cd"].concat();
+    for line in [1, 4_464, 4_465, 65_535, 65_536, 65_537, 70_000, 70_001, 70_002, 131_072] {
+        cases.push(Case::new(Operation::RefusedLine, &[&lines, b"x"]).asking(0, line));
+        cases.push(Case::new(Operation::RefusedLine, &[b"x", &lines]).asking(1, line));
+    }
+}

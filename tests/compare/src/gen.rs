@@ -1,0 +1,141 @@
+//! Seeded cases. A round makes a net, a log, a record and an arrangement that belong together, mostly sound and now and
+//! then damaged, and gives a case of every operation on them.
+
+mod arrangements;
+mod damage;
+mod logs;
+mod nets;
+mod records;
+
+use crate::case::{run, Case, Operation};
+use crate::model::{log_text, NetPlan};
+use crate::rng::Rng;
+use crate::sim::{Simulator, RECORD_ROOM};
+
+pub use damage::{damage, BYTES};
+pub use logs::play;
+pub use nets::net;
+pub use records::change;
+
+/// How large the nets and runs of a round are at most.
+#[derive(Clone, Copy)]
+pub struct Size {
+    pub places: usize,
+    pub transitions: usize,
+    /// At one place.
+    pub tokens: usize,
+    pub events: usize,
+    /// Events of a step.
+    pub step: usize,
+}
+
+pub const SMALL: Size = Size { places: 6, transitions: 5, tokens: 3, events: 8, step: 3 };
+const MEDIUM: Size = Size { places: 12, transitions: 10, tokens: 9, events: 40, step: 6 };
+const LARGE: Size = Size { places: 32, transitions: 32, tokens: 60, events: 135, step: 40 };
+/// For `nets::store`, whose runs pass the limits only with long steps.
+const STORE: Size = Size { places: 4, transitions: 4, tokens: 512, events: 132, step: 70 };
+
+/// Mostly small, since the many kinds of mistakes show there and a small case costs little.
+fn net_and_size(rng: &mut Rng) -> (NetPlan, Size) {
+    match rng.below(400) {
+        0 => (nets::net(rng, LARGE), LARGE),
+        1 => (nets::store(rng), STORE),
+        2..=9 => (nets::net(rng, MEDIUM), MEDIUM),
+        _ => (nets::net(rng, SMALL), SMALL),
+    }
+}
+
+pub fn round(rng: &mut Rng) -> Vec<Case> {
+    let (plan, size) = net_and_size(rng);
+    let steps = logs::log(rng, &plan, size);
+    let sound = nets::text(rng, &plan);
+    let net = maybe_net(rng, 4, &sound);
+    let log = maybe(rng, 8, &log_text(&steps));
+    let proposed = proposal(rng, &plan, &sound, size);
+    let record = maybe(rng, 6, &proposed);
+    let mut cases = vec![
+        Case::new(Operation::ReadNet, &[&maybe_net(rng, 50, &sound)]),
+        Case::new(Operation::Build, &[&net, &log]),
+        Case::new(Operation::Check, &[&net, &record]),
+        Case::new(Operation::Arrange, &[&net, &record]),
+        Case::new(Operation::Program, &[&input(rng, &net, &log)]),
+        asked_line(rng, &net, &log),
+    ];
+    for _ in 0..2 {
+        let arrangement = arrangements::arrangement(rng, &sound, &proposed);
+        let arrangement = maybe(rng, 6, &arrangement);
+        cases.push(Case::new(Operation::Replay, &[&net, &record, &arrangement]));
+    }
+    cases.iter_mut().for_each(|case| case.room = room(rng, case.operation));
+    cases
+}
+
+/// The text, damaged with the given chance.
+fn maybe(rng: &mut Rng, percent: usize, text: &[u8]) -> Vec<u8> {
+    if rng.chance(percent) {
+        return damage(rng, text);
+    }
+    text.to_vec()
+}
+
+/// The net text, with the given chance damaged or with lines put in that are refused.
+fn maybe_net(rng: &mut Rng, percent: usize, text: &[u8]) -> Vec<u8> {
+    match rng.chance(percent) {
+        true if rng.chance(50) => nets::refused_text(rng, text),
+        true => damage(rng, text),
+        false => text.to_vec(),
+    }
+}
+
+/// A record for the net: built from a run of it, and in most rounds changed after.
+fn proposal(rng: &mut Rng, plan: &NetPlan, net: &[u8], size: Size) -> Vec<u8> {
+    let steps = logs::play(rng, plan, size);
+    let record = build(net, &log_text(&steps)).unwrap_or_default();
+    records::propose(rng, plan, &record)
+}
+
+/// The record of the log, if the simulator builds one.
+pub fn build(net: &[u8], log: &[u8]) -> Option<Vec<u8>> {
+    let case = Case::new(Operation::Build, &[net, log]).with_room(RECORD_ROOM);
+    let mut outcome = run(&Simulator, &case);
+    let written = outcome.answer.a as usize;
+    outcome.answer.accepted().then(|| crate::case::lent(&mut outcome.bytes)[..written].to_vec())
+}
+
+fn input(rng: &mut Rng, net: &[u8], log: &[u8]) -> Vec<u8> {
+    let parting: &[u8] = match rng.below(30) {
+        0 => b"",
+        1 => b"=",
+        2 => b"==\n",
+        3 => b"=\n=\n",
+        _ => b"=\n",
+    };
+    [net, parting, log].concat()
+}
+
+fn asked_line(rng: &mut Rng, net: &[u8], second: &[u8]) -> Case {
+    let choice = rng.pick(&[0, 0, 1, 1, 1, 2, 255]);
+    let text = if choice == 0 { net } else { second };
+    let lines = text.iter().filter(|byte| **byte == 10).count();
+    let line = match rng.below(12) {
+        0 => 0,
+        1 => rng.next(),
+        2 => lines as u64 + 2,
+        _ => rng.between(0, lines + 1) as u64,
+    };
+    Case::new(Operation::RefusedLine, &[net, second]).asking(choice, line)
+}
+
+/// Mostly the stated size; the program's buffer is never too short, since document 01 has no answer for that.
+fn room(rng: &mut Rng, operation: Operation) -> usize {
+    let stated = operation.stated_room();
+    let lends_none = stated == 0;
+    match rng.below(50) {
+        _ if lends_none => 0,
+        0 if operation != Operation::Program => stated - 1,
+        1 if operation != Operation::Program => rng.below(stated),
+        2 | 3 => stated + 1,
+        4 => stated + rng.below(1_000),
+        _ => stated,
+    }
+}

@@ -1,0 +1,57 @@
+//! Random logs: found by playing the net, so that most steps are enabled; some get a wrong step.
+
+use super::Size;
+use crate::model::{Marking, NetPlan};
+use crate::rng::Rng;
+
+/// Enabled steps, and sometimes one that may be wrong.
+pub fn log(rng: &mut Rng, plan: &NetPlan, size: Size) -> Vec<Vec<usize>> {
+    let mut steps = play(rng, plan, size);
+    if rng.chance(30) {
+        let at = rng.below(steps.len() + 1);
+        steps.insert(at, any_step(rng, plan, size));
+    }
+    steps
+}
+
+/// An enabled step sequence.
+pub fn play(rng: &mut Rng, plan: &NetPlan, size: Size) -> Vec<Vec<usize>> {
+    let least = rng.pick(&[0, size.events / 3, size.events / 2]);
+    let wanted = rng.between(least, size.events);
+    let mut marking = plan.tokens.clone();
+    let mut steps = Vec::new();
+    let mut events = 0;
+    while events < wanted {
+        let most = rng.between(1, size.step).min(wanted - events);
+        let step = enabled_step(rng, plan, &marking, most);
+        if step.is_empty() {
+            break;
+        }
+        marking = plan.fire(&marking, &step);
+        events += step.len();
+        steps.push(step);
+    }
+    steps
+}
+
+/// Empty only if no transition is enabled.
+fn enabled_step(rng: &mut Rng, plan: &NetPlan, marking: &Marking, most: usize) -> Vec<usize> {
+    let able: Vec<usize> = (0..plan.transitions()).filter(|t| plan.enabled(marking, &[*t])).collect();
+    let mut step = Vec::new();
+    for _ in 0..2 * most {
+        if able.is_empty() || step.len() == most {
+            break;
+        }
+        step.push(rng.pick(&able));
+        if !plan.enabled(marking, &step) {
+            step.pop();
+        }
+    }
+    step
+}
+
+fn any_step(rng: &mut Rng, plan: &NetPlan, size: Size) -> Vec<usize> {
+    let unknown = if rng.chance(20) { 1 } else { 0 };
+    let most = (plan.transitions() + unknown).max(1);
+    (0..rng.between(1, size.step)).map(|_| rng.below(most)).collect()
+}

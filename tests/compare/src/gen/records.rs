@@ -1,0 +1,156 @@
+//! Proposed records: a built one, changed. Some changes leave it a process (other names, another token, another kind of
+//! mark), most do not.
+
+use crate::model::{ConditionPlan, MarkPlan, NetPlan, RecordPlan};
+use crate::rng::Rng;
+use crate::sim::{CONDITIONS, EVENTS, MARKS};
+
+pub fn propose(rng: &mut Rng, net: &NetPlan, built: &[u8]) -> Vec<u8> {
+    let mut plan = RecordPlan::read(built);
+    if rng.chance(40) {
+        change(rng, &mut plan);
+    }
+    if rng.chance(35) {
+        (0..rng.between(1, 2)).for_each(|_| break_rule(rng, net, &mut plan));
+    }
+    if rng.below(300) == 0 {
+        fill(rng, &mut plan);
+    }
+    plan.text()
+}
+
+/// One group filled up to its limit or one past it.
+fn fill(rng: &mut Rng, plan: &mut RecordPlan) {
+    let more = rng.below(2);
+    match rng.below(3) {
+        0 => plan.events.resize(EVENTS + more, 0),
+        1 => plan.conditions.resize(CONDITIONS + more, ConditionPlan { place: 0, producer: None, consumer: None }),
+        _ => {
+            plan.events.resize(9, 0);
+            plan.conditions.resize(CONDITIONS, ConditionPlan { place: 0, producer: None, consumer: None });
+            let pairs = (0..9).flat_map(|event| (0..CONDITIONS).map(move |condition| MarkPlan { letter: 'B', condition, event }));
+            plan.marks = pairs.take(MARKS + more).collect();
+        }
+    }
+}
+
+/// Changes after which the record may well be a process still.
+pub fn change(rng: &mut Rng, plan: &mut RecordPlan) {
+    if rng.chance(50) {
+        other_kinds(rng, plan);
+    }
+    if rng.chance(40) {
+        (0..rng.between(1, 3)).for_each(|_| swap_ends(rng, plan));
+    }
+    if rng.chance(60) {
+        rename(rng, plan);
+    }
+}
+
+fn permutation(rng: &mut Rng, length: usize) -> Vec<usize> {
+    let mut names: Vec<usize> = (0..length).collect();
+    rng.shuffle(&mut names);
+    names
+}
+
+fn rename(rng: &mut Rng, plan: &mut RecordPlan) {
+    let (events, conditions) = (permutation(rng, plan.events.len()), permutation(rng, plan.conditions.len()));
+    plan.rename_events(&events);
+    plan.rename_conditions(&conditions);
+    rng.shuffle(&mut plan.marks);
+}
+
+/// Another kind for some of the marks, mostly on conditions that are both produced and consumed.
+fn other_kinds(rng: &mut Rng, plan: &mut RecordPlan) {
+    let percent = rng.pick(&[10, 30, 50]);
+    for mark in &mut plan.marks {
+        let condition = &plan.conditions[mark.condition];
+        let both_will_do = condition.producer.is_some() && condition.consumer.is_some();
+        if rng.chance(if both_will_do { percent } else { 3 }) {
+            mark.letter = other_letter(mark.letter);
+        }
+    }
+}
+
+fn other_letter(letter: char) -> char {
+    if letter == 'B' { 'A' } else { 'B' }
+}
+
+/// Another token: two conditions of a place change their consumers or their producers.
+fn swap_ends(rng: &mut Rng, plan: &mut RecordPlan) {
+    if plan.conditions.is_empty() {
+        return;
+    }
+    let one = rng.below(plan.conditions.len());
+    let place = plan.conditions[one].place;
+    let alike: Vec<usize> = (0..plan.conditions.len()).filter(|c| plan.conditions[*c].place == place).collect();
+    let other = rng.pick(&alike);
+    let (first, second) = (plan.conditions[one].clone(), plan.conditions[other].clone());
+    if rng.chance(80) {
+        plan.conditions[one].consumer = second.consumer;
+        plan.conditions[other].consumer = first.consumer;
+    } else {
+        plan.conditions[one].producer = second.producer;
+        plan.conditions[other].producer = first.producer;
+    }
+}
+
+/// One change that mostly breaks a rule.
+fn break_rule(rng: &mut Rng, net: &NetPlan, plan: &mut RecordPlan) {
+    match rng.below(4) {
+        0 => break_event(rng, net, plan),
+        1 => break_condition(rng, net, plan),
+        _ => break_mark(rng, plan),
+    }
+}
+
+/// A number below the count, or now and then the count itself, which names nothing.
+fn number(rng: &mut Rng, count: usize) -> usize {
+    if count == 0 || rng.chance(8) { count } else { rng.below(count) }
+}
+
+fn any_end(rng: &mut Rng, plan: &RecordPlan) -> Option<usize> {
+    (!rng.chance(30)).then(|| number(rng, plan.events.len()))
+}
+
+fn break_event(rng: &mut Rng, net: &NetPlan, plan: &mut RecordPlan) {
+    let transition = number(rng, net.transitions());
+    let at = rng.below(plan.events.len() + 1);
+    if at == plan.events.len() {
+        plan.events.push(transition);
+    } else if rng.chance(50) {
+        plan.events[at] = transition;
+    } else {
+        plan.events.remove(at);
+    }
+}
+
+fn break_condition(rng: &mut Rng, net: &NetPlan, plan: &mut RecordPlan) {
+    let fresh = ConditionPlan { place: number(rng, net.places()), producer: any_end(rng, plan), consumer: any_end(rng, plan) };
+    let at = rng.below(plan.conditions.len() + 1);
+    if at == plan.conditions.len() {
+        return plan.conditions.push(fresh);
+    }
+    match rng.below(6) {
+        0 => plan.conditions[at].place = fresh.place,
+        1 | 2 => plan.conditions[at].producer = fresh.producer,
+        3 | 4 => plan.conditions[at].consumer = fresh.consumer,
+        _ => drop(plan.conditions.remove(at)),
+    }
+}
+
+fn break_mark(rng: &mut Rng, plan: &mut RecordPlan) {
+    let fresh = MarkPlan { letter: rng.pick(&['B', 'A']), condition: number(rng, plan.conditions.len()), event: number(rng, plan.events.len()) };
+    let at = rng.below(plan.marks.len() + 1);
+    if at == plan.marks.len() {
+        return plan.marks.push(fresh);
+    }
+    match rng.below(6) {
+        0 => drop(plan.marks.remove(at)),
+        1 => plan.marks.insert(at, fresh),
+        2 => plan.marks.push(MarkPlan { letter: fresh.letter, ..plan.marks[at].clone() }),
+        3 => plan.marks[at].event = fresh.event,
+        4 => plan.marks[at].condition = fresh.condition,
+        _ => plan.marks[at].letter = other_letter(plan.marks[at].letter),
+    }
+}

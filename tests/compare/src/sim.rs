@@ -1,0 +1,152 @@
+//! The simulator: every operation of document 01, written from the document alone and by other methods than a
+//! translation of its sentences, so that a shared mistake is unlikely:
+//! - numbers are looked up in a dictionary of all ten thousand of them (`text`);
+//! - the condition an event takes is found by rank, not by playing: the k-th taker at a place takes its k-th condition (`run`);
+//! - the process rules compare sorted lists and sets (`process`);
+//! - the closed order is a search over pairs (event, strict pair met yet?) (`order`);
+//! - rows are counts of the conditions that lie between the played and the unplayed events (`replaying`);
+//! - levels come from peeling off what has no strict predecessor left (`arranging`).
+
+mod arranging;
+mod net;
+mod order;
+mod process;
+mod program;
+mod record;
+mod refused;
+mod replaying;
+mod run;
+#[cfg(test)]
+mod tests;
+mod text;
+
+use crate::answer::Answer;
+use crate::case::Subject;
+use order::Order;
+use record::Record;
+
+pub const RECORD_ROOM: usize = 48_256;
+pub const TABLE_ROOM: usize = 16_384;
+pub const ROWS_ROOM: usize = 4_128;
+pub const ARRANGEMENT_ROOM: usize = 768;
+/// What any answer of the program needs: the longest record and `Z,128,512,8128,128` with its byte 10.
+pub const PROGRAM_ROOM: usize = RECORD_ROOM + 19;
+
+/// The most events of a record; also the width of the check's table.
+pub const EVENTS: usize = 128;
+pub const CONDITIONS: usize = 512;
+pub const MARKS: usize = 4_096;
+/// The most places of a net; also the width of replay's rows.
+pub const PLACES: usize = 32;
+pub const TRANSITIONS: usize = 32;
+pub const TOKENS: usize = 512;
+
+/// Document 01's number and spot.
+#[derive(Clone, Copy, Debug, PartialEq, Eq)]
+pub struct Refusal {
+    pub number: u64,
+    pub spot: u64,
+}
+
+pub fn refuse<T>(number: u64, spot: u64) -> Result<T, Refusal> {
+    Err(Refusal { number, spot })
+}
+
+fn answer(result: Result<Answer, Refusal>) -> Answer {
+    result.unwrap_or_else(|refusal| Answer::refuses(refusal.number, refusal.spot))
+}
+
+fn room(have: usize, need: usize, number: u64) -> Result<(), Refusal> {
+    if have < need {
+        return refuse(number, 0);
+    }
+    Ok(())
+}
+
+/// The net, the record and its order, when none of 11 to 15 and 31 to 39 is met.
+fn accepted(net: &[u8], record: &[u8]) -> Result<(net::Net, Record, Order), Refusal> {
+    let net = net::read(net)?;
+    let record = record::read(&net, record)?;
+    let order = process::judge(&net, &record)?;
+    Ok((net, record, order))
+}
+
+fn write(out: &mut [u8], text: &str) -> usize {
+    out[..text.len()].copy_from_slice(text.as_bytes());
+    text.len()
+}
+
+fn try_build(net: &[u8], log: &[u8], out: &mut [u8]) -> Result<Answer, Refusal> {
+    room(out.len(), RECORD_ROOM, 20)?;
+    let net = net::read(net)?;
+    let run = run::read(&net, log)?;
+    let written = write(out, &run.record(&net).text());
+    Ok(Answer::gives(written, 0, 0))
+}
+
+fn try_check(net: &[u8], record: &[u8], table: &mut [u8]) -> Result<Answer, Refusal> {
+    room(table.len(), TABLE_ROOM, 30)?;
+    let (_, record, order) = accepted(net, record)?;
+    table[..TABLE_ROOM].fill(0);
+    for e in 0..order.events() {
+        for f in 0..order.events() {
+            table[EVENTS * e + f] = order.entry(e, f);
+        }
+    }
+    Ok(Answer::gives(record.events.len(), record.conditions.len(), order.independent_pairs()))
+}
+
+fn try_replay(net: &[u8], record: &[u8], arrangement: &[u8], rows: &mut [u16]) -> Result<Answer, Refusal> {
+    room(rows.len(), ROWS_ROOM, 40)?;
+    let (_, record, order) = accepted(net, record)?;
+    let lines = replaying::read(&order, arrangement)?;
+    rows[..ROWS_ROOM].fill(0);
+    for (k, row) in replaying::rows(&record, &lines).iter().enumerate() {
+        rows[PLACES * k..PLACES * (k + 1)].copy_from_slice(row);
+    }
+    Ok(Answer::gives(lines.len(), 0, 0))
+}
+
+fn try_arrange(net: &[u8], record: &[u8], out: &mut [u8]) -> Result<Answer, Refusal> {
+    room(out.len(), ARRANGEMENT_ROOM, 50)?;
+    let (_, _, order) = accepted(net, record)?;
+    let lines = arranging::lines(&order);
+    let written = write(out, &arranging::text(&lines));
+    Ok(Answer::gives(written, lines.len(), 0))
+}
+
+pub struct Simulator;
+
+impl Subject for Simulator {
+    fn name(&self) -> &'static str {
+        "simulator"
+    }
+
+    fn read_net(&self, net: &[u8]) -> Answer {
+        answer(net::read(net).map(|net| Answer::gives(net.tokens.len(), net.transitions.len(), 0)))
+    }
+
+    fn build(&self, net: &[u8], log: &[u8], out: &mut [u8]) -> Answer {
+        answer(try_build(net, log, out))
+    }
+
+    fn check(&self, net: &[u8], record: &[u8], table: &mut [u8]) -> Answer {
+        answer(try_check(net, record, table))
+    }
+
+    fn replay(&self, net: &[u8], record: &[u8], arrangement: &[u8], rows: &mut [u16]) -> Answer {
+        answer(try_replay(net, record, arrangement, rows))
+    }
+
+    fn arrange(&self, net: &[u8], record: &[u8], out: &mut [u8]) -> Answer {
+        answer(try_arrange(net, record, out))
+    }
+
+    fn refused_line(&self, net: &[u8], second: &[u8], choice: u8, line: u64) -> Answer {
+        answer(refused::find(net, second, choice, line))
+    }
+
+    fn program(&self, input: &[u8], out: &mut [u8]) -> Answer {
+        program::run(input, out)
+    }
+}

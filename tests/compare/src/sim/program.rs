@@ -1,0 +1,37 @@
+//! The program: refusal 10, and what is printed.
+
+use super::text::lines;
+use super::{accepted, arranging, net, refuse, run, Refusal, PROGRAM_ROOM};
+use crate::answer::Answer;
+
+const LONGEST_INPUT: usize = 65_536;
+
+/// Writes what the program prints. A buffer that cannot hold every answer is 20 at spot 0, a choice of the C interface too.
+pub fn run(input: &[u8], out: &mut [u8]) -> Answer {
+    if out.len() < PROGRAM_ROOM {
+        return Answer::refuses(20, 0);
+    }
+    let text = printed(input).unwrap_or_else(|Refusal { number, spot }| format!("X,{number},{spot}\n"));
+    Answer::gives(super::write(out, &text), 0, 0)
+}
+
+fn printed(input: &[u8]) -> Result<String, Refusal> {
+    let (net, log) = parts(input)?;
+    let parsed = net::read(net)?;
+    let text = run::read(&parsed, log)?.record(&parsed).text();
+    let (_, record, order) = accepted(net, text.as_bytes())?;
+    let pairs = order.independent_pairs();
+    let arranged = arranging::lines(&order).len();
+    Ok(format!("{text}Z,{},{},{pairs},{arranged}\n", record.events.len(), record.conditions.len()))
+}
+
+/// Net and log, parted by the first line that is `=` and ended.
+fn parts(input: &[u8]) -> Result<(&[u8], &[u8]), Refusal> {
+    if input.len() > LONGEST_INPUT {
+        return refuse(10, 0);
+    }
+    match lines(input).iter().find(|line| line.bytes == b"=" && line.ended) {
+        Some(line) => Ok((&input[..line.start], &input[line.start + 2..])),
+        None => refuse(10, 0),
+    }
+}

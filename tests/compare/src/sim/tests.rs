@@ -1,0 +1,128 @@
+//! The simulator against the vectors, and against literal renderings of the rules for which it takes a short cut.
+
+use crate::case::{difference, lent, run, Case, Operation};
+use crate::gen::{self, Size, SMALL};
+use crate::model::{log_text, ConditionPlan, MarkPlan, NetPlan, RecordPlan};
+use crate::rng::Rng;
+use crate::sim::{Simulator, EVENTS};
+use crate::vectors;
+
+#[test]
+fn vectors_hold() {
+    let wrong: Vec<String> = vectors::all()
+        .iter()
+        .filter_map(|vector| {
+            let found = difference(&run(&Simulator, &vector.case), &vector.outcome())?;
+            Some(format!("{}: {found}\n{}", vector.name, vector.case))
+        })
+        .collect();
+    assert!(wrong.is_empty(), "{} vectors differ:\n{}", wrong.len(), wrong.join("\n"));
+}
+
+const MORE: Size = Size { tokens: 5, events: 20, ..SMALL };
+
+#[test]
+fn built_record_is_the_literal_one() {
+    for round in 0..3_000 {
+        let mut rng = Rng::for_round(11, round);
+        let net = gen::net(&mut rng, MORE);
+        let steps = gen::play(&mut rng, &net, MORE);
+        let built = gen::build(&net.text(), &log_text(&steps)).expect("an enabled step sequence");
+        let literal = Literal::play(&net, &steps).text();
+        assert_eq!(String::from_utf8(built), String::from_utf8(literal), "round {round}");
+    }
+}
+
+/// Building, sentence by sentence.
+struct Literal {
+    record: RecordPlan,
+    /// The step of each event.
+    step_of: Vec<usize>,
+}
+
+impl Literal {
+    fn play(net: &NetPlan, steps: &[Vec<usize>]) -> RecordPlan {
+        let mut literal = Literal { record: RecordPlan::default(), step_of: Vec::new() };
+        for (place, tokens) in net.tokens.iter().enumerate() {
+            (0..*tokens).for_each(|_| literal.make(place, None));
+        }
+        for (number, step) in steps.iter().enumerate() {
+            literal.step(net, number, step);
+        }
+        literal.marks(net);
+        literal.record
+    }
+
+    fn make(&mut self, place: usize, producer: Option<usize>) {
+        self.record.conditions.push(ConditionPlan { place, producer, consumer: None });
+    }
+
+    fn step(&mut self, net: &NetPlan, number: usize, step: &[usize]) {
+        let conditions = &self.record.conditions;
+        let held: Vec<usize> = (0..conditions.len()).filter(|c| conditions[*c].consumer.is_none()).collect();
+        for transition in step {
+            let event = self.record.events.len();
+            self.record.events.push(*transition);
+            self.step_of.push(number);
+            for place in (0..net.places()).filter(|p| net.inputs[*transition] >> p & 1 == 1) {
+                let conditions = &mut self.record.conditions;
+                let lowest = held.iter().find(|c| conditions[**c].place == place && conditions[**c].consumer.is_none());
+                conditions[*lowest.expect("the step is enabled")].consumer = Some(event);
+            }
+            for place in (0..net.places()).filter(|p| net.outputs[*transition] >> p & 1 == 1) {
+                self.make(place, Some(event));
+            }
+        }
+    }
+
+    fn marks(&mut self, net: &NetPlan) {
+        for (event, transition) in self.record.events.iter().enumerate() {
+            for (number, condition) in self.record.conditions.iter().enumerate() {
+                if net.inhibitors[*transition] >> condition.place & 1 == 0 || condition.producer == Some(event) {
+                    continue;
+                }
+                let consumed_earlier = condition.consumer.is_some_and(|consumer| self.step_of[consumer] < self.step_of[event]);
+                self.record.marks.push(MarkPlan { letter: if consumed_earlier { 'A' } else { 'B' }, condition: number, event });
+            }
+        }
+    }
+}
+
+#[test]
+fn lines_are_longest_chains() {
+    let mut long = 0;
+    for round in 0..3_000 {
+        let mut rng = Rng::for_round(12, round);
+        let net = gen::net(&mut rng, MORE);
+        let steps = gen::play(&mut rng, &net, MORE);
+        let mut plan = RecordPlan::read(&gen::build(&net.text(), &log_text(&steps)).expect("an enabled step sequence"));
+        gen::change(&mut rng, &mut plan);
+        let (net, record) = (net.text(), plan.text());
+        let mut checked = run(&Simulator, &Case::new(Operation::Check, &[&net, &record]));
+        if !checked.answer.accepted() {
+            continue;
+        }
+        let levels = levels(checked.answer.a as usize, lent(&mut checked.bytes));
+        let mut arranged = run(&Simulator, &Case::new(Operation::Arrange, &[&net, &record]));
+        let text = &lent(&mut arranged.bytes)[..arranged.answer.a as usize];
+        assert_eq!(String::from_utf8_lossy(text), levels_text(&levels), "round {round}");
+        long += (arranged.answer.b > 4) as usize;
+    }
+    assert!(long > 100, "only {long} arrangements of more than four lines");
+}
+
+/// The most strict pairs in a chain of the closed order that ends at each event, from chains of ever more pairs.
+fn levels(events: usize, table: &[u8]) -> Vec<usize> {
+    let mut most = vec![0; events];
+    for _ in 0..events {
+        let best = |f: usize| (0..events).filter(|e| table[EVENTS * e + f] > 0).map(|e| most[e] + table[EVENTS * e + f] as usize - 1).max();
+        most = (0..events).map(|f| best(f).unwrap_or(0).max(most[f])).collect();
+    }
+    most
+}
+
+fn levels_text(levels: &[usize]) -> String {
+    let lines = levels.iter().max().map_or(0, |last| last + 1);
+    let line = |level: usize| (0..levels.len()).filter(|event| levels[*event] == level).map(|event| format!(",{event}")).collect::<String>();
+    (0..lines).map(|level| format!("G{}\n", line(level))).collect()
+}
