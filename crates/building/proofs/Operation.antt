@@ -34,7 +34,7 @@ use Rattle.building.specs.declared.Run.{Run}
 use Rattle.building.specs.declared.LogAnswer.{LogAnswer}
 use Rattle.building.specs.Bytes.{historyBytes, Writable}
 use Rattle.building.specs.declared.BuildAnswer.{BuildAnswer}
-use Rattle.building.specs.declared.BuildAnswer.the-variants.{Written, NetRefused, LogRefused}
+use Rattle.building.specs.declared.BuildAnswer.the-variants.{Written}
 use Rattle.building.proofs.Beginning.{tokens-are}
 use Rattle.building.proofs.Recorded.{writable, bytes-held}
 
@@ -165,8 +165,9 @@ module _ {net log old : List ℕ} where
     leaves = W .bytes ∙ put-over old bytes l ∙ sym (ap (λ a. buildLeaves a old) e);
   }
 
-  pub refuses-net : (a : NetAnswer) → 48256 ≤ length old → Refused (readNet net) (netAnswer a) → Builds net log old (NetRefused a) old
-  refuses-net a h F = refuses-all (NetRefused a) (build-net net log (length old) h (F .is)) (unfold returned in (ap (returned (λ v. 0)) (F .same)))
+  pub refuses-net : (a : NetAnswer) {b : BuildAnswer} → 48256 ≤ length old → Refused (readNet net) (netAnswer a) → buildAnswer b ≡ returned (λ v. 0) (netAnswer a) → Builds net log old b old
+  refuses-net a {b} h F q = refuses-all b (build-net net log (length old) h (F .is)) (q ∙ unfold returned in (ap (returned (λ v. 0)) (F .same)))
 
-  pub refuses-log : (a : LogAnswer) {N : Net} → 48256 ≤ length old → readNet net ≡ gives N → Refused (playLog bench N (linesOf log)) (logAnswer a) → Builds net log old (LogRefused a) old
-  refuses-log a h e F = refuses-all (LogRefused a) (build-log net log (length old) h e (F .is)) (unfold returned in (ap (returned (λ v. 0)) (F .same)))
+  pub refuses-log : (a : LogAnswer) {b : BuildAnswer} {N : Net} → 48256 ≤ length old → readNet net ≡ gives N → Refused (playLog bench N (linesOf log)) (logAnswer a)
+      → buildAnswer b ≡ returned (λ v. 0) (logAnswer a) → Builds net log old b old
+  refuses-log a {b} h e F q = refuses-all b (build-log net log (length old) h e (F .is)) (q ∙ unfold returned in (ap (returned (λ v. 0)) (F .same)))

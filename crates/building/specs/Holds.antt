@@ -23,9 +23,9 @@ use Rattle.playing.specs.Holds.{eventsOf, conditionsOf, Arcs, Whole}
 use Rattle.building.specs.declared.Run.{Run}
 use Rattle.building.specs.declared.Played.{Played}
 use Rattle.building.specs.declared.BuildAnswer.{BuildAnswer}
-use Rattle.building.specs.declared.BuildAnswer.the-variants.{Written, BufferShort, NetRefused, LogRefused}
+use Rattle.building.specs.declared.BuildAnswer.the-variants.{Written, BufferShort, NetMalformed, NetLimitPassed, NetUndeclared, ArcRepeated, Lacking, Malformed, UnknownTransition, OverEvents, TooFewTokens, Inhibited, OverConditions, OverMarks}
 use Rattle.building.specs.declared.LogAnswer.{LogAnswer}
-use Rattle.building.specs.declared.LogAnswer.the-variants.{Goes, Malformed, UnknownTransition, OverEvents, TooFewTokens, Inhibited, OverConditions, OverMarks}
+use Rattle.building.specs.declared.LogAnswer.the-variants as log
 
 -- the run before line k
 pub record HoldsRun (N : Net) (k : ℕ) (x : Run) (r : RunD) : Type 0 where
@@ -39,14 +39,14 @@ pub record HoldsRun (N : Net) (k : ℕ) (x : Run) (r : RunD) : Type 0 where
 
 -- the paper's number and spot of an answer to a log
 abbrev pub logAnswer : LogAnswer → Answer (Unit {0})
-logAnswer Goes = gives tt
-logAnswer (Malformed k) = refuses 21 k
-logAnswer (UnknownTransition k) = refuses 22 k
-logAnswer (OverEvents k) = refuses 23 k
-logAnswer (TooFewTokens k) = refuses 24 k
-logAnswer (Inhibited k) = refuses 25 k
-logAnswer (OverConditions k) = refuses 26 k
-logAnswer (OverMarks k) = refuses 27 k
+logAnswer log.Goes = gives tt
+logAnswer (log.Malformed k) = refuses 21 k
+logAnswer (log.UnknownTransition k) = refuses 22 k
+logAnswer (log.OverEvents k) = refuses 23 k
+logAnswer (log.TooFewTokens k) = refuses 24 k
+logAnswer (log.Inhibited k) = refuses 25 k
+logAnswer (log.OverConditions k) = refuses 26 k
+logAnswer (log.OverMarks k) = refuses 27 k
 
 abbrev pub given : {A : Type 0} → Answer A → Bool
 given (gives a) = true
@@ -109,8 +109,18 @@ PlaysLog is os hs m ts log x s = (N : Net) → Arcs N is os hs m → ts ≡ N .t
 abbrev pub buildAnswer : BuildAnswer → Answer ℕ
 buildAnswer (Written n) = gives n
 buildAnswer BufferShort = refuses 20 0
-buildAnswer (NetRefused a) = returned (λ v. 0) (netAnswer a)
-buildAnswer (LogRefused a) = returned (λ v. 0) (logAnswer a)
+buildAnswer (NetMalformed k) = refuses 11 k
+buildAnswer (NetLimitPassed k) = refuses 12 k
+buildAnswer (NetUndeclared k) = refuses 13 k
+buildAnswer (ArcRepeated k) = refuses 14 k
+buildAnswer (Lacking t) = refuses 15 t
+buildAnswer (Malformed k) = refuses 21 k
+buildAnswer (UnknownTransition k) = refuses 22 k
+buildAnswer (OverEvents k) = refuses 23 k
+buildAnswer (TooFewTokens k) = refuses 24 k
+buildAnswer (Inhibited k) = refuses 25 k
+buildAnswer (OverConditions k) = refuses 26 k
+buildAnswer (OverMarks k) = refuses 27 k
 
 -- the answer is the paper's, and the buffer is left as the paper says
 pub record Builds (net log old : List ℕ) (r : BuildAnswer) (new : List ℕ) : Type 0 where

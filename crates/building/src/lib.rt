@@ -6,7 +6,8 @@ ghost use Rattle.spec.specs.Record.{eventField, eventLine, markLineOf};
 ghost use Rattle.writing.specs.Written.{Wrote};
 ghost use Rattle.playing.specs.Conditions.{decoded};
 ghost use Rattle.building.specs.Bytes.{joinedTo, eventBytes, codedLine, conditionBytes, kindIf, earlierAt, markBytes, marksBytes, historyBytes, Coded, CodedTo, LowTo, Writable};
-ghost use Rattle.building.specs.Holds.{given, logAnswer, Reached, StepsOn, LinesOn, Begun, PlaysLog, Begins, Builds};
+ghost use Rattle.spec.specs.Answer.{returned};
+ghost use Rattle.building.specs.Holds.{given, logAnswer, buildAnswer, Reached, StepsOn, LinesOn, Begun, PlaysLog, Begins, Builds};
 ghost use lib.ListN.{length, getD, take};
 ghost use Rattle.spec.specs.Lists.{sum};
 ghost use Rattle.net.specs.Holds.{lineOf, answerOf as netAnswer};
@@ -459,12 +460,52 @@ pub fn put_record(out: &mut [u8], h: History, inhibitors: &[u8; 1024]) -> usize
 
 // ---- the operation
 
-// The answer of building: how many bytes were written, or the refusal.
+// The answer of building: how many bytes were written, or the refusal, of the buffer, the net or the log.
 pub enum BuildAnswer {
     Written(usize),
     BufferShort,
-    NetRefused(NetAnswer),
-    LogRefused(LogAnswer),
+    NetMalformed(usize),
+    NetLimitPassed(usize),
+    NetUndeclared(usize),
+    ArcRepeated(usize),
+    Lacking(usize),
+    Malformed(usize),
+    UnknownTransition(usize),
+    OverEvents(usize),
+    TooFewTokens(usize),
+    Inhibited(usize),
+    OverConditions(usize),
+    OverMarks(usize),
+}
+
+// A net's answer where nothing is written.
+fn of_net(a: NetAnswer) -> BuildAnswer
+    ensures { λ r. ⌜ buildAnswer r ≡ returned (λ v. 0) (netAnswer a) ⌝ }
+{
+    match a {
+        NetAnswer::Accepted(_, _) => BuildAnswer::Written(0),
+        NetAnswer::Malformed(k) => BuildAnswer::NetMalformed(k),
+        NetAnswer::LimitPassed(k) => BuildAnswer::NetLimitPassed(k),
+        NetAnswer::Undeclared(k) => BuildAnswer::NetUndeclared(k),
+        NetAnswer::ArcRepeated(k) => BuildAnswer::ArcRepeated(k),
+        NetAnswer::Lacking(t) => BuildAnswer::Lacking(t),
+    }
+}
+
+// A log's answer where nothing is written.
+fn of_log(a: LogAnswer) -> BuildAnswer
+    ensures { λ r. ⌜ buildAnswer r ≡ returned (λ v. 0) (logAnswer a) ⌝ }
+{
+    match a {
+        LogAnswer::Goes => BuildAnswer::Written(0),
+        LogAnswer::Malformed(k) => BuildAnswer::Malformed(k),
+        LogAnswer::UnknownTransition(k) => BuildAnswer::UnknownTransition(k),
+        LogAnswer::OverEvents(k) => BuildAnswer::OverEvents(k),
+        LogAnswer::TooFewTokens(k) => BuildAnswer::TooFewTokens(k),
+        LogAnswer::Inhibited(k) => BuildAnswer::Inhibited(k),
+        LogAnswer::OverConditions(k) => BuildAnswer::OverConditions(k),
+        LogAnswer::OverMarks(k) => BuildAnswer::OverMarks(k),
+    }
 }
 
 // Whether a net was accepted.
@@ -491,7 +532,7 @@ pub fn build(net: &[u8], log: &[u8], out: &mut [u8]) -> BuildAnswer
     let read = read_net(net);
     let answer = read.answer;
     if !accepted(answer) {
-        return BuildAnswer::NetRefused(answer);
+        return of_net(answer);
     }
     let n = read.net;
     let tokens = n.tokens;
@@ -511,7 +552,7 @@ pub fn build(net: &[u8], log: &[u8], out: &mut [u8]) -> BuildAnswer
     );
     let judged = played.answer;
     if !goes(judged) {
-        return BuildAnswer::LogRefused(judged);
+        return of_log(judged);
     }
     let run = played.run;
     let history = run.history;

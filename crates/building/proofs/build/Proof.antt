@@ -13,13 +13,15 @@ build-spec = tie.close (tie.spec
     (λ c. refuses-all BufferShort (build-20 _ _ _ (c .if1 .taken)) refl)
     (λ c κs. tt)
     (λ c κs. tt)
-    (λ c. let ac = c .before in let rd = ac .before in let i1 = rd .before in refuses-net _ (i1 .if1 .left) (net-refused (rd .read-net .ensures) (sym (ac .accepted .ensures) ∙ not-true _ (c .if2 .taken))))
+    (λ c κs. tt)
+    (λ c. let i2 = c .before in let ac = i2 .before in let rd = ac .before in let i1 = rd .before in refuses-net (rd .read-net .result .answer) (i1 .if1 .left) (net-refused (rd .read-net .ensures) (sym (ac .accepted .ensures) ∙ not-true _ (i2 .if2 .taken))) (c .of-net .ensures))
     (λ c κs. let i2 = c .before .before .before .before .before .before in let ac = i2 .before in let rd = ac .before in let A = net-accepted (rd .read-net .ensures) (sym (ac .accepted .ensures) ∙ not-false _ (i2 .if2 .left)) in net-few A)
     (λ c κs. let bg = c .before .before .before in let i2 = bg .before .before .before .before .before .before .before in let ac = i2 .before in let rd = ac .before in let A = net-accepted (rd .read-net .ensures) (sym (ac .accepted .ensures) ∙ not-false _ (i2 .if2 .left)) in net-begun A (bg .begin .ensures))
     (λ c κs. tt)
-    (λ c. let go = c .before in let pl = go .before in let bg = pl .before .before .before .before in let i2 = bg .before .before .before .before .before .before .before in let ac = i2 .before in let rd = ac .before in let i1 = rd .before in let A = net-accepted (rd .read-net .ensures) (sym (ac .accepted .ensures) ∙ not-false _ (i2 .if2 .left)) in
+    (λ c κs. tt)
+    (λ c. let i3 = c .before in let go = i3 .before in let pl = go .before in let bg = pl .before .before .before .before in let i2 = bg .before .before .before .before .before .before .before in let ac = i2 .before in let rd = ac .before in let i1 = rd .before in let A = net-accepted (rd .read-net .ensures) (sym (ac .accepted .ensures) ∙ not-false _ (i2 .if2 .left)) in
     let G = pl .play-log .ensures (A .net) (net-arcs A) (A .holds .counts .transitions) (bg .begin .ensures (A .net) (net-tokens A)) in
-    refuses-log (pl .play-log .result .answer) (i1 .if1 .left) (A .is) (log-refused (pl .play-log .result .answer) G (sym (go .goes .ensures) ∙ not-true _ (c .if3 .taken))))
+    refuses-log (pl .play-log .result .answer) (i1 .if1 .left) (A .is) (log-refused (pl .play-log .result .answer) G (sym (go .goes .ensures) ∙ not-true _ (i3 .if3 .taken))) (c .of-log .ensures))
     (λ c κs. let i3 = c .before .before .before .before in let go = i3 .before in let pl = go .before in let bg = pl .before .before .before .before in let i2 = bg .before .before .before .before .before .before .before in let ac = i2 .before in let rd = ac .before in let i1 = rd .before in let s = i1 .before .before .before .before in let A = net-accepted (rd .read-net .ensures) (sym (ac .accepted .ensures) ∙ not-false _ (i2 .if2 .left)) in
     let G = pl .play-log .ensures (A .net) (net-arcs A) (A .holds .counts .transitions) (bg .begin .ensures (A .net) (net-tokens A)) in
     let E = log-accepted (pl .play-log .result .answer) G (sym (go .goes .ensures) ∙ not-false _ (i3 .if3 .left)) in
