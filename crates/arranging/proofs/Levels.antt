@@ -1,33 +1,69 @@
--- The levels of a record's events in an array, and the room that its arrangement takes.
-use Prim.Native.Nat.{ℕ, _≤_, _<_}
-use mathlib.Core.Path.{_≡_, sym, _∙_}
+-- The levels of a record's events in a table and in an array, and the room that its arrangement takes.
+use Prim.Native.Nat.{ℕ, _-_, _≤_}
+use mathlib.Core.Path.{_≡_, sym, ap₂, _∙_}
 use mathlib.Core.List.{List}
 use native.Mathlib.Omega.{arith}
-use lib.ListN.{length, getD}
-use lib.Seq.{ext-getD}
-use Rattle.spec.specs.Lists.{upTo}
+use lib.ListN.{length, take}
+use lib.Seq.{length-take-le, getD-take}
 use Rattle.spec.specs.Net.{Net}
 use Rattle.spec.specs.Record.{RunRecord}
 use Rattle.spec.specs.Process.{Process, WellFormed}
-use Rattle.spec.specs.Arrange.{longest, levels, arrangedLines, arrangementBytes}
-use Rattle.lists.specs.Laws.{length-map, length-upTo}
+use Rattle.spec.specs.Arrange.{longest, levels, lineCount, arrangedLines, arrangementBytes}
+use Rattle.lists.specs.Mapped.{Mapped}
+use Rattle.lists.specs.Tables.{length-table, table-is}
 use Rattle.order.specs.Level.{lev, lev-same}
-use Rattle.runs.specs.Values.{orderOf}
+use Rattle.order.specs.Order.{Order, order-same}
+use Rattle.order.specs.Table.{cellAt}
+use Rattle.runs.specs.Values.{orderOf, order}
 use Rattle.runs.specs.Levels.{level-at, arranged-keeps}
 use Rattle.runs.specs.Sizes.{arrangement-size}
+use Rattle.writing.specs.Written.{Wrote}
+use Rattle.writing.proofs.Laws.{put-over}
+use Rattle.checking.specs.Relation.{HoldsOrder}
+use Rattle.arranging.specs.Answers.{levelsIn, WritesLines}
+use Rattle.arranging.specs.declared.ArrangeAnswer.the-variants.{Arranged}
+
+-- ---- a table that has the closed order of a record
 
 levels-length : (R : RunRecord) → length (levels R) ≡ length (R .events)
 unfolding levels
-levels-length R = length-map (longest R (length (R .events))) (upTo (length (R .events))) ∙ length-upTo (length (R .events))
+levels-length R = length-table (longest R (length (R .events))) (length (R .events))
 
 module _ (N : Net) (R : RunRecord) (W : WellFormed N R) (P : Process N R) where
-  -- the levels of a table that has the closed order of the events
-  pub levels-held : (c : ℕ → ℕ → ℕ) (xs : List ℕ) → length xs ≡ length (R .events) → ((e f : ℕ) → e < length (R .events) → f < length (R .events) → c e f ≡ orderOf R e f)
-      → ((e : ℕ) → e < length (R .events) → getD xs e 0 ≡ lev (length (R .events)) c e) → xs ≡ levels R
-  levels-held c xs l h k = ext-getD 0 xs (levels R) (l ∙ sym (levels-length R)) (λ e m.
-      let m′ : e < length (R .events) = omega arith in
-      k e m′ ∙ lev-same (length (R .events)) c (orderOf R) h e m′ ∙ sym (level-at N R W P e m′))
-
   -- "buffer under 768 bytes": 768 are enough
-  pub lines-fit : length (R .events) ≤ 128 → length (arrangementBytes (arrangedLines (levels R))) ≤ 768
+  lines-fit : length (R .events) ≤ 128 → length (arrangementBytes (arrangedLines (levels R))) ≤ 768
   lines-fit h = arrangement-size (length (R .events)) (arrangedLines (levels R)) (arranged-keeps N R W P .arranged) h
+
+  module _ (n : ℕ) (t : List ℕ) (q : n ≡ length (R .events)) (o : HoldsOrder R t) where
+    -- it is a closed order,
+    pub order-held : Order n (cellAt 128 t)
+    order-held = rw q (order-same (length (R .events)) (cellAt 128 t) (orderOf R) (o .cell) (order N R W P))
+
+    -- its levels are those of the record's events,
+    pub levels-held : levelsIn n t ≡ levels R
+    unfolding levelsIn
+    levels-held = rw q (table-is 0 (lev (length (R .events)) (cellAt 128 t)) (length (R .events)) (levels R) (levels-length R) (λ e m.
+        lev-same (length (R .events)) (cellAt 128 t) (orderOf R) (o .cell) e m ∙ sym (level-at N R W P e m)))
+
+    -- and their lines fit the buffer
+    pub lines-held : n ≤ 128 → length (arrangementBytes (arrangedLines (levelsIn n t))) ≤ 768
+    lines-held h = rw levels-held (lines-fit (omega arith))
+
+-- ---- an array whose first n entries are the levels, and its lines written
+
+module _ (n : ℕ) (t : List ℕ) {blank a : List ℕ} (l : n ≤ length blank) (m : Mapped blank n (lev n (cellAt 128 t)) a) where
+  levels-stand : take (n - 0) a ≡ levelsIn n t
+  unfolding levelsIn
+  levels-stand =
+      let e : n - 0 ≡ n = omega arith in
+      rw e (sym (table-is 0 (lev n (cellAt 128 t)) n (take n a) (length-take-le n a (omega (arith, m .long))) (λ e h. sym (getD-take n a e 0 h ∙ m .here e h))))
+
+  pub lines-room : {k : ℕ} → length (arrangementBytes (arrangedLines (levelsIn n t))) ≤ k → length (arrangementBytes (arrangedLines (take (n - 0) a))) ≤ k
+  lines-room room = rw levels-stand room
+
+  pub lines-written : {old new : List ℕ} {bytes lines : ℕ} → length (arrangementBytes (arrangedLines (levelsIn n t))) ≤ length old
+      → lines ≡ lineCount (take (n - 0) a) → Wrote old 0 (arrangementBytes (arrangedLines (take (n - 0) a))) bytes new → WritesLines (levelsIn n t) old (Arranged bytes lines) new
+  lines-written {old} room c w = rw (← levels-stand) (record {
+    answer = ap₂ Arranged (omega (arith, w .next)) c;
+    leaves = w .bytes ∙ put-over old (arrangementBytes (arrangedLines (take (n - 0) a))) (lines-room room);
+  })

@@ -1,0 +1,71 @@
+-- Arranging, from its buffer to its answer.
+use Prim.Native.Nat.{ℕ, _≤_, _<_}
+use mathlib.Core.Path.{_≡_, refl, sym, ap, _∙_}
+use mathlib.Core.List.{List}
+use native.Mathlib.Nat.{le-trans}
+use lib.ListN.{length}
+use borrow.Author.Tests.{lt-ltb, le-ltb}
+use Rattle.spec.specs.Answer.{Answer, gives, refuses, _>>=_, _>>_, refuse_at_when_, returned}
+use Rattle.spec.specs.Record.{bench}
+use Rattle.spec.specs.Arrange.{Arranged as ArrangedD, levels, arrangedLines, arrangementBytes, arranged, arrange}
+use Rattle.spec.specs.Buffer.{leaves, arrangeLeaves}
+use Rattle.order.specs.Order.{Order}
+use Rattle.order.specs.Table.{cellAt}
+use Rattle.runs.specs.Answers.{not-refused}
+use Rattle.text.specs.Agree.{giving, refusing}
+use Rattle.checking.specs.Accepting.{verdictOf, Accepts}
+use Rattle.checking.specs.declared.Refusal.{Refusal}
+use Rattle.checking.specs.declared.Verdict.the-variants.{Given, Refused as Unaccepted}
+use Rattle.checking.specs.declared.Accepted.{Accepted}
+use Rattle.checking.proofs.CheckAnswers.{accepted-process}
+use Rattle.arranging.specs.Answers.{levelsIn, WritesLines, answerOf, arrangedCounts, Arranges}
+use Rattle.arranging.specs.declared.ArrangeAnswer.{ArrangeAnswer}
+use Rattle.arranging.specs.declared.ArrangeAnswer.the-variants.{BufferShort, Refused}
+use Rattle.arranging.proofs.Levels.{order-held, levels-held, lines-held}
+
+module _ (net text old : List ℕ) where
+  -- the answer and the buffer, once the definition's answer is known
+  arrange-is : (x : Answer ArrangedD) {r : ArrangeAnswer} {new : List ℕ} → arrange net text (length old) ≡ x → answerOf r ≡ returned arrangedCounts x → new ≡ arrangeLeaves x old → Arranges net text old r new
+  arrange-is x e y z = record { answer = y ∙ sym (ap (returned arrangedCounts) e); leaves = z ∙ sym (ap (λ a. arrangeLeaves a old) e) }
+
+  -- a refusal leaves the buffer as it was
+  refuses-all : {n s : ℕ} (r : ArrangeAnswer) → arrange net text (length old) ≡ refuses n s → answerOf r ≡ refuses n s → Arranges net text old r old
+  unfolding returned arrangeLeaves leaves
+  refuses-all {n} {s} r e y = arrange-is (refuses n s) e y refl
+
+  -- 50
+  pub short-arranges : length old < 768 → Arranges net text old BufferShort old
+  unfolding arrange refuse_at_when_ _>>_
+  short-arranges h = refuses-all BufferShort (rw (lt-ltb (length old) 768 h)) refl
+
+  module _ (room : 768 ≤ length old) {a : Accepted} {t : List ℕ} where
+    -- a refusal of the net or the record
+    pub refused-arranges : {x : Refusal} → a .verdict ≡ Unaccepted x → Accepts bench net text a t → Arranges net text old (Refused x) old
+    unfolding arrange refuse_at_when_ _>>_ _>>=_ returned
+    refused-arranges q (giving b e y H) = not-refused (sym (ap verdictOf q) ∙ y)
+    refused-arranges {x} q (refusing n s e y) =
+        refuses-all (Refused x) (rw (le-ltb (length old) 768 room, e)) (ap (returned (λ (u : Unit {0}). (0, 0))) (sym (ap verdictOf q) ∙ y))
+
+    module _ (q : a .verdict ≡ Given) where
+      -- an accepted record: its order is in the table, and its lines fit the buffer
+      pub given-ready : 16384 ≤ length t → Accepts bench net text a t
+          → (a .events ≤ 128) × (16384 ≤ length t) × Order (a .events) (cellAt 128 t) × (length (arrangementBytes (arrangedLines (levelsIn (a .events) t))) ≤ length old)
+      given-ready long (refusing n s e y) = not-refused (sym y ∙ ap verdictOf q)
+      given-ready long (giving b e y H) =
+          let w = accepted-process bench net text b e in
+          let B = H .bytes in (
+            B .few,
+            long,
+            order-held (b .net) (b .run) (w .0) (w .1) (a .events) t (B .events) (B .order),
+            le-trans (lines-held (b .net) (b .run) (w .0) (w .1) (a .events) t (B .events) (B .order) (B .few)) room,
+          )
+
+      -- and they are what is written
+      pub given-arranges : {r : ArrangeAnswer} {new : List ℕ} → Accepts bench net text a t → WritesLines (levelsIn (a .events) t) old r new → Arranges net text old r new
+      unfolding arrange arranged refuse_at_when_ _>>_ _>>=_ returned arrangeLeaves leaves
+      given-arranges (refusing n s e y) W = not-refused (sym y ∙ ap verdictOf q)
+      given-arranges {r} {new} (giving b e y H) W =
+          let w = accepted-process bench net text b e in
+          let z = levels-held (b .net) (b .run) (w .0) (w .1) (a .events) t (H .bytes .events) (H .bytes .order) in
+          let X : WritesLines (levels (b .run)) old r new = rw (← z) W in
+          arrange-is (gives (arranged (b .run))) (rw (le-ltb (length old) 768 room, e)) (ap answerOf (X .answer)) (X .leaves)
