@@ -9,7 +9,7 @@ use borrow.Author.Tests.{lt-ltb, le-ltb}
 use Rattle.spec.specs.Lists.{from, first, lowest}
 use Rattle.spec.specs.Answer.{gives, refuses, _>>_, refuse_at?_}
 use Rattle.lists.specs.Search.{lowest-start, first-hit, first-on, first-end}
-use Rattle.replaying.specs.Replays.{missingIn, finished}
+use Rattle.replaying.specs.Arrangement.{missingIn, finished}
 
 module _ (xs : List ℕ) (n : ℕ) where
   -- the lowest one from e on is the lowest of all

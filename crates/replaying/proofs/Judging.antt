@@ -21,7 +21,7 @@ use Rattle.text.specs.Agree.{giving, refusing}
 use Rattle.net.specs.Holds.{lineOf}
 use Rattle.steps.specs.Holds.{Few, Begins}
 use Rattle.replaying.specs.Lined.{TellsOrder, Stands, Lined, Sound, Enters, breaksIn}
-use Rattle.replaying.specs.Replays.{answerOf, goesOf, Judged}
+use Rattle.replaying.specs.Arrangement.{answerOf, goesOf, Judged}
 use Rattle.replaying.specs.declared.Group.{Group}
 use Rattle.replaying.specs.declared.ArrangementAnswer.{ArrangementAnswer}
 use Rattle.replaying.specs.declared.ArrangementAnswer.the-variants.{Keeps, Malformed, Unknown, Repeated, Broken}

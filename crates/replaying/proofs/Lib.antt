@@ -8,3 +8,4 @@ pub mod Judging
 pub mod Markings
 pub mod Running
 pub mod Telling
+pub mod Operation

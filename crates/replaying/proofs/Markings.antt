@@ -19,7 +19,7 @@ use Rattle.net.specs.Holds.{Cells}
 use Rattle.net.specs.declared.Net.{Net}
 use Rattle.steps.specs.Holds.{cellAt}
 use Rattle.replaying.specs.Rows.{transitionsOf, rowIn, Rows}
-use Rattle.replaying.specs.Replays.{Describes}
+use Rattle.replaying.specs.Arrangement.{Describes}
 use Rattle.lists.specs.Rows.{rows-are}
 
 -- sums over transitions of the net, read in an array of arcs

@@ -25,7 +25,7 @@ use Rattle.steps.specs.Holds.{HoldsStep, IsStep, cellAt, Sums}
 use Rattle.steps.proofs.Rows.{sums-none}
 use Rattle.replaying.specs.Lined.{TellsOrder, Stands, Lined, Sound}
 use Rattle.replaying.specs.Rows.{transitionsOf, AddsStep, leftOf, Rows}
-use Rattle.replaying.specs.Replays.{answerOf, goesOf, HoldsGroup, Judged, Judges, missingIn, finished, Ready, Blank, Replays}
+use Rattle.replaying.specs.Arrangement.{answerOf, goesOf, HoldsGroup, Judged, Judges, missingIn, finished, Ready, Blank, ReplaysLines}
 use Rattle.replaying.specs.declared.Group.{Group}
 use Rattle.replaying.specs.declared.ArrangementAnswer.{ArrangementAnswer}
 use Rattle.replaying.specs.declared.ArrangementAnswer.the-variants.{Keeps, Malformed, Unknown, Repeated, Broken, Missing}
@@ -34,7 +34,7 @@ use Rattle.replaying.proofs.Counts.{rows-none, rows-kept, rows-more}
 use Rattle.replaying.proofs.Judging.{events-few, lines-few, events-low}
 use Rattle.replaying.proofs.Markings.{rows-held}
 
-goes-given : (a : ArrangementAnswer) → isGiven (answerOf a) ≡ goesOf a
+pub goes-given : (a : ArrangementAnswer) → isGiven (answerOf a) ≡ goesOf a
 goes-given (Keeps k) = refl
 goes-given (Malformed k) = refl
 goes-given (Unknown k) = refl
@@ -127,7 +127,7 @@ module _ {n places : ℕ} {tokens inputs outputs trans t text : List ℕ} {k at 
     judged = j (g .groups) (g .reading .lined)
 
     -- it is refused
-    pub stop : (net : Net) (rows : List ℕ) → goesOf (v .answer) ≡ false → Replays net n trans t text (v .answer) rows
+    pub stop : (net : Net) (rows : List ℕ) → goesOf (v .answer) ≡ false → ReplaysLines net n trans t text (v .answer) rows
     stop net rows f N R H = go (judged .answer R (H .order))
       where
         go : Agrees length (answerOf (v .answer)) (λ gs. gs ≡ g .groups ++ numbersOf mostDigits l ∷ []) (groupsLine R k (lineOf l ended) (g .groups)) → Agrees length (answerOf (v .answer)) (λ gs. rows ≡ replayed N R gs .counts) (readArrangement R text)
@@ -190,7 +190,7 @@ module _ {n places : ℕ} {tokens inputs outputs trans t text : List ℕ} {k at 
 
 -- no line is left
 pub done : {net : Net} {n : ℕ} {trans t text : List ℕ} {k at : ℕ} {stands md tk rs : List ℕ} (a : ArrangementAnswer) → Running n (net .places) (net .tokens) (net .inputs) (net .outputs) trans t text k at stands md tk rs
-    → length text ≤ at → answerOf a ≡ finished stands n (k - 1) → Replays net n trans t text a rs
+    → length text ≤ at → answerOf a ≡ finished stands n (k - 1) → ReplaysLines net n trans t text a rs
 unfolding finished _>>_ refuse_at?_
 done {net} {n} {trans} {text} {k} {at} {stands} {rs} a g h e N R H =
     go (lowest (missing gs) (length (R .events))) refl

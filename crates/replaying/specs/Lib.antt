@@ -1,3 +1,4 @@
 pub mod Lined
 pub mod Rows
-pub mod Replays
+pub mod Arrangement
+pub mod Replaying

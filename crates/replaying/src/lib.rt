@@ -5,15 +5,21 @@ ghost use lib.ListN.{length, getD, take};
 ghost use Rattle.spec.specs.Lists.{In};
 ghost use Rattle.spec.specs.Text.{mostDigits};
 ghost use Rattle.spec.specs.Forms.{numbersOf};
+ghost use Rattle.spec.specs.Replay.{replay};
 ghost use Rattle.spec.specs.Buffer.{over};
 ghost use Rattle.lists.specs.Mapped.{Mapped};
 ghost use Rattle.lists.specs.Stretch.{MappedFrom};
 ghost use Rattle.steps.specs.Holds.{IsStep, HoldsStep};
 ghost use Rattle.replaying.specs.Lined.{Sound, Enters, lateIn, lateFor, breaksIn};
 ghost use Rattle.replaying.specs.Rows.{transitionsOf, together, AddsStep, leftOf};
-ghost use Rattle.replaying.specs.Replays.{answerOf, goesOf, finished, Judges, Ready, Blank, Replays};
+ghost use Rattle.replaying.specs.Arrangement.{answerOf, goesOf, finished, Judges, Ready, Blank, ReplaysLines};
+ghost use Rattle.replaying.specs.Replaying.{Replays};
+use checking::Refusal;
+use checking::Verdict;
+use checking::accept;
 use net::Net;
 use spec::Class;
+use spec::Limits;
 use steps::any_unknown;
 use steps::count_numbers;
 use steps::is_list_line;
@@ -31,6 +37,13 @@ pub enum ArrangementAnswer {
     Repeated(usize),
     Broken(usize),
     Missing(usize),
+}
+
+// What replaying answers: that the buffer is short, why the net or the record is refused, or the answer to the arrangement.
+pub enum ReplayAnswer {
+    BufferShort,
+    Refused(Refusal),
+    Lines(ArrangementAnswer),
 }
 
 // The answer to a line, and its events.
@@ -243,7 +256,7 @@ fn put_row(
 // ---- a whole arrangement
 
 // The lines are judged, and the marking after each goes into its row.
-pub fn replay_lines(
+fn replay_lines(
     net: Net,
     n: usize,
     trans: &[u8; 128],
@@ -252,7 +265,7 @@ pub fn replay_lines(
     rows: &mut [u16; 4128],
 ) -> ArrangementAnswer
     requires { ⌜ Ready n (net .places) (net .tokens) (now trans) (now t) × Blank (now rows) ⌝ }
-    ensures { λ r. ⌜ Replays net n (now (trans .entry)) (now (t .entry)) (now (text .entry)) r (now (rows .exit)) ⌝ }
+    ensures { λ r. ⌜ (length (now (rows .exit)) ≡ 4128) × ReplaysLines net n (now (trans .entry)) (now (t .entry)) (now (text .entry)) r (now (rows .exit)) ⌝ }
 {
     let places = net.places;
     let tokens = net.tokens;
@@ -285,7 +298,7 @@ pub fn replay_lines(
 }
 
 // The rows go into the lent buffer.
-pub fn copy_rows(rows: &[u16; 4128], out: &mut [u16])
+fn copy_rows(rows: &[u16; 4128], out: &mut [u16])
     requires { ⌜ (length (now rows) ≡ 4128) × (4128 ≤ length (now out)) ⌝ }
     ensures { λ _. ⌜ now (out .exit) ≡ over (now (rows .entry)) (now (out .entry)) ⌝ }
 {
@@ -294,4 +307,39 @@ pub fn copy_rows(rows: &[u16; 4128], out: &mut [u16])
         out[i] = rows[i];
         i += 1;
     }
+}
+
+// "Replay: 40 under 4,128 counts (spot 0); net's; check's but 30; ..": an arrangement of the record in a text, over the net
+// in another, is judged, and the marking after each of its lines is written. On a refusal nothing is written.
+pub fn replay(net: &[u8], text: &[u8], arrangement: &[u8], out: &mut [u16]) -> ReplayAnswer
+    ensures { λ r. ⌜ Replays (replay (now (net .entry)) (now (text .entry)) (now (arrangement .entry)) (length (now (out .entry)))) (now (out .entry)) r (now (out .exit)) ⌝ }
+{
+    if out.len() < 4128 {
+        return ReplayAnswer::BufferShort;
+    }
+    let bench = Limits {
+        events: 128,
+        conditions: 512,
+        marks: 4096,
+    };
+    let mut table = [0u8; 16384];
+    let accepted = accept(net, text, bench, &mut table);
+    let verdict = accepted.verdict;
+    if let Verdict::Refused(why) = verdict {
+        return ReplayAnswer::Refused(why);
+    }
+    let transitions = accepted.transitions;
+    let mut rows = [0u16; 4128];
+    let answer = replay_lines(
+        accepted.net,
+        accepted.events,
+        &transitions,
+        &table,
+        arrangement,
+        &mut rows,
+    );
+    if goes(answer) {
+        copy_rows(&rows, out);
+    }
+    ReplayAnswer::Lines(answer)
 }

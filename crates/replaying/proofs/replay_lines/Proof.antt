@@ -28,8 +28,8 @@ replay-lines-spec = tie.close (tie.spec Inv-loop μ-loop
     (λ c. omega arith)
     (λ c κs. sound (c .before .before .before .before .loop .inv .1))
     (λ c κs. tt)
-    (λ c. let j = c .before .before in let l = j .before .before .before in
-    stop (l .before .before .loop .inv .1) (l .line-at .result .next) (l .line-at .ensures .lines) (j .judge-line .ensures) _ _ (sym (c .before .goes .ensures) ∙ not-true _ (c .if1 .taken)))
+    (λ c. let j = c .before .before in let l = j .before .before .before in let g = l .before .before .loop .inv .1 in
+    (g .played .rows .long, stop g (l .line-at .result .next) (l .line-at .ensures .lines) (j .judge-line .ensures) _ _ (sym (c .before .goes .ensures) ∙ not-true _ (c .if1 .taken))))
     (λ c κs. let i = c .before .before in let j = i .before .before in let l = j .before .before .before in
     group-known (l .before .before .loop .inv .1) (l .line-at .result .next) (l .line-at .ensures .lines) (j .judge-line .ensures) (sym (i .before .goes .ensures) ∙ not-false _ (i .if1 .left)))
     (λ c κs. let s = c .before .before .before in let i = s .before .before .before in let j = i .before .before in let l = j .before .before .before in
@@ -46,4 +46,4 @@ replay-lines-spec = tie.close (tie.spec Inv-loop μ-loop
     (omega (arith, l .line-at .ensures .next), turn (l .before .before .loop .inv .1) (l .line-at .result .next) (l .line-at .ensures .lines) (j .judge-line .ensures) (sym (i .before .goes .ensures) ∙ not-false _ (i .if1 .left)) (s .transitions-of .ensures) (m .add-step .ensures) (u .add-step2 .ensures) (c .put-row2 .ensures)))
     (λ c. omega (arith, c .before .before .loop .inv .1 .reading .lined .lines))
     (λ c κs. c .before .before .loop .inv .1 .ready .few)
-    (λ c. done (c .finish .result) (c .before .before .before .loop .inv .1) (c .before .before .loop-test .left) (c .finish .ensures)))
+    (λ c. let g = c .before .before .before .loop .inv .1 in (g .played .rows .long, done (c .finish .result) g (c .before .before .loop-test .left) (c .finish .ensures))))

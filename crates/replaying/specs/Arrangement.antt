@@ -1,4 +1,4 @@
--- What the functions of replaying promise.
+-- What judging and playing the lines of an arrangement promises.
 use Prim.Native.Nat.{ℕ, _+_, _≤_, _<_}
 use mathlib.Core.Path.{_≡_}
 use mathlib.Core.Bool.{Bool, true, false, not}
@@ -88,6 +88,6 @@ pub record Describes (net : Net) (n : ℕ) (trans t : List ℕ) (N : NetD) (R : 
   pub transition : (e : ℕ) → e < n → getD trans e 0 ≡ transitionOf R e
 
 -- the answer is that of the definitions, and where the text is an arrangement the rows are its markings
-abbrev pub Replays : Net → ℕ → List ℕ → List ℕ → List ℕ → ArrangementAnswer → List ℕ → Type 0
-Replays net n trans t text a rows =
+abbrev pub ReplaysLines : Net → ℕ → List ℕ → List ℕ → List ℕ → ArrangementAnswer → List ℕ → Type 0
+ReplaysLines net n trans t text a rows =
     (N : NetD) (R : RunRecord) → Describes net n trans t N R → Agrees length (answerOf a) (λ gs. rows ≡ replayed N R gs .counts) (readArrangement R text)
