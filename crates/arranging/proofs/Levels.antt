@@ -52,7 +52,7 @@ module _ (N : Net) (R : RunRecord) (W : WellFormed N R) (P : Process N R) where
 -- ---- an array whose first n entries are the levels, and its lines written
 
 module _ (n : ℕ) (t : List ℕ) {blank a : List ℕ} (l : n ≤ length blank) (m : Mapped blank n (lev n (cellAt 128 t)) a) where
-  levels-stand : take (n - 0) a ≡ levelsIn n t
+  pub levels-stand : take (n - 0) a ≡ levelsIn n t
   unfolding levelsIn
   levels-stand =
       let e : n - 0 ≡ n = omega arith in

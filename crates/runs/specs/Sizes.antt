@@ -30,7 +30,7 @@ use Rattle.runs.specs.ReadRecord.{Fits}
 -- ---- lines
 
 -- a field and the comma in front of it
-abbrev wide : Field → ℕ
+abbrev pub wide : Field → ℕ
 wide f = suc (length (fieldBytes f))
 
 fields-wide : (fs : List Field) → length (fieldsBytes fs) ≡ sumOf wide fs
@@ -38,11 +38,11 @@ unfolding fieldsBytes sumOf
 fields-wide [] = refl
 fields-wide (f ∷ fs) = omega (arith, length-append (fieldBytes f) (fieldsBytes fs), fields-wide fs)
 
-line-wide : (c : Char) (fs : List Field) → length (line c fs) ≡ 2 + sumOf wide fs
+pub line-wide : (c : Char) (fs : List Field) → length (line c fs) ≡ 2 + sumOf wide fs
 unfolding line
 line-wide c fs = omega (arith, length-append (fieldsBytes fs) (10 ∷ []), fields-wide fs)
 
-number-wide : (k n : ℕ) → 1 ≤ k → n < 10 ^ k → length (fieldBytes (Number n)) ≤ k
+pub number-wide : (k n : ℕ) → 1 ≤ k → n < 10 ^ k → length (fieldBytes (Number n)) ≤ k
 unfolding fieldBytes
 number-wide k n l h = width mostDigits k n l h
 

@@ -1,0 +1,169 @@
+// Each answer as document 01's number and spot, and the values that an operation returns.
+ghost use mathlib.Core.Path.{_≡_};
+ghost use Rattle.spec.specs.Answer.{gives, refuses, returned};
+ghost use Rattle.net.specs.Holds.{answerOf as netAnswer};
+ghost use Rattle.building.specs.Holds.{buildAnswer};
+ghost use Rattle.checking.specs.Accepting.{refusedBy};
+ghost use Rattle.checking.specs.Checking.{checkOf};
+ghost use Rattle.replaying.specs.Arrangement.{answerOf as arrangementAnswer};
+ghost use Rattle.replaying.specs.Replaying.{replayOf};
+ghost use Rattle.arranging.specs.Answers.{answerOf as arrangeAnswer};
+ghost use Rattle.refused.specs.Shown.{answerOf as lineAnswer};
+ghost use Rattle.numbers.specs.Values.{numbersOf, one, two};
+use arranging::ArrangeAnswer;
+use building::BuildAnswer;
+use checking::CheckAnswer;
+use checking::Refusal;
+use net::NetAnswer;
+use refused::LineAnswer;
+use replaying::ArrangementAnswer;
+use replaying::ReplayAnswer;
+
+// What the C interface returns: the number and the spot, 0 where a call is accepted, and its values.
+#[repr(C)]
+pub struct Numbers {
+    pub number: u64,
+    pub spot: u64,
+    pub a: u64,
+    pub b: u64,
+    pub c: u64,
+}
+
+fn accepted(a: usize, b: usize, c: usize) -> Numbers
+    ensures { λ r. ⌜ r ≡ numbersOf (gives (a, b, c)) ⌝ }
+{
+    Numbers {
+        number: 0,
+        spot: 0,
+        a: a as u64,
+        b: b as u64,
+        c: c as u64,
+    }
+}
+
+fn refused(number: u64, spot: usize) -> Numbers
+    ensures { λ r. ⌜ r ≡ numbersOf (refuses number spot) ⌝ }
+{
+    Numbers {
+        number,
+        spot: spot as u64,
+        a: 0,
+        b: 0,
+        c: 0,
+    }
+}
+
+// Reading a net: places and transitions.
+pub fn of_net(x: NetAnswer) -> Numbers
+    ensures { λ r. ⌜ r ≡ numbersOf (returned two (netAnswer x)) ⌝ }
+{
+    match x {
+        NetAnswer::Accepted(p, t) => accepted(p, t, 0),
+        NetAnswer::Malformed(k) => refused(11, k),
+        NetAnswer::LimitPassed(k) => refused(12, k),
+        NetAnswer::Undeclared(k) => refused(13, k),
+        NetAnswer::ArcRepeated(k) => refused(14, k),
+        NetAnswer::Lacking(t) => refused(15, t),
+    }
+}
+
+// Building: bytes written.
+pub fn of_build(x: BuildAnswer) -> Numbers
+    ensures { λ r. ⌜ r ≡ numbersOf (returned one (buildAnswer x)) ⌝ }
+{
+    match x {
+        BuildAnswer::Written(n) => accepted(n, 0, 0),
+        BuildAnswer::BufferShort => refused(20, 0),
+        BuildAnswer::NetMalformed(k) => refused(11, k),
+        BuildAnswer::NetLimitPassed(k) => refused(12, k),
+        BuildAnswer::NetUndeclared(k) => refused(13, k),
+        BuildAnswer::ArcRepeated(k) => refused(14, k),
+        BuildAnswer::Lacking(t) => refused(15, t),
+        BuildAnswer::Malformed(k) => refused(21, k),
+        BuildAnswer::UnknownTransition(k) => refused(22, k),
+        BuildAnswer::OverEvents(k) => refused(23, k),
+        BuildAnswer::TooFewTokens(k) => refused(24, k),
+        BuildAnswer::Inhibited(k) => refused(25, k),
+        BuildAnswer::OverConditions(k) => refused(26, k),
+        BuildAnswer::OverMarks(k) => refused(27, k),
+    }
+}
+
+// What a net or a record is refused for, by the check, by replaying and by arranging.
+fn of_refusal(x: Refusal) -> Numbers
+    ensures { λ r. ⌜ r ≡ numbersOf (refusedBy x) ⌝ }
+{
+    match x {
+        Refusal::NetMalformed(k) => refused(11, k),
+        Refusal::NetLimitPassed(k) => refused(12, k),
+        Refusal::NetUndeclared(k) => refused(13, k),
+        Refusal::ArcRepeated(k) => refused(14, k),
+        Refusal::Lacking(t) => refused(15, t),
+        Refusal::Malformed(k) => refused(31, k),
+        Refusal::LimitPassed(k) => refused(32, k),
+        Refusal::Undeclared(k) => refused(33, k),
+        Refusal::MarkedAlready(k) => refused(34, k),
+        Refusal::WrongInitial(p) => refused(35, p),
+        Refusal::WrongArcs(e) => refused(36, e),
+        Refusal::WrongMarks(e) => refused(37, e),
+        Refusal::WrongKind(e) => refused(38, e),
+        Refusal::BeforeItself(e) => refused(39, e),
+    }
+}
+
+// The check: events, conditions and independent pairs.
+pub fn of_check(x: CheckAnswer) -> Numbers
+    ensures { λ r. ⌜ r ≡ numbersOf (checkOf x) ⌝ }
+{
+    match x {
+        CheckAnswer::Checked(n, m, k) => accepted(n, m, k),
+        CheckAnswer::ShortBuffer => refused(30, 0),
+        CheckAnswer::Refused(y) => of_refusal(y),
+    }
+}
+
+// The lines of an arrangement: how many were played.
+fn of_lines(x: ArrangementAnswer) -> Numbers
+    ensures { λ r. ⌜ r ≡ numbersOf (returned one (arrangementAnswer x)) ⌝ }
+{
+    match x {
+        ArrangementAnswer::Keeps(n) => accepted(n, 0, 0),
+        ArrangementAnswer::Malformed(k) => refused(41, k),
+        ArrangementAnswer::Unknown(k) => refused(42, k),
+        ArrangementAnswer::Repeated(k) => refused(43, k),
+        ArrangementAnswer::Broken(k) => refused(44, k),
+        ArrangementAnswer::Missing(e) => refused(45, e),
+    }
+}
+
+// Replaying: lines played.
+pub fn of_replay(x: ReplayAnswer) -> Numbers
+    ensures { λ r. ⌜ r ≡ numbersOf (returned one (replayOf x)) ⌝ }
+{
+    match x {
+        ReplayAnswer::BufferShort => refused(40, 0),
+        ReplayAnswer::Refused(y) => of_refusal(y),
+        ReplayAnswer::Lines(y) => of_lines(y),
+    }
+}
+
+// Arranging: bytes written and lines.
+pub fn of_arrange(x: ArrangeAnswer) -> Numbers
+    ensures { λ r. ⌜ r ≡ numbersOf (returned two (arrangeAnswer x)) ⌝ }
+{
+    match x {
+        ArrangeAnswer::Arranged(bytes, lines) => accepted(bytes, lines, 0),
+        ArrangeAnswer::BufferShort => refused(50, 0),
+        ArrangeAnswer::Refused(y) => of_refusal(y),
+    }
+}
+
+// The refused line: where it starts, and its length.
+pub fn of_line(x: LineAnswer) -> Numbers
+    ensures { λ r. ⌜ r ≡ numbersOf (returned two (lineAnswer x)) ⌝ }
+{
+    match x {
+        LineAnswer::Shown(start, length) => accepted(start, length, 0),
+        LineAnswer::NoSuchLine(k) => refused(46, k),
+    }
+}

@@ -1,0 +1,4 @@
+pub mod Running
+pub mod Sizes
+pub mod Summary
+pub mod Printing
