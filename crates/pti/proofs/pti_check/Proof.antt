@@ -1,0 +1,12 @@
+use borrow.Author.Needs.{needs}
+use mathlib.Core.Path.{ap, _∙_}
+use Rattle.numbers.specs.Values.{numbersOf}
+use Rattle.pti.proofs.pti_check.Statement.{statement}
+use Rattle.pti.proofs.pti_check.Tie as tie
+
+pub pti-check-spec : {M : Type 1} → statement M
+pti-check-spec = tie.close (tie.spec
+    (λ c κs. search needs)
+    (λ c κs. search needs)
+    (λ c. search needs)
+    (λ c. (c .of-check .ensures ∙ ap numbersOf (c .before .before .before .check .ensures .answer), c .before .before .before .check .ensures .buffer)))

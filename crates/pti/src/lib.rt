@@ -1,0 +1,131 @@
+// Run records of PTI-nets: the operations of document 01 by slices, and the same for C.
+//
+// An operation's answer is an enum with a named case for each refusal. Its contract says, by a definition of the crate spec,
+// the number, spot and values of the answer and every byte of the lent buffer; none has a `requires`. A refusal writes
+// nothing, and past what an operation writes a buffer keeps its contents.
+ghost use mathlib.Core.Path.{_≡_};
+ghost use lib.ListN.{length};
+ghost use Rattle.spec.specs.Answer.{returned};
+ghost use Rattle.spec.specs.Net.{readNet};
+ghost use Rattle.spec.specs.Build.{build};
+ghost use Rattle.spec.specs.Check.{check};
+ghost use Rattle.spec.specs.Replay.{replay};
+ghost use Rattle.spec.specs.Arrange.{arrange};
+ghost use Rattle.spec.specs.Line.{refusedLine};
+ghost use Rattle.spec.specs.Program.{programInto};
+ghost use Rattle.spec.specs.Buffer.{buildLeaves, checkLeaves, replayLeaves, arrangeLeaves};
+ghost use Rattle.numbers.specs.Values.{numbersOf, one};
+ghost use Rattle.printing.specs.Prints.{printAnswer};
+ghost use Rattle.pti.specs.Values.{netValues, byteValues, checkValues, replayValues, arrangeValues, lineValues};
+pub use arranging::ArrangeAnswer;
+pub use arranging::arrange;
+pub use building::BuildAnswer;
+pub use building::build;
+pub use checking::CheckAnswer;
+pub use checking::Refusal;
+pub use checking::check;
+pub use net::NetAnswer;
+pub use net::NetRead;
+pub use net::read_net;
+pub use numbers::Numbers;
+use numbers::of_arrange;
+use numbers::of_build;
+use numbers::of_check;
+use numbers::of_line;
+use numbers::of_net;
+use numbers::of_replay;
+pub use printing::PrintAnswer;
+pub use printing::program;
+pub use refused::LineAnswer;
+pub use refused::refused_line;
+pub use refused::refused_line_answer;
+pub use replaying::ArrangementAnswer;
+pub use replaying::ReplayAnswer;
+pub use replaying::replay;
+
+// The numbers of what the program's operation answers.
+fn of_program(x: PrintAnswer) -> Numbers
+    ensures { λ r. ⌜ r ≡ numbersOf (returned one (printAnswer x)) ⌝ }
+{
+    let mut number: u64 = 0;
+    let mut bytes: u64 = 0;
+    match x {
+        PrintAnswer::Printed(n) => bytes = n as u64,
+        PrintAnswer::BufferShort => number = 20,
+    }
+    Numbers {
+        number,
+        spot: 0,
+        a: bytes,
+        b: 0,
+        c: 0,
+    }
+}
+
+// Reads a net. a: places, b: transitions.
+#[no_mangle]
+pub extern "C" fn pti_read_net(net: &[u8]) -> Numbers
+    ensures { λ r. ⌜ r ≡ numbersOf (returned netValues (readNet (now (net .entry)))) ⌝ }
+{
+    let read = read_net(net);
+    let answer = read.answer;
+    of_net(answer)
+}
+
+// Builds the record of a step log. a: bytes written.
+#[no_mangle]
+pub extern "C" fn pti_build(net: &[u8], log: &[u8], out: &mut [u8]) -> Numbers
+    ensures answer { λ r. ⌜ r ≡ numbersOf (returned byteValues (build (now (net .entry)) (now (log .entry)) (length (now (out .entry))))) ⌝ }
+    ensures buffer { λ r. ⌜ now (out .exit) ≡ buildLeaves (build (now (net .entry)) (now (log .entry)) (length (now (out .entry)))) (now (out .entry)) ⌝ }
+{
+    of_build(build(net, log, out))
+}
+
+// Checks a proposed record and writes its order. a: events, b: conditions, c: independent pairs.
+#[no_mangle]
+pub extern "C" fn pti_check(net: &[u8], text: &[u8], table: &mut [u8]) -> Numbers
+    ensures answer { λ r. ⌜ r ≡ numbersOf (returned checkValues (check (now (net .entry)) (now (text .entry)) (length (now (table .entry))))) ⌝ }
+    ensures buffer { λ r. ⌜ now (table .exit) ≡ checkLeaves (check (now (net .entry)) (now (text .entry)) (length (now (table .entry)))) (now (table .entry)) ⌝ }
+{
+    of_check(check(net, text, table))
+}
+
+// Replays an arrangement and writes the markings. a: lines played.
+#[no_mangle]
+pub extern "C" fn pti_replay(
+    net: &[u8],
+    text: &[u8],
+    arrangement: &[u8],
+    rows: &mut [u16],
+) -> Numbers
+    ensures answer { λ r. ⌜ r ≡ numbersOf (returned replayValues (replay (now (net .entry)) (now (text .entry)) (now (arrangement .entry)) (length (now (rows .entry))))) ⌝ }
+    ensures buffer { λ r. ⌜ now (rows .exit) ≡ replayLeaves (replay (now (net .entry)) (now (text .entry)) (now (arrangement .entry)) (length (now (rows .entry)))) (now (rows .entry)) ⌝ }
+{
+    of_replay(replay(net, text, arrangement, rows))
+}
+
+// Writes the shortest arrangement. a: bytes written, b: lines.
+#[no_mangle]
+pub extern "C" fn pti_arrange(net: &[u8], text: &[u8], out: &mut [u8]) -> Numbers
+    ensures answer { λ r. ⌜ r ≡ numbersOf (returned arrangeValues (arrange (now (net .entry)) (now (text .entry)) (length (now (out .entry))))) ⌝ }
+    ensures buffer { λ r. ⌜ now (out .exit) ≡ arrangeLeaves (arrange (now (net .entry)) (now (text .entry)) (length (now (out .entry)))) (now (out .entry)) ⌝ }
+{
+    of_arrange(arrange(net, text, out))
+}
+
+// Where a line stands, of the net text (choice 0) or the second text (choice 1). a: its start in that text, b: its length.
+#[no_mangle]
+pub extern "C" fn pti_refused_line(net: &[u8], second: &[u8], choice: u8, line: usize) -> Numbers
+    ensures { λ r. ⌜ r ≡ numbersOf (returned lineValues (refusedLine (now (net .entry)) (now (second .entry)) choice line)) ⌝ }
+{
+    of_line(refused_line_answer(net, second, choice, line))
+}
+
+// What the program prints for an input. a: bytes written, also of an `X` line.
+#[no_mangle]
+pub extern "C" fn pti_program(input: &[u8], out: &mut [u8]) -> Numbers
+    ensures answer { λ r. ⌜ r ≡ numbersOf (returned byteValues (programInto (now (input .entry)) (length (now (out .entry))))) ⌝ }
+    ensures buffer { λ r. ⌜ now (out .exit) ≡ buildLeaves (programInto (now (input .entry)) (length (now (out .entry)))) (now (out .entry)) ⌝ }
+{
+    of_program(program(input, out))
+}
