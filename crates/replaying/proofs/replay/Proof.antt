@@ -23,7 +23,7 @@ replay-spec = tie.close (tie.spec
     (λ c. search needs)
     (λ c κs. let g = c .before .before .before .before in let a = g .before .before .before in
     (ready (taken (g .enum-told .given .1) (a .accept .ensures .1)) (omega (arith, a .accept .ensures .0, length-replicate {A = ℕ} 16384 0)), record { long = length-replicate {A = ℕ} 4128 0; zero = blank 4128 }))
-    (λ c κs. search needs)
+    (λ c κs. tt)
     (λ c κs. search needs)
     (λ c. search needs)
     (λ c. let w = c .before .before in let i = w .before .before .before in let o = i .before in let p = o .before in let g = p .before .before .before .before .before in let a = g .before .before .before in

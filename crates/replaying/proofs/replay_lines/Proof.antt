@@ -37,7 +37,8 @@ replay-lines-spec = tie.close (tie.spec Inv-loop μ-loop
     (λ c κs. let m = c .before .before .before in let s = m .before .before .before .before in let i = s .before .before .before in let j = i .before .before in let l = j .before .before .before in
     let g = l .before .before .loop .inv .1 in sums-room g (l .line-at .result .next) (l .line-at .ensures .lines) (j .judge-line .ensures) (sym (i .before .goes .ensures) ∙ not-false _ (i .if1 .left)) (s .transitions-of .ensures) (g .played .taken))
     (λ c κs. let u = c .before .before .before .before in let m = u .before .before .before .before in let s = m .before .before .before .before in let i = s .before .before .before in let j = i .before .before in let l = j .before .before .before in
-    row-room (l .before .before .loop .inv .1) (l .line-at .result .next) (l .line-at .ensures .lines) (j .judge-line .ensures) (sym (i .before .goes .ensures) ∙ not-false _ (i .if1 .left)) (s .transitions-of .ensures) (m .add-step .ensures) (u .add-step2 .ensures))
+    let w = row-room (l .before .before .loop .inv .1) (l .line-at .result .next) (l .line-at .ensures .lines) (j .judge-line .ensures) (sym (i .before .goes .ensures) ∙ not-false _ (i .if1 .left)) (s .transitions-of .ensures) (m .add-step .ensures) (u .add-step2 .ensures) in
+    (w .0, omega arith, w .2, w .3))
     (λ c. let u = c .before .before .before .before .before in let m = u .before .before .before .before in let s = m .before .before .before .before in let i = s .before .before .before in let j = i .before .before in let l = j .before .before .before in let g = l .before .before .loop .inv .1 in
     omega (arith, lines-few (g .reading .lined) (g .ready .few)))
     (λ c. let u = c .before .before .before .before .before in let m = u .before .before .before .before in let s = m .before .before .before .before in let i = s .before .before .before in let j = i .before .before in let l = j .before .before .before in
