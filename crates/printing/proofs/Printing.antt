@@ -4,7 +4,7 @@ use Prim.Native.Nat.{ℕ, _+_, _-_, _≤_, _<_}
 use native.Mathlib.Nat.{le-trans}
 use native.Mathlib.Omega.{arith}
 use mathlib.Core.List.{List, [], _∷_, _++_}
-use lib.ListN.{length, take, drop, length-drop}
+use lib.ListN.{length, take, drop, length-append, length-drop}
 use lib.Seq.{take-length}
 use borrow.Author.Tests.{lt-ltb, le-ltb}
 use types.Run.{OneOf, miss}
@@ -176,3 +176,12 @@ program-parted input h {a} {b} P =
     let e : a - 0 ≡ a = omega arith in
     let d : take (length input - b) (drop b input) ≡ drop b input = ap (λ k. take k (drop b input)) (sym (length-drop b input)) ∙ take-length (drop b input) in
     rw (e, d) (parted-runs input h (take a input) (drop b input) (P .parts))
+
+-- what is printed stands in the buffer
+pub printed-within : (input old : List ℕ) {m : ℕ} {new : List ℕ} → Prints input old (Bytes m) new → m ≤ length new
+unfolding returned buildLeaves leaves over
+printed-within input old {m} {new} P = go (programInto input (length old)) (P .answer) (P .leaves)
+  where
+    go : (a : Answer (List ℕ)) → gives m ≡ returned length a → new ≡ buildLeaves a old → m ≤ length new
+    go (gives bytes) e b = omega (arith, of-gives e, ap length b, length-append bytes (drop (length bytes) old))
+    go (refuses n s) e b = not-refused (sym e)

@@ -1,0 +1,9 @@
+-- What reading the input promises.
+use Prim.Native.Nat.{ℕ, _≤_}
+use Rattle.run_record.specs.declared.Input.{Input}
+use Rattle.run_record.specs.declared.Input.the-variants.{Read, Failed}
+
+-- no more was read than there is room for
+abbrev pub Within : ℕ → Input → Type 0
+Within room (Read n) = n ≤ room
+Within room Failed = Unit {0}
