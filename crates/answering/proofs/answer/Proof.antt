@@ -1,16 +1,16 @@
 use borrow.Author.Needs.{needs}
-use Rattle.run_record.proofs.Parts.{read-within, print-within}
-use Rattle.run_record.proofs.main.Statement.{statement}
-use Rattle.run_record.proofs.main.Tie as tie
+use Rattle.answering.proofs.Parts.{read-within, print-within}
+use Rattle.answering.proofs.answer.Statement.{statement}
+use Rattle.answering.proofs.answer.Tie as tie
 
-pub main-spec : {M : Type 1} → statement M
-main-spec = tie.close (tie.spec
+pub answer-spec : {M : Type 1} → statement M
+answer-spec = tie.close (tie.spec
     (λ c. search needs)
     (λ c κs. search needs)
     (λ c. search needs)
     (λ c. search needs)
     (λ c. search needs)
-    (λ c. let m = c .before .before in read-within _ (m .before .before .before .read-input .ensures) (m .n .given .1))
+    (λ c. let m = c .before .before in read-within _ (m .before .before .before .read-all .ensures) (m .n .given .1))
     (λ c. search needs)
     (λ c κs. search needs)
     (λ c. search needs)
@@ -21,7 +21,6 @@ main-spec = tie.close (tie.spec
     (λ c. search needs)
     (λ c. search needs)
     (λ c. search needs)
-    (λ c κs. search needs)
     (λ c. search needs)
     (λ c. search needs)
     (λ c. search needs))

@@ -4,14 +4,14 @@ use native.Mathlib.Omega.{arith}
 use lib.ListN.{length}
 use borrow.Author.Needs.{needs}
 use borrow.Author.Tests.{ltb-true}
-use Rattle.run_record.proofs.read_some.Statement.{statement}
-use Rattle.run_record.proofs.read_some.Tie as tie
+use Rattle.streams.proofs.read_some.Statement.{statement}
+use Rattle.streams.proofs.read_some.Tie as tie
 
 abbrev Inv-loop : tie.InvT-loop
-Inv-loop buf₀ at turns₀ got₀ buf turns got = (length buf ≡ length buf₀) × (at ≤ length buf)
+Inv-loop fd buf₀ at turns₀ got₀ buf turns got = (length buf ≡ length buf₀) × (at ≤ length buf)
 
 abbrev μ-loop : tie.MeasureT-loop
-μ-loop buf₀ at turns₀ got₀ buf turns got = turns
+μ-loop fd buf₀ at turns₀ got₀ buf turns got = turns
 
 pub read-some-spec : {M : Type 1} → statement M
 read-some-spec = tie.close (tie.spec Inv-loop μ-loop

@@ -2,24 +2,22 @@ use Prim.Native.Nat.{_-_, _≤_}
 use native.Mathlib.Omega.{arith}
 use lib.ListN.{length}
 use borrow.Author.Needs.{needs}
-use Rattle.run_record.proofs.Parts.{rest-count}
-use Rattle.run_record.proofs.write_output.Statement.{statement}
-use Rattle.run_record.proofs.write_output.Tie as tie
+use Rattle.streams.proofs.Parts.{rest-count}
+use Rattle.streams.proofs.write_all.Statement.{statement}
+use Rattle.streams.proofs.write_all.Tie as tie
 
 abbrev Inv-loop : tie.InvT-loop
-Inv-loop buf at₀ t6 at = at ≤ length buf
+Inv-loop fd buf at₀ at = at ≤ length buf
 
 abbrev μ-loop : tie.MeasureT-loop
-μ-loop buf at₀ t6 at = length buf - at
+μ-loop fd buf at₀ at = length buf - at
 
-pub write-output-spec : {M : Type 1} → statement M
-write-output-spec = tie.close (tie.spec Inv-loop μ-loop
+pub write-all-spec : {M : Type 1} → statement M
+write-all-spec = tie.close (tie.spec Inv-loop μ-loop
     (λ c. search needs)
     (λ c κs. search needs)
     (λ c. search needs)
     (λ c. search needs)
-    (λ c. search needs)
-    (λ c κs. search needs)
     (λ c. search needs)
     (λ c κs. search needs)
     (λ c. search needs)

@@ -1,7 +1,7 @@
--- What reading the input promises.
+-- What reading promises.
 use Prim.Native.Nat.{ℕ, _≤_}
-use Rattle.run_record.specs.declared.Input.{Input}
-use Rattle.run_record.specs.declared.Input.the-variants.{Read, Failed}
+use Rattle.streams.specs.declared.Input.{Input}
+use Rattle.streams.specs.declared.Input.the-variants.{Read, Failed}
 
 -- no more was read than there is room for
 abbrev pub Within : ℕ → Input → Type 0

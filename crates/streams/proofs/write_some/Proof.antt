@@ -3,14 +3,14 @@ use native.Mathlib.Omega.{arith}
 use lib.ListN.{length}
 use borrow.Author.Needs.{needs}
 use borrow.Author.Tests.{ltb-true}
-use Rattle.run_record.proofs.write_some.Statement.{statement}
-use Rattle.run_record.proofs.write_some.Tie as tie
+use Rattle.streams.proofs.write_some.Statement.{statement}
+use Rattle.streams.proofs.write_some.Tie as tie
 
 abbrev Inv-loop : tie.InvT-loop
-Inv-loop buf at turns₀ put₀ turns put = at ≤ length buf
+Inv-loop fd buf at turns₀ put₀ turns put = at ≤ length buf
 
 abbrev μ-loop : tie.MeasureT-loop
-μ-loop buf at turns₀ put₀ turns put = turns
+μ-loop fd buf at turns₀ put₀ turns put = turns
 
 pub write-some-spec : {M : Type 1} → statement M
 write-some-spec = tie.close (tie.spec Inv-loop μ-loop

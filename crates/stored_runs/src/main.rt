@@ -1,0 +1,37 @@
+// The program on each of the files that its arguments name; what is printed of a file stands behind its name.
+use answering::Outcome;
+use answering::answer;
+use libc::STDOUT_FILENO;
+use streams::write_all;
+
+// A name that is too long, or a file that cannot be read, is said on standard error.
+fn run_file(path: &[u8]) {
+    let fd = os::open_read(path);
+    if fd < 0 {
+        os::fail(path);
+        return;
+    }
+    write_all(STDOUT_FILENO, path);
+    write_all(STDOUT_FILENO, b"\n");
+    match answer(fd, STDOUT_FILENO) {
+        Outcome::Printed => {}
+        Outcome::Unread => os::fail(path),
+        Outcome::Unwritten => os::fail(path),
+    }
+    libc::close(fd);
+}
+
+fn run_argument(i: usize) {
+    let mut path = io::buffer();
+    let n = os::arg(i, &mut path);
+    run_file(&path[..n]);
+}
+
+fn main() {
+    let most = os::arg_count();
+    let mut i: usize = 1;
+    while i < most {
+        run_argument(i);
+        i += 1;
+    }
+}
