@@ -24,7 +24,7 @@ use Rattle.checking.specs.declared.Refusal.{Refusal}
 use Rattle.checking.specs.declared.Verdict.{Verdict}
 use Rattle.checking.specs.declared.Verdict.the-variants.{Given, Refused}
 use Rattle.checking.specs.declared.Accepted.{Accepted}
-use Rattle.checking.specs.declared.CheckAnswer.the-variants.{Checked, ShortBuffer, Refused as CheckRefused}
+use Rattle.checking.specs.declared.CheckAnswer.the-variants.{Checked, BufferShort, Refused as CheckRefused}
 use Rattle.checking.proofs.CheckTable.{table-written, pairs-counted}
 
 -- what is accepted is a well-formed record that is a process
@@ -47,7 +47,7 @@ module _ (lim : Limits) (net text : List ℕ) where
   unfolding checkWithin refuse_at_when_ _>>_
   short room h = rw (lt-ltb room 16384 h)
 
-  pub short-checks : (out : List ℕ) → length out < 16384 → Checks (checkWithin lim net text (length out)) out ShortBuffer out
+  pub short-checks : (out : List ℕ) → length out < 16384 → Checks (checkWithin lim net text (length out)) out BufferShort out
   unfolding returned checkLeaves leaves
   short-checks out h = rw (short (length out) h) (record { answer = refl; buffer = refl })
 

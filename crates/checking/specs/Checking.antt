@@ -10,7 +10,7 @@ use Rattle.spec.specs.Buffer.{checkLeaves}
 use Rattle.order.specs.Table.{cellAt}
 use Rattle.checking.specs.Accepting.{refusedBy}
 use Rattle.checking.specs.declared.CheckAnswer.{CheckAnswer}
-use Rattle.checking.specs.declared.CheckAnswer.the-variants.{Checked, ShortBuffer, Refused}
+use Rattle.checking.specs.declared.CheckAnswer.the-variants.{Checked, BufferShort, Refused}
 
 -- 0 for an event and itself and beyond the n events
 unfoldable pub entryIn : (ℕ → ℕ → ℕ) → ℕ → ℕ → ℕ → ℕ
@@ -23,7 +23,7 @@ byteIn t n i = entryIn (cellAt 128 t) n (i / 128) (i % 128)
 -- the paper's number and values of an answer
 abbrev pub checkOf : CheckAnswer → Answer (ℕ × ℕ × ℕ)
 checkOf (Checked n m k) = gives (n, m, k)
-checkOf ShortBuffer = refuses 30 0
+checkOf BufferShort = refuses 30 0
 checkOf (Refused x) = refusedBy x
 
 -- the values that the paper has returned of a record

@@ -72,7 +72,7 @@ pub struct Accepted {
 // What the check answers: the numbers of events, conditions and independent pairs, or a refusal.
 pub enum CheckAnswer {
     Checked(usize, usize, usize),
-    ShortBuffer,
+    BufferShort,
     Refused(Refusal),
 }
 
@@ -495,7 +495,7 @@ pub fn check_within(lim: Limits, net: &[u8], text: &[u8], out: &mut [u8]) -> Che
     ensures { λ r. ⌜ Checks (checkWithin lim (now (net .entry)) (now (text .entry)) (length (now (out .entry)))) (now (out .entry)) r (now (out .exit)) ⌝ }
 {
     if out.len() < 16384 {
-        return CheckAnswer::ShortBuffer;
+        return CheckAnswer::BufferShort;
     }
     let mut t = [0u8; 16384];
     let a = accept(net, text, lim, &mut t);

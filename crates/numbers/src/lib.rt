@@ -117,7 +117,7 @@ pub fn of_check(x: CheckAnswer) -> Numbers
 {
     match x {
         CheckAnswer::Checked(n, m, k) => accepted(n, m, k),
-        CheckAnswer::ShortBuffer => refused(30, 0),
+        CheckAnswer::BufferShort => refused(30, 0),
         CheckAnswer::Refused(y) => of_refusal(y),
     }
 }
