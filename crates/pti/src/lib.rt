@@ -4,19 +4,13 @@
 // the number, spot and values of the answer and every byte of the lent buffer; none has a `requires`. A refusal writes
 // nothing, and past what an operation writes a buffer keeps its contents.
 ghost use mathlib.Core.Path.{_≡_};
-ghost use lib.ListN.{length};
 ghost use Rattle.spec.specs.Answer.{returned};
 ghost use Rattle.spec.specs.Net.{readNet};
-ghost use Rattle.spec.specs.Build.{build};
-ghost use Rattle.spec.specs.Check.{check};
-ghost use Rattle.spec.specs.Replay.{replay};
-ghost use Rattle.spec.specs.Arrange.{arrange};
 ghost use Rattle.spec.specs.Line.{refusedLine};
-ghost use Rattle.spec.specs.Program.{programInto};
-ghost use Rattle.spec.specs.Buffer.{buildLeaves, checkLeaves, replayLeaves, arrangeLeaves};
 ghost use Rattle.numbers.specs.Values.{numbersOf, one};
 ghost use Rattle.printing.specs.Prints.{printAnswer};
-ghost use Rattle.pti.specs.Values.{netValues, byteValues, checkValues, replayValues, arrangeValues, lineValues};
+ghost use Rattle.pti.specs.Values.{netValues, lineValues};
+ghost use Rattle.pti.specs.Calls.{BuildCall, CheckCall, ReplayCall, ArrangeCall, ProgramCall};
 pub use arranging::ArrangeAnswer;
 pub use arranging::arrange;
 pub use building::BuildAnswer;
@@ -75,8 +69,7 @@ pub extern "C" fn pti_read_net(net: &[u8]) -> Numbers
 // Builds the record of a step log. a: bytes written.
 #[no_mangle]
 pub extern "C" fn pti_build(net: &[u8], log: &[u8], out: &mut [u8]) -> Numbers
-    ensures answer { λ r. ⌜ r ≡ numbersOf (returned byteValues (build (now (net .entry)) (now (log .entry)) (length (now (out .entry))))) ⌝ }
-    ensures buffer { λ r. ⌜ now (out .exit) ≡ buildLeaves (build (now (net .entry)) (now (log .entry)) (length (now (out .entry)))) (now (out .entry)) ⌝ }
+    ensures { λ r. ⌜ BuildCall (now (net .entry)) (now (log .entry)) (now (out .entry)) r (now (out .exit)) ⌝ }
 {
     of_build(build(net, log, out))
 }
@@ -84,8 +77,7 @@ pub extern "C" fn pti_build(net: &[u8], log: &[u8], out: &mut [u8]) -> Numbers
 // Checks a proposed record and writes its order. a: events, b: conditions, c: independent pairs.
 #[no_mangle]
 pub extern "C" fn pti_check(net: &[u8], text: &[u8], table: &mut [u8]) -> Numbers
-    ensures answer { λ r. ⌜ r ≡ numbersOf (returned checkValues (check (now (net .entry)) (now (text .entry)) (length (now (table .entry))))) ⌝ }
-    ensures buffer { λ r. ⌜ now (table .exit) ≡ checkLeaves (check (now (net .entry)) (now (text .entry)) (length (now (table .entry)))) (now (table .entry)) ⌝ }
+    ensures { λ r. ⌜ CheckCall (now (net .entry)) (now (text .entry)) (now (table .entry)) r (now (table .exit)) ⌝ }
 {
     of_check(check(net, text, table))
 }
@@ -98,8 +90,7 @@ pub extern "C" fn pti_replay(
     arrangement: &[u8],
     rows: &mut [u16],
 ) -> Numbers
-    ensures answer { λ r. ⌜ r ≡ numbersOf (returned replayValues (replay (now (net .entry)) (now (text .entry)) (now (arrangement .entry)) (length (now (rows .entry))))) ⌝ }
-    ensures buffer { λ r. ⌜ now (rows .exit) ≡ replayLeaves (replay (now (net .entry)) (now (text .entry)) (now (arrangement .entry)) (length (now (rows .entry)))) (now (rows .entry)) ⌝ }
+    ensures { λ r. ⌜ ReplayCall (now (net .entry)) (now (text .entry)) (now (arrangement .entry)) (now (rows .entry)) r (now (rows .exit)) ⌝ }
 {
     of_replay(replay(net, text, arrangement, rows))
 }
@@ -107,8 +98,7 @@ pub extern "C" fn pti_replay(
 // Writes the shortest arrangement. a: bytes written, b: lines.
 #[no_mangle]
 pub extern "C" fn pti_arrange(net: &[u8], text: &[u8], out: &mut [u8]) -> Numbers
-    ensures answer { λ r. ⌜ r ≡ numbersOf (returned arrangeValues (arrange (now (net .entry)) (now (text .entry)) (length (now (out .entry))))) ⌝ }
-    ensures buffer { λ r. ⌜ now (out .exit) ≡ arrangeLeaves (arrange (now (net .entry)) (now (text .entry)) (length (now (out .entry)))) (now (out .entry)) ⌝ }
+    ensures { λ r. ⌜ ArrangeCall (now (net .entry)) (now (text .entry)) (now (out .entry)) r (now (out .exit)) ⌝ }
 {
     of_arrange(arrange(net, text, out))
 }
@@ -124,8 +114,7 @@ pub extern "C" fn pti_refused_line(net: &[u8], second: &[u8], choice: u8, line: 
 // What the program prints for an input. a: bytes written, also of an `X` line.
 #[no_mangle]
 pub extern "C" fn pti_program(input: &[u8], out: &mut [u8]) -> Numbers
-    ensures answer { λ r. ⌜ r ≡ numbersOf (returned byteValues (programInto (now (input .entry)) (length (now (out .entry))))) ⌝ }
-    ensures buffer { λ r. ⌜ now (out .exit) ≡ buildLeaves (programInto (now (input .entry)) (length (now (out .entry)))) (now (out .entry)) ⌝ }
+    ensures { λ r. ⌜ ProgramCall (now (input .entry)) (now (out .entry)) r (now (out .exit)) ⌝ }
 {
     of_program(program(input, out))
 }

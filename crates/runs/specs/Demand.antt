@@ -23,6 +23,7 @@ use Rattle.spec.specs.Replay.{rowAt, row, firedBy, replayed, replay}
 use Rattle.spec.specs.Runs.{EnabledSequence, KeepsOrder, WithinLimits, markingAt, asSteps, eventLines, logBytes}
 use Rattle.spec.specs.Demand.{Replays, Tables, OrderOfRuns, RunIsRecorded, Demand, IsProcess}
 use Rattle.lists.specs.Laws
+use Rattle.lists.specs.Rows.{length-rows}
 use Rattle.runs.specs.Play.{enabled-steps, row-is, one-end}
 use Rattle.runs.specs.Levels.{arranged-keeps, arranged-count, arranged-least, strict-exact, weak-exact}
 use Rattle.runs.specs.Closure.{strict-is, weak-is}
@@ -95,6 +96,7 @@ module _ (net : List ℕ) (N : Net) (hN : readNet net ≡ gives N) (text : List 
     replays = record {
       counts = replayed N R lines .counts;
       plays = plays;
+      full = length-rows 32 (row N R lines) (row-length lines) 129;
       rows = λ k p l h. Laws.getD-table-rows 32 129 (row N R lines) (row-length lines) k p 0 (omega (arith, few)) h ∙ row-count k p l h;
     }
 
@@ -115,10 +117,11 @@ module _ (net : List ℕ) (N : Net) (hN : readNet net ≡ gives N) (text : List 
   strict-weak e f d h = weak-is N R W e f .1 (d, (true, strict-is N R W e f .0 h))
 
   tables : Tables net text R
-  unfolding related
+  unfolding related checked tableBytes
   tables = record {
     checked = checked R;
     checks = checks;
+    full = length-rows 128 (λ e. map (tableAt R e) (upTo 128)) (λ k. length-map (upTo 128) (tableAt R k) ∙ Laws.length-upTo 128) 128;
     strict = λ e f l m d. (
       λ h. strict-is N R W e f .0 (related-strict (strictlyBefore R e f) (notLater R e f) .0 (sym (entry-is e f l m) ∙ h)),
       λ p. entry-is e f l m ∙ related-strict (strictlyBefore R e f) (notLater R e f) .1 (strict-is N R W e f .1 p),

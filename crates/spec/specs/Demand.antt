@@ -29,12 +29,14 @@ use Rattle.spec.specs.Runs.{EnabledSequence, KeepsOrder, WithinLimits, m
 pub record Replays (net text : List ℕ) (N : Net) (R : RunRecord) (lines : List (List ℕ)) : Type 0 where
   pub counts : List ℕ
   pub plays : (room : ℕ) → 4128 ≤ room → replay net text (arrangementBytes lines) room ≡ gives (record { lines = length lines; counts = counts })
+  pub full : length counts ≡ 4128
   pub rows : (k p : ℕ) → k ≤ length lines → p < 32 → getD counts (32 * k + p) 0 ≡ tokensAt (markingAt N (asSteps R lines) k) p
 
 -- "its order is the closed order; in the table 2 says strictly before, and 1 or 2 says not later."
 pub record Tables (net text : List ℕ) (R : RunRecord) : Type 0 where
   pub checked : Checked
   pub checks : (room : ℕ) → 16384 ≤ room → check net text room ≡ gives checked
+  pub full : length (checked .table) ≡ 16384
   pub strict : (e f : ℕ) → e < length (R .events) → f < length (R .events) → e ≢ f → (getD (checked .table) (128 * e + f) 0 ≡ 2) ↔ StrictlyBefore R e f
   pub weak : (e f : ℕ) → e < length (R .events) → f < length (R .events) → e ≢ f
       → ((getD (checked .table) (128 * e + f) 0 ≡ 1) ⊎ (getD (checked .table) (128 * e + f) 0 ≡ 2)) ↔ NotLater R e f

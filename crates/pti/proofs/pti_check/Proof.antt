@@ -9,4 +9,4 @@ pti-check-spec = tie.close (tie.spec
     (λ c κs. search needs)
     (λ c κs. search needs)
     (λ c. search needs)
-    (λ c. (c .of-check .ensures ∙ ap numbersOf (c .before .before .before .check .ensures .answer), c .before .before .before .check .ensures .buffer)))
+    (λ c. record { answer = c .of-check .ensures ∙ ap numbersOf (c .before .before .before .check .ensures .answer); buffer = c .before .before .before .check .ensures .buffer }))

@@ -10,4 +10,4 @@ pti-replay-spec = tie.close (tie.spec
     (λ c κs. search needs)
     (λ c κs. search needs)
     (λ c. search needs)
-    (λ c. (numbered one linesPlayed _ (c .of-replay .ensures) (c .before .before .before .replay .ensures .answer), c .before .before .before .replay .ensures .buffer)))
+    (λ c. record { answer = numbered one linesPlayed _ (c .of-replay .ensures) (c .before .before .before .replay .ensures .answer); buffer = c .before .before .before .replay .ensures .buffer }))
