@@ -2,3 +2,5 @@ pub mod Classes
 pub mod Scans
 pub mod ByLines
 pub mod Answers
+pub mod Reading
+pub mod Thin

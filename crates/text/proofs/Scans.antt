@@ -23,7 +23,7 @@ use Rattle.text.specs.declared.FieldAt.{FieldAt}
 use Rattle.spec.specs.declared.Class.the-variants.{LineEnd, Comma, Digit}
 use Rattle.spec.specs.Lists.{every}
 use Rattle.spec.specs.Text.{isNumber, needlessZero, fieldOf, fieldsOf, letterOf, letterIn, rowOf, valueFrom, digitOf}
-use Rattle.text.specs.Scan.{before, fieldsFrom, ReadsLetter, MayReadField, numbersFrom}
+use Rattle.text.specs.Scan.{before, endFrom, spanTo, LineAt, fieldsFrom, ReadsLetter, MayReadField, numbersFrom}
 use Rattle.spec.specs.Forms.{valueOf, numbersOf}
 use Rattle.spec.specs.Line.{startAfter}
 
@@ -166,6 +166,20 @@ start-one (b ∷ bs) h = go (isA LineEnd b) (λ k. start-one bs k) h
 
 pub line-skips : (s : List ℕ) (at e : ℕ) → at < length s → e ≡ at + before LineEnd (drop at s) → ltb e (length s) ≡ true → e + 1 ≡ at + startAfter 1 (drop at s)
 line-skips s at e h q l = omega (arith, start-one (drop at s) (omega (arith, ltb-true e (length s) l, length-drop at s)))
+
+-- the line whose end was found
+pub line-found : (s : List ℕ) (at e : ℕ) → at < length s → e ≡ endFrom s at → e ≤ length s → LineAt s at (spanTo s e (e + 1))
+line-found s at e h q m = record {
+  start = omega arith;
+  end = m;
+  on = omega arith;
+  next = omega arith;
+  lines = line-here s at e h q;
+  last = λ l. omega (arith, ltb-false e (length s) l);
+  within = λ l. omega (arith, ltb-true e (length s) l);
+  closes = λ l rest. line-closes s at e rest h q l;
+  skips = λ l. line-skips s at e h q l;
+}
 
 map-cond : {A B : Type 0} (f : A → B) (t : Bool) (xs : List A) → map f (cond t xs []) ≡ cond t (map f xs) []
 map-cond f true xs = refl

@@ -4,11 +4,12 @@ use mathlib.Core.Path.{_≡_}
 use mathlib.Core.Bool.{Bool, true, false, cond}
 use mathlib.Core.List.{List, [], _∷_, _++_, map}
 use lib.ListN.{length, getD, drop, take}
-use lib.Dec.{leb}
+use lib.Dec.{leb, ltb}
 use Rattle.spec.specs.Text.{isA, Line, linesOf, pieces, fieldOf, letterIn, fieldsOf}
 use Rattle.spec.specs.Line.{startAfter}
 use Rattle.spec.specs.Forms.{valueOf}
 use Rattle.spec.specs.declared.Class.{Class}
+use Rattle.spec.specs.declared.Class.the-variants.{LineEnd}
 use Rattle.spec.specs.declared.ByteClass.{ByteClass}
 use Rattle.spec.specs.declared.Field.{Field}
 use Rattle.spec.specs.declared.Field.the-variants.{Absent}
@@ -25,6 +26,14 @@ plainByte k = record { class = k; digit = 0 }
 unfoldable pub before : Class → List ℕ → ℕ
 before k [] = 0
 before k (b ∷ bs) = cond (isA k b) 0 (suc (before k bs))
+
+-- where the line ends that starts at a position
+abbrev pub endFrom : List ℕ → ℕ → ℕ
+endFrom s at = at + before LineEnd (drop at s)
+
+-- a line that ends before `end`, where the next one starts at `next`
+abbrev pub spanTo : List ℕ → ℕ → ℕ → Span
+spanTo s end next = record { end = end; next = next; ended = ltb end (length s) }
 
 -- the line that starts at a position, and where the next one starts
 pub record LineAt (s : List ℕ) (at : ℕ) (r : Span) : Type 0 where

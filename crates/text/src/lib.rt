@@ -1,11 +1,11 @@
 // Reading texts: classes of bytes, lines, fields and numbers.
 ghost use mathlib.Core.Path.{_≡_};
-ghost use Prim.Native.Nat.{_+_, _-_, _<_, _≤_};
+ghost use Prim.Native.Nat.{_+_, _-_, _<_, _≤_, max};
 ghost use lib.ListN.{length, drop, getD};
 ghost use Rattle.spec.specs.Lists.{every};
 ghost use Rattle.spec.specs.Text.{byteClass, classCode, digitOf, isA, alike, needlessZero, isNumber, valueFrom, isDash, fieldOf, letterOf, letterIn, rowOf};
 ghost use Rattle.spec.specs.Forms.{aNumber, aNumberOrDash, absent, valueOf, isAlone, isOne, isTwo, isThree, isList, numbersOf};
-ghost use Rattle.text.specs.Scan.{plainByte, before, LineAt, fieldsFrom, ReadsField, MayReadField, ReadsLetter, numbersFrom, ReadsNumber};
+ghost use Rattle.text.specs.Scan.{plainByte, before, endFrom, spanTo, LineAt, fieldsFrom, ReadsField, MayReadField, ReadsLetter, numbersFrom, ReadsNumber};
 use spec::ByteClass;
 use spec::Class;
 use spec::Field;
@@ -115,17 +115,74 @@ pub struct Span {
     pub ended: bool,
 }
 
-// The line that starts at a position.
+// ---- a reading position
+
+// It belongs to one text and moves forward only. The borrow checker covers no function over a struct that holds a
+// reference, so `reader_at`, `line_end` and `moved` are thin and proved by hand, and so is `line_at` right above them;
+// `find_end`, `later` and `span_of` do the work, on a slice and numbers.
+pub struct Reader<'a> {
+    pub text: &'a [u8],
+    pub at: usize,
+}
+
+// Where the line ends that starts at a place.
+fn find_end(s: &[u8], at: usize) -> usize
+    requires { ⌜ at ≤ length (now s) ⌝ }
+    ensures { λ r. ⌜ (r ≡ endFrom (now (s .entry)) at) × (r ≤ length (now (s .entry))) ⌝ }
+{
+    end_of(Class::LineEnd, s, at)
+}
+
+// The later of two places.
+fn later(at: usize, to: usize) -> usize
+    ensures { λ r. ⌜ (r ≡ max at to) × (at ≤ r) ⌝ }
+{
+    if at < to { to } else { at }
+}
+
+// A line by its end and where the next one starts.
+fn span_of(s: &[u8], end: usize, next: usize) -> Span
+    ensures { λ r. ⌜ r ≡ spanTo (now (s .entry)) end next ⌝ }
+{
+    Span {
+        end,
+        next,
+        ended: end < s.len(),
+    }
+}
+
+// At a place of a text.
+pub fn reader_at<'a>(text: &'a [u8], at: usize) -> Reader<'a>
+    ensures { λ r. ⌜ (r .text ≡ text .entry) × (r .at ≡ at) ⌝ }
+{
+    Reader { text, at }
+}
+
+// Where the line ends at which the reader stands.
+pub fn line_end<'a>(r: Reader<'a>) -> usize
+    requires { ⌜ r .at ≤ length (now (r .text)) ⌝ }
+    ensures { λ e. ⌜ (e ≡ endFrom (now (r .entry .text)) (r .entry .at)) × (e ≤ length (now (r .entry .text))) ⌝ }
+{
+    find_end(r.text, r.at)
+}
+
+// The same text, and a place that is no earlier.
+pub fn moved<'a>(r: Reader<'a>, to: usize) -> Reader<'a>
+    ensures { λ q. ⌜ (q .text ≡ r .entry .text) × (q .at ≡ max (r .entry .at) to) × (r .entry .at ≤ q .at) ⌝ }
+{
+    let at = later(r.at, to);
+    Reader { text: r.text, at }
+}
+
+// The line that starts at a position: a reader stands there, sees where the line ends, and moves past that end.
 pub fn line_at(s: &[u8], at: usize) -> Span
     requires { ⌜ at < length (now s) ⌝ }
     ensures { λ r. ⌜ LineAt (now (s .entry)) at r ⌝ }
 {
-    let end = end_of(Class::LineEnd, s, at);
-    Span {
-        end,
-        next: end + 1,
-        ended: end < s.len(),
-    }
+    let here = reader_at(s, at);
+    let end = line_end(here);
+    let past = moved(here, end + 1);
+    span_of(s, end, past.at)
 }
 
 // The byte at a position, and 0 past the end.
