@@ -35,7 +35,7 @@ module _ {m : ℕ} {tokens : List ℕ} (N : Net) (h : HoldsMarking m tokens (N .
   }
 
   pub begins : {mk : List ℕ} {g : History} → mk ≡ tokens → Starts (take m tokens) g
-      → HoldsRun N 1 (record { marking = mk; tally = record { held = mk; watched = replicate 32 0; own = 0 }; history = g }) (start N)
+      → HoldsRun N 1 (record { marking = record { counts = mk }; tally = record { held = mk; watched = replicate 32 0; own = 0 }; history = g }) (start N)
   begins e S = rw e record {
     good = good-start N;
     marking = unfold start in record { long = h .long; few = omega (arith, h .few, h .places); places = refl; tokens = h .tokens };

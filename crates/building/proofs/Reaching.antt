@@ -45,7 +45,7 @@ module _ {is os hs : List ℕ} {m k : ℕ} {x : Run} (R : Reached is os hs m k x
       (omega (arith, conditions-held (R .holds), R .holds .whole .conditions)) (omega (arith, events-held (R .holds), R .holds .whole .events))
 
   -- a place has as many tokens as free conditions
-  marking-low : AtMost 512 m (x .marking)
+  marking-low : AtMost 512 m (x .marking .counts)
   marking-low p l =
       omega (
         arith,
@@ -56,11 +56,11 @@ module _ {is os hs : List ℕ} {m k : ℕ} {x : Run} (R : Reached is os hs m k x
         R .holds .whole .conditions,
       )
 
-  pub playable : {xs tk md : List ℕ} {f : ℕ → ℕ → ℕ} {count : ℕ} → IsStep xs count → falls (x .marking) tk m ≡ false → Sums f (take count xs) md → Playable m (x .marking) tk md
+  pub playable : {xs tk md : List ℕ} {f : ℕ → ℕ → ℕ} {count : ℕ} → IsStep xs count → falls (x .marking .counts) tk m ≡ false → Sums f (take count xs) md → Playable m (x .marking .counts) tk md
   unfolding falls
   playable {xs} {tk} {count = count} S e s = record {
     few = R .arcs .few;
-    enough = λ p l. ltb-false _ _ (Laws.any-none (λ p. ltb (getD (x .marking) p 0) (getD tk p 0)) (upTo m) e p (Laws.upTo-in m l));
+    enough = λ p l. ltb-false _ _ (Laws.any-none (λ p. ltb (getD (x .marking .counts) p 0) (getD tk p 0)) (upTo m) e p (Laws.upTo-in m l));
     fits = λ p l. omega (arith, marking-low p l, s .most p (omega (arith, R .arcs .few)), length-take-le count xs (omega (arith, S .long, S .few)), S .few);
   }
 

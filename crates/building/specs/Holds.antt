@@ -30,7 +30,7 @@ use Rattle.building.specs.declared.LogAnswer.the-variants as log
 -- the run before line k
 pub record HoldsRun (N : Net) (k : ℕ) (x : Run) (r : RunD) : Type 0 where
   pub good : Good N k r
-  pub marking : HoldsMarking (places N) (x .marking) (r .marking)
+  pub marking : HoldsMarking (places N) (x .marking .counts) (r .marking)
   pub tally : Tallied N r (x .tally)
   pub whole : Whole (x .history)
   pub events : eventsOf (x .history) ≡ r .events

@@ -21,6 +21,7 @@ use playing::start;
 use playing::tally_step;
 use playing::total;
 use spec::Field;
+use steps::Marking;
 use steps::any_unknown;
 use steps::count_numbers;
 use steps::inhibited;
@@ -35,7 +36,7 @@ use writing::put_line;
 
 // What a log played so far: the running marking, what is counted, and the history.
 pub struct Run {
-    pub marking: [u32; 32],
+    pub marking: Marking,
     pub tally: Tally,
     pub history: History,
 }
@@ -93,7 +94,7 @@ fn step_on(
     requires { ⌜ IsStep (now step) count × (0 < count) × (r .history .events + count ≤ 128) × Reached (now inputs) (now outputs) (now inhibitors) places k r ⌝ }
     ensures { λ s. ⌜ StepsOn (now (inputs .entry)) (now (outputs .entry)) (now (inhibitors .entry)) places k (now (step .entry)) count r s ⌝ }
 {
-    let marking = r.marking;
+    let marking = r.marking.counts;
     let tally = r.tally;
     let history = r.history;
     let taken = sums(inputs, step, count);
@@ -126,7 +127,7 @@ fn step_on(
     Played {
         answer: LogAnswer::Goes,
         run: Run {
-            marking: play(marking, &taken, &made, places),
+            marking: play(r.marking, &taken, &made, places),
             tally: t,
             history: grow(k, step, count, inputs, outputs, places, history),
         },
@@ -214,7 +215,7 @@ pub fn begin(tokens: &[u16; 32], places: usize) -> Run
 {
     let marking = marking_of(tokens);
     Run {
-        marking,
+        marking: Marking { counts: marking },
         tally: Tally {
             held: marking,
             watched: [0u32; 32],

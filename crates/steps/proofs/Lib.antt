@@ -2,3 +2,4 @@ pub mod Lines
 pub mod Rows
 pub mod Playing
 pub mod Held
+pub mod Lent

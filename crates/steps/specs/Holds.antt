@@ -7,6 +7,7 @@ use lib.ListN.{length, getD, take}
 use lib.Dec.{ltb}
 use Rattle.spec.specs.Lists.{In, any, sumOf, upTo}
 use Rattle.lists.specs.Mapped.{Mapped}
+use Rattle.steps.specs.declared.Marking.{Marking}
 
 -- ---- the numbers of a line
 
@@ -72,6 +73,10 @@ blocks xs guards places = any (λ p. ltb 0 (getD xs p 0) && ltb 0 (getD guards p
 -- the tokens of place p once those taken are gone and those made are there
 unfoldable pub moved : List ℕ → List ℕ → List ℕ → ℕ → ℕ
 moved xs taken made p = getD xs p 0 - getD taken p 0 + getD made p 0
+
+-- one marking is the other after a step, at the first places
+abbrev pub Plays : ℕ → List ℕ → List ℕ → Marking → Marking → Type 0
+Plays places taken made m r = Mapped (m .counts) places (moved (m .counts) taken made) (r .counts)
 
 -- what playing relies on: enough tokens are there, and those made fit
 pub record Playable (places : ℕ) (xs taken made : List ℕ) : Type 0 where

@@ -8,9 +8,8 @@ ghost use Rattle.spec.specs.Lists.{any};
 ghost use Rattle.spec.specs.Text.{mostDigits};
 ghost use Rattle.spec.specs.Forms.{isList, numbersOf};
 ghost use Rattle.spec.specs.Build.{isStepLine};
-ghost use Rattle.lists.specs.Mapped.{Mapped};
 ghost use Rattle.net.specs.Holds.{lineOf};
-ghost use Rattle.steps.specs.Holds.{Few, Begins, IsStep, cellAt, Adds, Sums, falls, blocks, moved, Playable};
+ghost use Rattle.steps.specs.Holds.{Few, Begins, IsStep, cellAt, Adds, Sums, falls, blocks, Plays, Playable};
 use spec::Class;
 use text::is_list;
 use text::letter_at;
@@ -170,16 +169,42 @@ pub fn marking_of(tokens: &[u16; 32]) -> [u32; 32]
     r
 }
 
+// ---- one running marking
+
+// It is lent by `&mut` and changed by `play_step`. The borrow checker covers no function with a reference to a struct, so
+// `play_step` is thin and proved by hand, and so is `play`, which lends its local; `played` does the work, by value.
+pub struct Marking {
+    pub counts: [u32; 32],
+}
+
 // The marking after a step: in each place what the step's events take is gone, then what they make is there.
-pub fn play(marking: [u32; 32], taken: &[u32; 32], made: &[u32; 32], places: usize) -> [u32; 32]
-    requires { ⌜ Playable places marking (now taken) (now made) ⌝ }
-    ensures { λ r. ⌜ Mapped marking places (moved marking (now (taken .entry)) (now (made .entry))) r ⌝ }
+fn played(marking: Marking, taken: &[u32; 32], made: &[u32; 32], places: usize) -> Marking
+    requires { ⌜ Playable places (marking .counts) (now taken) (now made) ⌝ }
+    ensures { λ r. ⌜ Plays places (now (taken .entry)) (now (made .entry)) marking r ⌝ }
 {
-    let mut m = marking;
+    let mut m = marking.counts;
     let mut p: usize = 0;
     while p < places {
         m[p] = m[p] - taken[p] + made[p];
         p += 1;
     }
-    m
+    Marking { counts: m }
+}
+
+// The marking that is lent is changed by a step.
+pub fn play_step(m: &mut Marking, taken: &[u32; 32], made: &[u32; 32], places: usize)
+    requires { ⌜ Playable places (now m .counts) (now taken) (now made) ⌝ }
+    ensures { λ _. ⌜ Plays places (now (taken .entry)) (now (made .entry)) (now (m .entry)) (now (m .exit)) ⌝ }
+{
+    *m = played(*m, taken, made, places);
+}
+
+// A marking changed by a step, for those who hold it by value.
+pub fn play(marking: Marking, taken: &[u32; 32], made: &[u32; 32], places: usize) -> Marking
+    requires { ⌜ Playable places (marking .counts) (now taken) (now made) ⌝ }
+    ensures { λ after. ⌜ Plays places (now (taken .entry)) (now (made .entry)) marking after ⌝ }
+{
+    let mut run = marking;
+    play_step(&mut run, taken, made, places);
+    run
 }
