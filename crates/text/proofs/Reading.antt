@@ -2,7 +2,7 @@
 --     D, L, B      the struct's declared type, its laws and its type, over a signature of one lifetime
 --     vs           the machine value of a text.        tok      the lifetime's token
 --     Own          what a struct owns at a machine value.        Text      what a text owns
---     typed        the machine value of a struct has the type that a local has, whose lifetime MIR erases.        typed-text       that of a text
+--     typed        the machine value of a struct has the type that a local has, whose lifetime MIR erases
 -- Assumes `Given`.
 use denote.Struct.Laws as LL
 use Rattle.text.specs.declared.Reader.{Reader}

@@ -6,7 +6,7 @@ use Prim.Native.Nat.{max}
 use Rattle.text.specs.Scan.{endFrom}
 use Rattle.text.specs.declared.Reader.{Reader}
 use Rattle.text.proofs.Reading.{vs, tok, Own, Text}
-use Rattle.walks.proofs.Walk.{_≡_, refl, List, [], _∷_, ℕ, _<_, _≤_, _^_, length, URA, w64, Val, vint, SProp, ent, Lft, Share, Memory, Routine, Heap, Atoms, Fun, Given, ⋆, _$_, _∵_, !, qed, move, join, fjoin, frame, done, Is, mem, uint-makes, usize, RefT, now, owned, nothing, Contract, tripleOf, says}
+use Rattle.walks.proofs.Walk.{_≡_, refl, List, [], _∷_, ℕ, _<_, _≤_, _^_, length, URA, w64, Val, vint, SProp, ent, Lft, Share, Memory, Routine, Heap, Atoms, Fun, Given, ⋆, _$_, _∵_, !, qed, move, join, fjoin, frame, done, Is, uint-makes, usize, RefT, now, owned, nothing, Contract, tripleOf, says}
 use Rattle.text.proofs.reader_at as reader
 use Rattle.text.proofs.line_end as end
 use Rattle.text.proofs.moved as moved

@@ -11,7 +11,7 @@ use Rattle.text.proofs.Span.Laws as S′
 use Rattle.text.proofs.Scans.{line-found}
 use Rattle.text.proofs.Reading.{D, L, B, vs, tok, Own, Text, typed}
 use Rattle.text.proofs.Thin.{Starts, Ends-at, Moves, ReaderAt, LineEnd, Moved, SpanOf, to-reader, to-end, to-moved, to-span, asks-reader, asks-end, asks-moved, asks-span}
-use Rattle.walks.proofs.Walk.{_≡_, refl, sym, ap, subst, _∙_, List, [], _∷_, ℕ, _+_, _<_, _^_, arith, length, URA, fullShare, named, erased, w64, tyInt, Val, vint, SProp, ent, emp, id⊢, Lft, Share, fat, Memory, Routine, Heap, Calls, Loops, WpFn, Atoms, Fun, factI, givenOf, Given, ‵, raw, _⊛_, _$_, _∵_, !, qed, by, move, keep, drop, use1, use2, split, rewrite, fsplit, whole, sub, look-in, look, init, forget, stop, fld, from, load, lit, of-opd, bin, and-then, no-more, assigns, land, returns, enter, alloc1, alloc0, params1, pass1, pass0, free1, free0, FmC, owns, Is, shows, mem, uint-vals, uint-tells, uint-lawful, u8, usize, RefT, now, namedLft, ShrSlice, slice-vals, shr-slice-tells, shr-slice-lawful, shr-slice-copy, only, peeks, heard, Triple, onEntry, cited, needs, calls-told, Ends, leaves, fm, by-walk₀}
+use Rattle.walks.proofs.Walk.{_≡_, refl, sym, ap, subst, _∙_, List, [], _∷_, ℕ, _+_, _<_, _^_, arith, length, URA, fullShare, named, erased, w64, tyInt, Val, vint, SProp, ent, emp, id⊢, Lft, Share, fat, Memory, Routine, Heap, Calls, Loops, WpFn, Atoms, Fun, factI, givenOf, Given, ‵, raw, _⊛_, _$_, _∵_, !, qed, by, move, keep, drop, use1, use2, split, rewrite, fsplit, whole, sub, look-in, look, init, forget, stop, fld, from, load, lit, of-opd, bin, and-then, no-more, assigns, land, returns, enter, alloc1, alloc0, params1, pass1, pass0, free1, free0, FmC, owns, Is, shows, uint-vals, uint-tells, uint-lawful, u8, usize, RefT, now, namedLft, ShrSlice, slice-vals, shr-slice-tells, shr-slice-lawful, shr-slice-copy, only, peeks, heard, Triple, onEntry, cited, needs, calls-told, Ends, leaves, fm, by-walk₀}
 use Rattle.text.proofs.reader_at as reader
 use Rattle.text.proofs.reader_at.Symbol as reader-def
 use Rattle.text.proofs.reader_at.Symbol.{name as #reader}

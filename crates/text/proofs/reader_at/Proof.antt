@@ -3,7 +3,7 @@
 use Rattle.text.specs.declared.Reader.{Reader}
 use Rattle.text.proofs.Reader.Laws as T′
 use Rattle.text.proofs.Reading.{D, L, vs, tok, Own}
-use Rattle.walks.proofs.Walk.{refl, List, [], _∷_, ℕ, _<_, _^_, URA, named, w64, vint, SProp, ent, emp, via, fst∗, Lft, Share, Memory, Routine, Heap, Calls, Loops, WpFn, Atoms, Fun, factI, givenOf, Given, ‵, _$_, _∵_, !, qed, by, move, keep, use1, agg, look, init, forget, stop, from, load, and-then, no-more, assigns, returns, enter, alloc1, alloc0, params1, pass1, pass0, free1, free0, owns, Is, mem, uint-vals, uint-tells, u8, usize, RefT, ShrSlice, slice-vals, shr-slice-tells, shr-slice-lawful, own-shut, onEntry, Ends, leaves, by-walk₀}
+use Rattle.walks.proofs.Walk.{refl, List, [], _∷_, ℕ, _<_, _^_, URA, named, w64, vint, SProp, ent, emp, via, fst∗, Lft, Share, Memory, Routine, Heap, Calls, Loops, WpFn, Atoms, Fun, factI, givenOf, Given, ‵, _$_, _∵_, !, qed, by, move, keep, use1, agg, look, init, forget, stop, from, load, and-then, no-more, assigns, returns, enter, alloc1, alloc0, params1, pass1, pass0, free1, free0, owns, Is, uint-vals, uint-tells, u8, usize, RefT, ShrSlice, slice-vals, shr-slice-tells, shr-slice-lawful, own-shut, onEntry, Ends, leaves, by-walk₀}
 use Rattle.text.proofs.reader_at.Key.{name as #f}
 use Rattle.text.proofs.reader_at as f
 use Rattle.text.proofs.reader_at.Statement as stated
