@@ -1,4 +1,6 @@
-use mathlib.Core.Path.{_≡_}
+use mathlib.Core.Path.{ap, ap₂}
+use mathlib.Core.Bool.{not, _&&_}
+use lib.Dec.{eqb}
 use borrow.Author.Needs.{needs}
 use Rattle.closure.specs.Pairs.{independentIn}
 use Rattle.closure.proofs.independent.Statement.{statement}
@@ -9,4 +11,4 @@ unfolding independentIn
 independent-spec = tie.close (tie.spec
     (λ c κs. search needs)
     (λ c κs. search needs)
-    (λ c. cc))
+    (λ c. let s = c .before .before .before in ap₂ _&&_ (ap (λ b. not (eqb (s .args .e) (s .args .f)) && not b) (c .before .strict .ensures)) (ap not (c .strict2 .ensures))))

@@ -1,3 +1,5 @@
+use mathlib.Core.Path.{ap₂}
+use mathlib.Core.Bool.{_&&_}
 use Rattle.spec.specs.Forms.{isAlone}
 use Rattle.text.proofs.is_alone.Statement.{statement}
 use Rattle.text.proofs.is_alone.Tie as tie
@@ -7,4 +9,4 @@ unfolding isAlone
 is-alone-spec = tie.close (tie.spec
     (λ c κs. tt)
     (λ c κs. tt)
-    (λ c. cc))
+    (λ c. ap₂ _&&_ (c .before .alike .ensures) (c .absent .ensures)))

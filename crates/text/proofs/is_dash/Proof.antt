@@ -1,4 +1,9 @@
-use Rattle.spec.specs.Text.{isDash}
+use mathlib.Core.Path.{ap, _∙_}
+use mathlib.Core.Bool.{_&&_}
+use lib.Dec.{eqb}
+use lib.ListN.{length}
+use Rattle.spec.specs.declared.Class.the-variants.{Dash}
+use Rattle.spec.specs.Text.{isA, isDash}
 use Rattle.text.proofs.is_dash.Statement.{statement}
 use Rattle.text.proofs.is_dash.Tie as tie
 
@@ -7,4 +12,4 @@ unfolding isDash
 is-dash-spec = tie.close (tie.spec
     (λ c κs. tt)
     (λ c κs. tt)
-    (λ c. cc))
+    (λ c. ap (λ z. eqb (length (c .before .before .before .args .p .now)) 1 && z) (c .is-a .ensures ∙ ap (isA Dash) (c .before .byte-at .ensures))))

@@ -1,3 +1,7 @@
+use mathlib.Core.Path.{ap, ap₂}
+use mathlib.Core.Bool.{not, _&&_}
+use lib.Dec.{leb}
+use lib.ListN.{length}
 use Rattle.spec.specs.Text.{isNumber}
 use Rattle.text.proofs.is_number.Statement.{statement}
 use Rattle.text.proofs.is_number.Tie as tie
@@ -7,4 +11,4 @@ unfolding isNumber
 is-number-spec = tie.close (tie.spec
     (λ c κs. tt)
     (λ c κs. tt)
-    (λ c. cc))
+    (λ c. let z = c .before in let n = length (z .before .before .args .p .now) in ap₂ _&&_ (ap (λ b. leb 1 n && leb n (z .before .before .args .most) && not b) (z .needless-zero .ensures)) (c .all-digits .ensures)))

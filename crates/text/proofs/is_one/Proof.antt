@@ -1,3 +1,5 @@
+use mathlib.Core.Path.{ap₂}
+use mathlib.Core.Bool.{_&&_}
 use Rattle.spec.specs.Forms.{isOne}
 use Rattle.text.proofs.is_one.Statement.{statement}
 use Rattle.text.proofs.is_one.Tie as tie
@@ -8,4 +10,4 @@ is-one-spec = tie.close (tie.spec
     (λ c κs. tt)
     (λ c κs. tt)
     (λ c κs. tt)
-    (λ c. cc))
+    (λ c. let a = c .before in ap₂ _&&_ (ap₂ _&&_ (a .before .alike .ensures) (a .a-number .ensures)) (c .absent .ensures)))

@@ -1,4 +1,9 @@
-use Rattle.spec.specs.Text.{needlessZero}
+use Prim.Native.Nat.{ℕ}
+use mathlib.Core.Path.{ap, _∙_}
+use mathlib.Core.Bool.{_&&_}
+use lib.Dec.{eqb, ltb}
+use lib.ListN.{length}
+use Rattle.spec.specs.Text.{digitOf, needlessZero}
 use Rattle.text.proofs.needless_zero.Statement.{statement}
 use Rattle.text.proofs.needless_zero.Tie as tie
 
@@ -7,4 +12,4 @@ unfolding needlessZero
 needless-zero-spec = tie.close (tie.spec
     (λ c κs. tt)
     (λ c κs. tt)
-    (λ c. cc))
+    (λ c. ap (λ (z : ℕ). ltb 1 (length (c .before .before .before .args .p .now)) && eqb z 0) (c .digit-value .ensures .0 ∙ ap digitOf (c .before .byte-at .ensures))))
