@@ -9,10 +9,10 @@ use Rattle.checking.proofs.accept.Tie as tie
 
 pub accept-spec : {M : Type 1} → statement M
 accept-spec = tie.close (tie.spec
-    (λ c κs. search needs)
-    (λ c κs. search needs)
-    (λ c κs. search needs)
-    (λ c κs. search needs)
+    (λ c κs. tt)
+    (λ c κs. tt)
+    (λ c κs. tt)
+    (λ c κs. tt)
     (λ c. let i = c .before in let o = i .before .before in let r = o .before .before in
     (refl, net-stop _ (r .read-net .result) (r .read-net .ensures) (o .of-net .result) (o .of-net .ensures) _ _ _ (c .refused .ensures .0) (sym (i .before .given .ensures) ∙ not-true _ (i .if1 .taken))))
     (λ c κs. let i = c .before in let o = i .before .before in let r = o .before .before in let s = r .before .before .before .before in

@@ -17,9 +17,9 @@ accept-record-spec = tie.close (tie.spec
       record { events = s .pre .0 .events; conditions = s .pre .0 .conditions; marks = s .pre .0 .marks; places = d .fewPlaces; transitions = d .fewTransitions },
       record { long = omega (arith, length-replicate {A = ℕ} 67200 0); zero = blank 67200 },
     ))
-    (λ c κs. search needs)
-    (λ c κs. search needs)
-    (λ c κs. search needs)
+    (λ c κs. tt)
+    (λ c κs. tt)
+    (λ c κs. tt)
     (λ c. let i = c .before in let o = i .before .before in let r = o .before .before in
     (refl, c .refused .ensures .1, λ N h. record-stop _ _ _ (r .read-record .result) _ (r .read-record .ensures) (o .of-record .result) (o .of-record .ensures) N h _ (c .refused .ensures .0) (sym (i .before .given .ensures) ∙ not-true _ (i .if1 .taken))))
     (λ c. search needs)

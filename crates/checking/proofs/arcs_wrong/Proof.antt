@@ -2,7 +2,6 @@ use Prim.Native.Nat.{ℕ, _-_, _≤_}
 use native.Mathlib.Omega.{arith}
 use mathlib.Core.Path.{_≡_, sym, _∙_}
 use mathlib.Core.List.{List}
-use borrow.Author.Needs.{needs}
 use Rattle.spec.specs.Lists.{any, from}
 use Rattle.lists.specs.Search.{any-start, any-hit, any-on, any-end}
 use Rattle.checking.specs.Tests.{arcWrong, anyArcWrong}
@@ -30,7 +29,7 @@ arcs-wrong-spec = tie.close (tie.spec Inv-loop μ-loop
     (λ c. omega arith)
     (λ c. omega arith)
     (λ c. omega arith)
-    (λ c κs. search needs)
+    (λ c κs. tt)
     (λ c. let w = c .before in let l = w .before .before .before .before in
     sym (any-hit _ _ _ (w .before .before .before .loop-test .taken) (arc-yes _ _ _ _ _ _ (w .wide16 .ensures) (c .if1 .taken))) ∙ l .loop .inv .1)
     (λ c. omega arith)

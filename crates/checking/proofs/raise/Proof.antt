@@ -11,7 +11,7 @@ raise-spec = tie.close (tie.spec
     (λ c. omega arith)
     (λ c. omega arith)
     (λ c. omega arith)
-    (λ c κs. search needs)
+    (λ c κs. tt)
     (λ c. omega arith)
     (λ c. search needs)
     (λ c. let i = c .before .before in raise-one _ _ _ _ _ (i .before .if1 .left) (i .if2 .left) (i .before .before .before .pre) (c .greater .ensures)))

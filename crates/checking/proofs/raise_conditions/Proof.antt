@@ -2,7 +2,6 @@ use Prim.Native.Nat.{ℕ, _-_, _≤_}
 use native.Mathlib.Omega.{arith}
 use mathlib.Core.Path.{_≡_, refl}
 use lib.ListN.{length}
-use borrow.Author.Needs.{needs}
 use Rattle.checking.specs.Relation.{Raised, overall, conditionPairIn}
 use Rattle.checking.proofs.Raising.{overall-none, overall-more, overall-end, condition-raised}
 use Rattle.checking.proofs.raise_conditions.Statement.{statement}
@@ -19,10 +18,10 @@ raise-conditions-spec = tie.close (tie.spec Inv-loop μ-loop
     (λ c. (omega arith, refl, overall-none _ _))
     (λ c. omega arith)
     (λ c. omega arith)
-    (λ c κs. search needs)
+    (λ c κs. tt)
     (λ c. omega arith)
     (λ c. omega arith)
-    (λ c κs. search needs)
+    (λ c κs. tt)
     (λ c κs. omega arith)
     (λ c. omega arith)
     (λ c. omega arith)

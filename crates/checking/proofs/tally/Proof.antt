@@ -1,7 +1,6 @@
 use Prim.Native.Nat.{ℕ, _-_, _≤_}
 use native.Mathlib.Omega.{arith}
 use mathlib.Core.Path.{_≡_}
-use borrow.Author.Needs.{needs}
 use Rattle.checking.specs.Tests.{Tally}
 use Rattle.checking.proofs.Tallies.{link-bounds, tally-none, tally-more, tally-most, tally-end}
 use Rattle.checking.proofs.tally.Statement.{statement}
@@ -18,11 +17,11 @@ tally-spec = tie.close (tie.spec Inv-loop μ-loop
     (λ c. (omega arith, tally-none _ _))
     (λ c. omega arith)
     (λ c. omega arith)
-    (λ c κs. search needs)
+    (λ c κs. tt)
     (λ c. omega (arith, c .wide .ensures .1))
     (λ c. omega arith)
     (λ c. omega arith)
-    (λ c κs. search needs)
+    (λ c κs. tt)
     (λ c. omega (arith, c .wide2 .ensures .1, c .before .before .wide .ensures .1))
     (λ c. omega (arith, c .wide2 .ensures .1, c .before .before .wide .ensures .1))
     (λ c. let w = c .before .before in let l = w .before .before .before in

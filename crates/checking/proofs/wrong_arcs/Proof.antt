@@ -1,7 +1,6 @@
 use Prim.Native.Nat.{ℕ, _-_, _≤_}
 use native.Mathlib.Omega.{arith}
 use mathlib.Core.Path.{_≡_, _∙_}
-use borrow.Author.Needs.{needs}
 use Rattle.spec.specs.Lists.{from, first, lowest}
 use Rattle.lists.specs.Search.{lowest-start, first-on}
 use Rattle.lists.specs.Lowest.{lowest-hit, lowest-end}
@@ -23,7 +22,7 @@ wrong-arcs-spec = tie.close (tie.spec Inv-loop μ-loop
     (λ c κs. let s = c .before .before .before .before in (s .pre .1 .conditions, omega arith, s .pre .1 .long, s .pre .1 .producers))
     (λ c. (omega arith, lowest-start _ _))
     (λ c. let s = c .before .before .before .before .before .before .before .before in omega (arith, s .pre .1 .events, s .pre .1 .long))
-    (λ c κs. search needs)
+    (λ c κs. tt)
     (λ c κs. let w = c .before .before in let l = w .before .before .before in let s = l .before .before .before .before .before .before in
     (omega (arith, s .pre .1 .events), omega (arith, w .wide .ensures .0, s .pre .1 .transition (l .loop .e) (w .before .before .loop-test .taken)), s .pre .0))
     (λ c κs. let w = c .before .before .before .before .before in let l = w .before .before .before in let s = l .before .before .before .before .before .before in

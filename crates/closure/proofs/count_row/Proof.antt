@@ -2,7 +2,6 @@ use Prim.Native.Nat.{ℕ, _+_, _-_, _*_, _≤_}
 use native.Mathlib.Omega.{arith}
 use native.Mathlib.Nat.{le-refl}
 use mathlib.Core.Path.{_≡_, refl}
-use borrow.Author.Needs.{needs}
 use lib.ListN.{length, getD, length-set}
 use Rattle.lists.specs.Mapped.{Mapped, mapped-none, mapped-more, mapped-end}
 use Rattle.closure.specs.Changes.{counted}
@@ -22,7 +21,7 @@ count-row-spec = tie.close (tie.spec Inv-loop μ-loop
     (λ c. (omega arith, refl, mapped-none _ _))
     (λ c. omega arith)
     (λ c. omega arith)
-    (λ c κs. search needs)
+    (λ c κs. tt)
     (λ c. omega arith)
     (λ c. let l = c .before .before .before .before in let s = l .before .before .before in
     omega (arith, l .loop .inv .2 .beyond (l .loop .f) (le-refl _), s .pre .4 (l .loop .f) (omega arith), c .before .gated .ensures, gate-one (getD (s .args .t .now) (128 * s .args .g + l .loop .f) 0)))

@@ -1,7 +1,6 @@
 use Prim.Native.Nat.{ℕ, _-_, _≤_}
 use native.Mathlib.Omega.{arith}
 use mathlib.Core.Path.{_≡_, _∙_}
-use borrow.Author.Needs.{needs}
 use Rattle.closure.specs.Changes.{greatestOf}
 use Rattle.closure.proofs.Counting.{greatest-none, greatest-more, greatest-end}
 use Rattle.closure.proofs.greatest.Statement.{statement}
@@ -17,9 +16,9 @@ pub greatest-spec : {M : Type 1} → statement M
 greatest-spec = tie.close (tie.spec Inv-loop μ-loop
     (λ c. (omega arith, greatest-none _))
     (λ c. omega arith)
-    (λ c κs. search needs)
+    (λ c κs. tt)
     (λ c. omega arith)
     (λ c. omega arith)
     (λ c. (omega arith, greatest-more (c .before .before .before .before .args .counts .now) _ _ _ (c .greater .ensures) (c .before .before .before .loop .inv .1)))
-    (λ c κs. search needs)
+    (λ c κs. tt)
     (λ c. (c .wide .ensures .0 ∙ greatest-end _ _ _ _ (omega arith) (c .before .before .loop .inv .1), c .wide .ensures .1)))

@@ -2,7 +2,6 @@ use Prim.Native.Nat.{ℕ, _-_, _≤_}
 use native.Mathlib.Omega.{arith}
 use mathlib.Core.Path.{_≡_, refl, ap, _∙_}
 use mathlib.Core.List.{List}
-use borrow.Author.Needs.{needs}
 use Rattle.spec.specs.Lists.{count, upTo, from, asCount}
 use Rattle.lists.specs.Running.{count-next}
 use Rattle.order.specs.Table.{cellAt}
@@ -28,7 +27,7 @@ pub independents-below-spec : {M : Type 1} → statement M
 independents-below-spec = tie.close (tie.spec Inv-loop μ-loop
     (λ c. (omega arith, omega arith, none-yet _ _))
     (λ c κs. omega arith)
-    (λ c κs. search needs)
+    (λ c κs. tt)
     (λ c. omega (arith, c .one-if .ensures .1))
     (λ c. omega arith)
     (λ c. omega arith)

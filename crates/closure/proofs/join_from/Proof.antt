@@ -1,7 +1,6 @@
 use Prim.Native.Nat.{ℕ, _-_, _≤_}
 use native.Mathlib.Omega.{arith}
 use mathlib.Core.Path.{_≡_, refl}
-use borrow.Author.Needs.{needs}
 use lib.ListN.{length, length-set}
 use Rattle.closure.specs.Changes.{RowMapped, joined}
 use Rattle.closure.proofs.Rows.{row-none, row-put, row-end}
@@ -22,7 +21,7 @@ join-from-spec = tie.close (tie.spec Inv-loop μ-loop
     (λ c κs. omega arith)
     (λ c. omega arith)
     (λ c. omega arith)
-    (λ c κs. search needs)
+    (λ c κs. tt)
     (λ c. omega arith)
     (λ c. omega arith)
     (λ c. omega arith)

@@ -11,7 +11,7 @@ join-row-spec = tie.close (tie.spec
     (λ c. search needs)
     (λ c. search needs)
     (λ c κs. search needs)
-    (λ c κs. search needs)
+    (λ c κs. tt)
     (λ c κs. search needs)
     (λ c. search needs)
     (λ c. let j = c .before .before in

@@ -9,7 +9,7 @@ pub push-spec : {M : Type 1} → statement M
 push-spec = tie.close (tie.spec
     (λ c. let s = c .before .before .before in push-none _ _ _ (s .pre .0) _ _ (s .pre .2) (λ l. absurd (omega (arith, c .if1 .taken))))
     (λ c. search needs)
-    (λ c κs. search needs)
+    (λ c κs. tt)
     (λ c. let w = c .before in let s = w .before .before .before .before .before in
     push-none _ _ _ (s .pre .0) _ _ (s .pre .2) (λ l h. c .if2 .taken (w .wide .ensures .0 ∙ h)))
     (λ c. omega arith)

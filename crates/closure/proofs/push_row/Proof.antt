@@ -1,7 +1,6 @@
 use Prim.Native.Nat.{ℕ, _-_, _≤_}
 use native.Mathlib.Omega.{arith}
 use mathlib.Core.Path.{_≡_, refl}
-use borrow.Author.Needs.{needs}
 use lib.ListN.{length, length-set}
 use Rattle.lists.specs.Mapped.{Mapped, mapped-none, mapped-more, mapped-end}
 use Rattle.closure.specs.Changes.{pushed}
@@ -21,9 +20,9 @@ push-row-spec = tie.close (tie.spec Inv-loop μ-loop
     (λ c. (omega arith, refl, mapped-none _ _))
     (λ c. omega arith)
     (λ c. omega arith)
-    (λ c κs. search needs)
+    (λ c κs. tt)
     (λ c. omega arith)
-    (λ c κs. search needs)
+    (λ c κs. tt)
     (λ c. omega arith)
     (λ c. omega arith)
     (λ c. omega arith)
