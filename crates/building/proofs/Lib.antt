@@ -3,6 +3,5 @@ pub mod Judging
 pub mod Lines
 pub mod Running
 pub mod Beginning
-pub mod Joining
 pub mod Recorded
 pub mod Operation

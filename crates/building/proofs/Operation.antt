@@ -32,7 +32,7 @@ use Rattle.playing.specs.Holds.{Arcs}
 use Rattle.building.specs.Holds.{HoldsRun, HoldsAny, Begun, Begins, logAnswer, given, nothing, buildAnswer, Builds}
 use Rattle.building.specs.declared.Run.{Run}
 use Rattle.building.specs.declared.LogAnswer.{LogAnswer}
-use Rattle.building.specs.Bytes.{historyBytes, Writable}
+use Rattle.recording.specs.Bytes.{historyBytes, Writable}
 use Rattle.building.specs.declared.BuildAnswer.{BuildAnswer}
 use Rattle.building.specs.declared.BuildAnswer.the-variants.{Written}
 use Rattle.building.proofs.Beginning.{tokens-are}

@@ -22,7 +22,7 @@ use Rattle.playing.specs.Conditions.{decoded, conditionIn, conditionsIn}
 use Rattle.playing.specs.Holds.{eventIn, eventsIn, eventsOf, conditionsOf, Arcs}
 use Rattle.playing.proofs.Coded.{event-coded}
 use Rattle.building.specs.Holds.{HoldsRun}
-use Rattle.building.specs.Bytes.{joinedTo, eventBytes, codedLine, conditionBytes, dueAt, earlierAt, kindIf, markBytes, marksBytes, historyBytes, Coded, Writable}
+use Rattle.recording.specs.Bytes.{joinedTo, eventBytes, codedLine, conditionBytes, dueAt, earlierAt, kindIf, markBytes, marksBytes, historyBytes, Coded, Writable}
 use Rattle.playing.specs.declared.History.{History}
 use Rattle.building.specs.declared.Run.{Run}
 use Rattle.building.proofs.Reaching.{events-held, conditions-held}

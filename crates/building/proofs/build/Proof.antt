@@ -4,7 +4,7 @@ use borrow.Author.Needs.{needs}
 use borrow.Author.Tests.{not-true, not-false}
 use Rattle.building.specs.declared.BuildAnswer.the-variants.{BufferShort}
 use Rattle.building.proofs.Operation.{net-accepted, net-refused, net-arcs, net-tokens, net-few, net-begun, log-accepted, log-refused, played-bytes, played-writable, played-size, played-room, build-20, build-run, refuses-all, refuses-net, refuses-log, writes}
-use Rattle.building.proofs.Joining.{wrote-as}
+use Rattle.recording.proofs.Joining.{wrote-as}
 use Rattle.building.proofs.build.Statement.{statement}
 use Rattle.building.proofs.build.Tie as tie
 

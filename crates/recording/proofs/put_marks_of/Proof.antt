@@ -3,10 +3,10 @@ use mathlib.Core.Path.{_≡_}
 use native.Mathlib.Omega.{arith}
 use Rattle.writing.specs.Written.{Wrote}
 use Rattle.writing.proofs.Laws.{wrote-length}
-use Rattle.building.specs.Bytes.{joinedTo, markBytes, marksBytes}
-use Rattle.building.proofs.Joining.{wrote-none, wrote-room, wrote-next, wrote-all}
-use Rattle.building.proofs.put_marks_of.Statement.{statement}
-use Rattle.building.proofs.put_marks_of.Tie as tie
+use Rattle.recording.specs.Bytes.{joinedTo, markBytes, marksBytes}
+use Rattle.recording.proofs.Joining.{wrote-none, wrote-room, wrote-next, wrote-all}
+use Rattle.recording.proofs.put_marks_of.Statement.{statement}
+use Rattle.recording.proofs.put_marks_of.Tie as tie
 
 abbrev Inv-loop : tie.InvT-loop
 Inv-loop out₀ at e n inhibitors transitions steps places producers consumers t next₀ c₀ out next c = (c ≤ n) × Wrote out₀ at (joinedTo (markBytes inhibitors steps places producers consumers e t) c) next out

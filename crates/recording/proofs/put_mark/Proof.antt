@@ -2,9 +2,9 @@ use mathlib.Core.Path.{refl, ap}
 use native.Mathlib.Omega.{arith}
 use lib.ListN.{length}
 use borrow.Author.Needs.{needs}
-use Rattle.building.proofs.Joining.{wrote-as, mark-before, mark-after}
-use Rattle.building.proofs.put_mark.Statement.{statement}
-use Rattle.building.proofs.put_mark.Tie as tie
+use Rattle.recording.proofs.Joining.{wrote-as, mark-before, mark-after}
+use Rattle.recording.proofs.put_mark.Statement.{statement}
+use Rattle.recording.proofs.put_mark.Tie as tie
 
 pub put-mark-spec : {M : Type 1} → statement M
 put-mark-spec = tie.close (tie.spec

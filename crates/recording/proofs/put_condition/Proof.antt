@@ -2,9 +2,9 @@ use mathlib.Core.Path.{refl, ap}
 use native.Mathlib.Omega.{arith}
 use lib.ListN.{length}
 use borrow.Author.Needs.{needs}
-use Rattle.building.proofs.Joining.{wrote-as, coded-fields}
-use Rattle.building.proofs.put_condition.Statement.{statement}
-use Rattle.building.proofs.put_condition.Tie as tie
+use Rattle.recording.proofs.Joining.{wrote-as, coded-fields}
+use Rattle.recording.proofs.put_condition.Statement.{statement}
+use Rattle.recording.proofs.put_condition.Tie as tie
 
 pub put-condition-spec : {M : Type 1} → statement M
 put-condition-spec = tie.close (tie.spec

@@ -3,8 +3,8 @@ use native.Mathlib.Omega.{arith}
 use borrow.Author.Needs.{needs}
 use Rattle.spec.specs.Text.{line}
 use Rattle.spec.specs.Record.{eventLine}
-use Rattle.building.proofs.put_event.Statement.{statement}
-use Rattle.building.proofs.put_event.Tie as tie
+use Rattle.recording.proofs.put_event.Statement.{statement}
+use Rattle.recording.proofs.put_event.Tie as tie
 
 pub put-event-spec : {M : Type 1} → statement M
 unfolding eventLine line

@@ -1,9 +1,9 @@
 use mathlib.Core.Path.{_≡_, refl}
 use native.Mathlib.Omega.{arith}
 use borrow.Author.Tests.{eq-eqb, ne-eqb}
-use Rattle.building.specs.Bytes.{earlierAt}
-use Rattle.building.proofs.earlier.Statement.{statement}
-use Rattle.building.proofs.earlier.Tie as tie
+use Rattle.recording.specs.Bytes.{earlierAt}
+use Rattle.recording.proofs.earlier.Statement.{statement}
+use Rattle.recording.proofs.earlier.Tie as tie
 
 pub earlier-spec : {M : Type 1} → statement M
 unfolding earlierAt

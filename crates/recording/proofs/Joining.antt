@@ -18,7 +18,7 @@ use Rattle.steps.specs.Holds.{cellAt}
 use Rattle.playing.specs.Conditions.{decoded}
 use Rattle.writing.specs.Written.{Wrote, lineBytes}
 use Rattle.writing.proofs.Laws.{none, after, wrote-length}
-use Rattle.building.specs.Bytes.{joinedTo, codedLine, kindIf, dueAt, earlierAt, markBytes, eventBytes, conditionBytes, marksBytes, historyBytes}
+use Rattle.recording.specs.Bytes.{joinedTo, codedLine, kindIf, dueAt, earlierAt, markBytes, eventBytes, conditionBytes, marksBytes, historyBytes}
 use Rattle.playing.specs.declared.History.{History}
 
 module _ (f : ℕ → List ℕ) where

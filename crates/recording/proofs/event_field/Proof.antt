@@ -2,8 +2,8 @@ use mathlib.Core.Path.{_≡_, refl}
 use borrow.Author.Tests.{eq-eqb, ne-eqb}
 use Rattle.spec.specs.Record.{eventField}
 use Rattle.playing.specs.Conditions.{decoded}
-use Rattle.building.proofs.event_field.Statement.{statement}
-use Rattle.building.proofs.event_field.Tie as tie
+use Rattle.recording.proofs.event_field.Statement.{statement}
+use Rattle.recording.proofs.event_field.Tie as tie
 
 pub event-field-spec : {M : Type 1} → statement M
 unfolding eventField decoded

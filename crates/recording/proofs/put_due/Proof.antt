@@ -3,9 +3,9 @@ use native.Mathlib.Omega.{arith}
 use lib.ListN.{length}
 use borrow.Author.Needs.{needs}
 use Rattle.writing.proofs.Laws.{none}
-use Rattle.building.proofs.Joining.{wrote-as, mark-due, mark-none}
-use Rattle.building.proofs.put_due.Statement.{statement}
-use Rattle.building.proofs.put_due.Tie as tie
+use Rattle.recording.proofs.Joining.{wrote-as, mark-due, mark-none}
+use Rattle.recording.proofs.put_due.Statement.{statement}
+use Rattle.recording.proofs.put_due.Tie as tie
 
 pub put-due-spec : {M : Type 1} → statement M
 put-due-spec = tie.close (tie.spec
