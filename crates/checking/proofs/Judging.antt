@@ -13,7 +13,7 @@ use Rattle.spec.specs.Check.{wrongInitial, wrongArcs, wrongMarks, wrongKind, be
 use Rattle.lists.specs.Lowest.{Lowest}
 use Rattle.net.specs.declared.Net.{Net}
 use Rattle.record.specs.declared.Counts.{Counts}
-use Rattle.checking.specs.Held.{Held}
+use Rattle.rules.specs.Held.{Held}
 
 -- a rule whose lowest offender is known
 module _ (k : ℕ) {q : ℕ → Bool} {n r : ℕ} (l : Lowest q n r) where

@@ -1,8 +1,3 @@
-pub mod Tallies
-pub mod Codes
-pub mod Rules
-pub mod MarkBytes
-pub mod Raising
 pub mod RecordPairs
 pub mod RecordOrder
 pub mod Judging

@@ -23,8 +23,9 @@ use Rattle.closure.specs.Changes.{Holds}
 use Rattle.closure.specs.Pairs.{strictIn, onCycle}
 use Rattle.net.specs.declared.Net.{Net}
 use Rattle.record.specs.declared.Counts.{Counts}
-use Rattle.checking.specs.Held.{Held}
-use Rattle.checking.specs.Relation.{relationIn, Filled, HoldsOrder, Ordered}
+use Rattle.rules.specs.Held.{Held}
+use Rattle.pairs.specs.Relation.{relationIn, Filled}
+use Rattle.checking.specs.Relation.{HoldsOrder, Ordered}
 use Rattle.checking.proofs.RecordPairs.{relation-is}
 
 -- relations that agree on the events below n have one closure there

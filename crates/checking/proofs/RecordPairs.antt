@@ -21,10 +21,10 @@ use Rattle.runs.specs.Values.{weight, valueAt, pairAt, pair-above}
 use Rattle.net.specs.declared.Net.{Net}
 use Rattle.record.specs.Holds.{eventCode, kindCode}
 use Rattle.record.specs.declared.Counts.{Counts}
-use Rattle.checking.specs.Held.{Held}
-use Rattle.checking.specs.Relation.{pairIn, conditionPairIn, markPairIn, overall, eventPairsIn, relationIn}
-use Rattle.checking.proofs.Codes.{in-record}
-use Rattle.checking.proofs.MarkBytes.{mark-found, mark-held}
+use Rattle.rules.specs.Held.{Held}
+use Rattle.pairs.specs.Relation.{pairIn, conditionPairIn, markPairIn, overall, eventPairsIn, relationIn}
+use Rattle.rules.proofs.Codes.{in-record}
+use Rattle.rules.proofs.MarkBytes.{mark-found, mark-held}
 
 -- ---- a pair
 

@@ -1,5 +1,3 @@
-pub mod Held
-pub mod Tests
 pub mod Relation
 pub mod Accepting
 pub mod Checking

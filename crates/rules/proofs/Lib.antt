@@ -1,0 +1,4 @@
+pub mod Tallies
+pub mod Codes
+pub mod Rules
+pub mod MarkBytes
