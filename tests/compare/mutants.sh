@@ -36,8 +36,8 @@ edit() { # FILE OLD NEW
 judge() { # NAME: the edited copy in $work/src
   local fixed generated brute
   stand_in "$work/src" || { echo "$1: DOES NOT COMPILE"; failed=$((failed + 1)); return; }
-  fixed=$(sees compare --cases 8)
-  generated=$(sees compare --generated-only --cases 20000)
+  fixed=$(sees compare --only fixed)
+  generated=$(sees compare --only generated --cases 20000)
   brute=$(sees brute --runs 30)
   tried=$((tried + 1))
   echo "$1: fixed $fixed, generated $generated, brute $brute"

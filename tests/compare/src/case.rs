@@ -66,7 +66,7 @@ impl Operation {
         }
     }
 
-    /// Every refusal that document 01 lists for it.
+    /// Every refusal that document 01 lists for it; of the program also 20, by which the C interface refuses a short buffer.
     pub fn refusals(self) -> Vec<u64> {
         let net = 11..=15;
         let record = 31..=39;
@@ -77,7 +77,7 @@ impl Operation {
             Operation::Replay => net.chain(record).chain(40..=45).collect(),
             Operation::Arrange => net.chain(record).chain([50]).collect(),
             Operation::RefusedLine => vec![46],
-            Operation::Program => net.chain([10]).chain(21..=27).collect(),
+            Operation::Program => net.chain([10]).chain(20..=27).collect(),
         }
     }
 }
@@ -125,11 +125,14 @@ pub struct Outcome {
 }
 
 impl Outcome {
-    /// The answer's number; of the program, which answers 0 when it prints a refusal, that of the `X` line.
-    pub fn refusal(&self) -> u64 {
-        let printed = self.bytes.get(GUARD..).and_then(|lent| lent.strip_prefix(b"X,"));
-        let digits = printed.unwrap_or_default().iter().take_while(|byte| byte.is_ascii_digit());
-        self.answer.number + digits.fold(0, |number, digit| number * 10 + u64::from(digit - b'0'))
+    /// The answer's number and spot; of the program, which answers 0 when it prints a refusal, those of the `X` line.
+    pub fn refusal(&self) -> (u64, u64) {
+        let printed = self.bytes.get(GUARD..).and_then(|lent| lent.strip_prefix(b"X,")).unwrap_or_default();
+        let mut words = printed.split(|byte| !byte.is_ascii_digit()).map(|digits| {
+            digits.iter().fold(0, |number: u64, digit| number.wrapping_mul(10).wrapping_add(u64::from(digit - b'0')))
+        });
+        let mut word = || words.next().unwrap_or(0);
+        (self.answer.number.wrapping_add(word()), self.answer.spot.wrapping_add(word()))
     }
 }
 

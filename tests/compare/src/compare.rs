@@ -1,98 +1,129 @@
-//! The comparison: a subject, the library, against the vectors and against the simulator.
+//! The comparison: a subject, the library, against the vectors and against a reference, the simulator.
 
 use crate::case::{difference, run, Case, Operation, Outcome, Subject};
 use crate::rng::Rng;
-use crate::sim::Simulator;
 use crate::{corpus, gen, vectors};
-use std::collections::BTreeMap;
+use std::collections::{BTreeMap, BTreeSet};
+
+/// Where cases come from.
+#[derive(Clone, Copy, Debug, PartialEq, Eq)]
+pub enum Source {
+    Vectors,
+    Fixed,
+    Generated,
+}
+
+impl Source {
+    pub const ALL: [Source; 3] = [Source::Vectors, Source::Fixed, Source::Generated];
+
+    pub fn name(self) -> &'static str {
+        ["vectors", "fixed", "generated"][self as usize]
+    }
+}
 
 pub struct Plan {
-    /// Generated cases, besides the fixed ones.
+    pub sources: Vec<Source>,
+    /// Generated cases, besides the others.
     pub cases: usize,
     pub seed: u64,
-    /// Leave out the vectors and the fixed cases: for judging the generator alone.
-    pub generated_only: bool,
+    /// After so many differences nothing more is run.
+    pub enough: usize,
     /// Say each round before it is run: for a library that never comes back.
     pub trace: bool,
 }
 
-/// After so many differences nothing more is run.
-const ENOUGH: usize = 5;
+/// How often an answer came, and some of its spots.
+#[derive(Default)]
+struct Met {
+    count: usize,
+    spots: BTreeSet<u64>,
+}
 
 struct Comparison<'a> {
     subject: &'a dyn Subject,
+    reference: &'a dyn Subject,
+    plan: &'a Plan,
     cases: usize,
     differences: usize,
-    /// How often each number came as an answer, by operation; 0 is accepted.
-    met: BTreeMap<(Operation, u64), usize>,
+    /// The subject's answers by operation and number; 0 is accepted.
+    met: BTreeMap<(Operation, u64), Met>,
 }
 
-/// Did all cases agree, and was every refusal met?
-pub fn compare(subject: &dyn Subject, plan: &Plan) -> bool {
-    let mut comparison = Comparison { subject, cases: 0, differences: 0, met: BTreeMap::new() };
-    if !plan.generated_only {
-        comparison.vectors();
-        comparison.corpus();
+/// Did all cases agree, and, where there were cases of every source, was every refusal met?
+pub fn compare(subject: &dyn Subject, reference: &dyn Subject, plan: &Plan) -> bool {
+    let mut comparison = Comparison { subject, reference, plan, cases: 0, differences: 0, met: BTreeMap::new() };
+    for source in &plan.sources {
+        let before = comparison.cases;
+        match source {
+            Source::Vectors => comparison.vectors(),
+            Source::Fixed => comparison.fixed(),
+            Source::Generated => comparison.rounds(),
+        }
+        println!("{}: {} cases", source.name(), comparison.cases - before);
     }
-    comparison.rounds(plan);
     comparison.report()
 }
 
 impl Comparison<'_> {
     fn done(&self) -> bool {
-        self.differences >= ENOUGH
+        self.differences >= self.plan.enough
     }
 
+    /// The subject against the answers written out, and against the reference.
     fn vectors(&mut self) {
         for vector in vectors::all() {
             if self.done() {
                 return;
             }
-            let expected = vector.outcome();
-            let found = self.run(&vector.case);
-            if let Some(what) = difference(&found, &expected) {
+            let found = run(self.subject, &vector.case);
+            if let Some(what) = difference(&found, &vector.outcome()) {
                 self.tell(&format!("vector '{}', {} and the vector", vector.name, self.subject.name()), &what, &vector.case);
             }
+            self.one(&format!("vector '{}'", vector.name), &vector.case);
         }
     }
 
-    fn corpus(&mut self) {
-        for case in corpus::all() {
-            self.one("fixed case", &case);
+    fn fixed(&mut self) {
+        for (number, case) in corpus::all().iter().enumerate() {
+            self.one(&format!("fixed case {number}"), case);
         }
     }
 
-    fn rounds(&mut self, plan: &Plan) {
-        let fixed = self.cases;
+    fn rounds(&mut self) {
+        let before = self.cases;
         let mut round = 0;
-        while self.cases < fixed + plan.cases && !self.done() {
-            if plan.trace {
+        while self.cases < before + self.plan.cases && !self.done() {
+            if self.plan.trace {
                 eprintln!("round {round}");
             }
-            let mut rng = Rng::for_round(plan.seed, round);
+            let mut rng = Rng::for_round(self.plan.seed, round);
             for case in gen::round(&mut rng) {
-                self.one(&format!("seed {}, round {round}", plan.seed), &case);
+                self.one(&format!("seed {}, round {round}", self.plan.seed), &case);
             }
             round += 1;
         }
-    }
-
-    fn run(&mut self, case: &Case) -> Outcome {
-        let outcome = run(self.subject, case);
-        self.cases += 1;
-        *self.met.entry((case.operation, outcome.refusal())).or_default() += 1;
-        outcome
     }
 
     fn one(&mut self, source: &str, case: &Case) {
         if self.done() {
             return;
         }
-        let found = self.run(case);
-        if difference(&found, &run(&Simulator, case)).is_some() {
-            let small = shrink(self.subject, case);
-            let what = differs(self.subject, &small).unwrap_or_default();
-            self.tell(&format!("{source}, {} and simulator", self.subject.name()), &what, &small);
+        let found = run(self.subject, case);
+        self.count(case.operation, &found);
+        if difference(&found, &run(self.reference, case)).is_some() {
+            let small = shrink(self.subject, self.reference, case);
+            let what = differs(self.subject, self.reference, &small).unwrap_or_default();
+            self.tell(&format!("{source}, {} and {}", self.subject.name(), self.reference.name()), &what, &small);
+        }
+    }
+
+    fn count(&mut self, operation: Operation, outcome: &Outcome) {
+        let (number, spot) = outcome.refusal();
+        let met = self.met.entry((operation, number)).or_default();
+        self.cases += 1;
+        met.count += 1;
+        if met.spots.len() < 2 {
+            met.spots.insert(spot);
         }
     }
 
@@ -104,34 +135,42 @@ impl Comparison<'_> {
     fn report(&self) -> bool {
         let mut unmet = Vec::new();
         for operation in Operation::ALL {
-            let count = |number: u64| self.met.get(&(operation, number)).copied().unwrap_or(0);
+            let count = |number: u64| self.met.get(&(operation, number)).map_or(0, |met| met.count);
             let words = operation.refusals().iter().map(|number| format!(" {number}:{}", count(*number))).collect::<String>();
             println!("{:12} accepted {}; refused{words}", operation.name(), count(0));
             let wanted = operation.refusals().into_iter().chain([0]);
-            unmet.extend(wanted.filter(|number| count(*number) == 0).map(|number| format!("{} {number}", operation.name())));
+            unmet.extend(wanted.filter(|number| !self.is_met(operation, *number)).map(|number| format!("{} {number}", operation.name())));
         }
-        if !unmet.is_empty() {
-            println!("never met: {}", unmet.join(", "));
+        let all = self.plan.sources.len() == Source::ALL.len();
+        if all && !unmet.is_empty() {
+            println!("never met, or at one spot only: {}", unmet.join(", "));
         }
-        println!("compare: {} cases, {} differ, {} refusals not met", self.cases, self.differences, unmet.len());
-        self.differences == 0 && unmet.is_empty()
+        println!("compare ({}): {} cases, {} differ, {} refusals not met", self.subject.name(), self.cases, self.differences, unmet.len());
+        self.differences == 0 && (unmet.is_empty() || !all)
+    }
+
+    /// Did the answer come, and where it has a spot, at two spots or more?
+    fn is_met(&self, operation: Operation, number: u64) -> bool {
+        let spots = if [0, 10, 20, 30, 40, 50].contains(&number) { 1 } else { 2 };
+        self.met.get(&(operation, number)).is_some_and(|met| met.spots.len() >= spots)
     }
 }
 
-fn differs(subject: &dyn Subject, case: &Case) -> Option<String> {
-    difference(&run(subject, case), &run(&Simulator, case))
+fn differs(subject: &dyn Subject, reference: &dyn Subject, case: &Case) -> Option<String> {
+    difference(&run(subject, case), &run(reference, case))
 }
 
 /// Makes a case smaller that differs: runs of lines are taken out of its texts, long ones first.
 struct Shrinking<'a> {
     subject: &'a dyn Subject,
+    reference: &'a dyn Subject,
     small: Case,
     /// Trials left: a case at a limit cannot be made smaller, and trying all its lines would take long.
     left: usize,
 }
 
-fn shrink(subject: &dyn Subject, case: &Case) -> Case {
-    let mut shrinking = Shrinking { subject, small: case.clone(), left: 400 };
+fn shrink(subject: &dyn Subject, reference: &dyn Subject, case: &Case) -> Case {
+    let mut shrinking = Shrinking { subject, reference, small: case.clone(), left: 400 };
     for which in 0..case.texts.len() {
         let mut part = case.texts[which].len() / 2;
         while part > 0 {
@@ -155,7 +194,7 @@ impl Shrinking<'_> {
             let mut tried = self.small.clone();
             tried.texts[which] = [lines[..at].concat(), lines[end..].concat()].concat();
             self.left -= 1;
-            if differs(self.subject, &tried).is_some() {
+            if differs(self.subject, self.reference, &tried).is_some() {
                 self.small = tried;
             } else {
                 at += part;
@@ -167,17 +206,40 @@ impl Shrinking<'_> {
 #[cfg(test)]
 mod tests {
     use super::*;
+    use crate::case::lent;
+    use crate::sim::{Simulator, EVENTS};
 
     /// The simulator against itself: no difference, and the generator alone meets every refusal of every operation.
     #[test]
     fn generator_meets_every_refusal() {
-        let mut comparison = Comparison { subject: &Simulator, cases: 0, differences: 0, met: BTreeMap::new() };
-        comparison.rounds(&Plan { cases: 60_000, seed: 7, generated_only: true, trace: false });
+        let plan = Plan { sources: vec![Source::Generated], cases: 60_000, seed: 7, enough: 1, trace: false };
+        let mut comparison = Comparison { subject: &Simulator, reference: &Simulator, plan: &plan, cases: 0, differences: 0, met: BTreeMap::new() };
+        comparison.rounds();
         assert_eq!(comparison.differences, 0);
         for operation in Operation::ALL {
             for number in operation.refusals().into_iter().chain([0]) {
-                assert!(comparison.met.contains_key(&(operation, number)), "{} {number}", operation.name());
+                assert!(comparison.is_met(operation, number), "{} {number}", operation.name());
             }
         }
+    }
+
+    /// Orders of every kind are met: with weak pairs only one way, both ways, strict pairs, and with none.
+    #[test]
+    fn generator_meets_every_kind_of_order() {
+        let mut met = [0; 4];
+        for round in 0..4_000 {
+            let cases = gen::round(&mut Rng::for_round(8, round));
+            let case = cases.iter().find(|case| case.operation == Operation::Check).expect("a case of each operation");
+            let mut found = run(&Simulator, case);
+            let events = found.answer.a as usize;
+            if found.answer.accepted() && events > 1 {
+                let table = lent(&mut found.bytes);
+                let pairs = (0..events).flat_map(|f| (0..f).map(move |e| (e, f)));
+                let kinds = pairs.map(|(e, f)| (table[EVENTS * e + f], table[EVENTS * f + e]));
+                let kinds: BTreeSet<usize> = kinds.map(|(one, other)| if one + other == 2 && one == 1 { 3 } else { one.max(other) as usize }).collect();
+                kinds.iter().for_each(|kind| met[*kind] += 1);
+            }
+        }
+        assert!(met.iter().all(|count| *count > 50), "none, weak, strict, weak both ways: {met:?}");
     }
 }

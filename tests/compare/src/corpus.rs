@@ -1,19 +1,26 @@
 //! Fixed cases without an answer written out: texts damaged at every byte, and the limits from both sides.
 
 use crate::case::{lent, run, Case, Operation};
-use crate::gen::{build, BYTES};
+use crate::gen::{build, BYTES, NUMBERS};
 use crate::sim::Simulator;
 use crate::vectors::{line_of, times, Text, CASE_A, CASE_B, DRIVE, MUTUAL, MUTUAL_RECORD};
 
 pub fn all() -> Vec<Case> {
     let mut cases = Vec::new();
     for case in sound() {
-        damaged(&case, &mut cases);
+        for which in 0..case.texts.len() {
+            let put = |cases: &mut Vec<Case>, changed: Vec<Vec<u8>>| cases.extend(changed.into_iter().map(|text| with_text(&case, which, text)));
+            put(&mut cases, other_bytes(&case.texts[which]));
+            put(&mut cases, other_numbers(&case.texts[which]));
+            put(&mut cases, other_lines(&case.texts[which]));
+        }
         rooms(&case, &mut cases);
     }
+    every_byte(&mut cases);
     net_limits(&mut cases);
     log_limits(&mut cases);
     record_limits(&mut cases);
+    ring(&mut cases);
     lines_asked(&mut cases);
     long_texts(&mut cases);
     cases
@@ -38,36 +45,86 @@ fn sound() -> Vec<Case> {
     ]
 }
 
-/// Each text cut at every byte, and at every byte each of many bytes put in its place, put before it, or none.
-fn damaged(case: &Case, cases: &mut Vec<Case>) {
-    for (which, text) in case.texts.iter().enumerate() {
-        let mut add = |changed: Vec<u8>| {
-            let mut texts = case.texts.clone();
-            texts[which] = changed;
-            cases.push(Case { texts, ..case.clone() });
-        };
-        for at in 0..text.len() {
-            add(text[..at].to_vec());
-            add([&text[..at], &text[at + 1..]].concat());
-            for byte in BYTES {
-                add([&text[..at], &[byte], &text[at + 1..]].concat());
-            }
-            for byte in *b"0,-\n\r=" {
-                add([&text[..at], &[byte], &text[at..]].concat());
+fn with_text(case: &Case, which: usize, text: Vec<u8>) -> Case {
+    let mut changed = case.clone();
+    changed.texts[which] = text;
+    changed
+}
+
+/// The text cut at every byte, and at every byte each of many bytes put in its place, put before it, or none.
+fn other_bytes(text: &[u8]) -> Vec<Vec<u8>> {
+    let mut changed = Vec::new();
+    for at in 0..text.len() {
+        changed.push(text[..at].to_vec());
+        changed.push([&text[..at], &text[at + 1..]].concat());
+        changed.extend(BYTES.map(|byte| [&text[..at], &[byte], &text[at + 1..]].concat()));
+        changed.extend(b"0,-\n\r=".map(|byte| [&text[..at], &[byte], &text[at..]].concat()));
+    }
+    changed
+}
+
+/// Each number of the text in turn: another one, one that is too long or has needless zeros, or none.
+fn other_numbers(text: &[u8]) -> Vec<Vec<u8>> {
+    let digit = |at: usize| text.get(at).is_some_and(|byte| byte.is_ascii_digit());
+    let starts = (0..text.len()).filter(|at| digit(*at) && !(*at > 0 && digit(at - 1)));
+    let changed = starts.flat_map(|start| {
+        let end = (start..).find(|at| !digit(*at)).expect("a text ends");
+        let zeros = ["0", "00", "000"].map(|zeros| [&text[..start], zeros.as_bytes(), &text[start..]].concat());
+        let others = NUMBERS.map(|number| [&text[..start], number.as_bytes(), &text[end..]].concat());
+        zeros.into_iter().chain(others)
+    });
+    changed.collect()
+}
+
+/// Each line in turn left out, doubled, left empty, put first, put last, changed with the next, or joined to it.
+fn other_lines(text: &[u8]) -> Vec<Vec<u8>> {
+    let lines: Vec<&[u8]> = text.split_inclusive(|byte| *byte == 10).collect();
+    let mut changed = Vec::new();
+    for at in 0..lines.len() {
+        let (before, line, after) = (lines[..at].concat(), lines[at], lines[at + 1..].concat());
+        let joined = &line[..line.len() - 1];
+        changed.push([&before[..], &after].concat());
+        changed.push([&before[..], line, line, &after].concat());
+        changed.push([&before[..], b"\n", &after].concat());
+        changed.push([line, &before, &after].concat());
+        changed.push([&before[..], &after, line].concat());
+        changed.push([&before[..], joined, &after].concat());
+        let next = lines.get(at + 1).copied().unwrap_or_default();
+        changed.push([&before[..], next, line, &after[next.len()..]].concat());
+    }
+    changed
+}
+
+/// Every byte that there is, at every place of a text of each kind.
+fn every_byte(cases: &mut Vec<Case>) {
+    let drive = text(DRIVE);
+    let both = "E,2 E,0 E,1 E,2 E,0 C,0,-,1 C,2,-,0 C,2,-,3 C,3,0,- C,1,1,2 C,0,2,4 C,3,3,- C,1,4,- B,4,0 B,7,0 A,4,3 B,7,3";
+    let again = text("P,1 P,0 P,2 P,0 T T T I,0,0 O,0,1 I,1,1 O,1,0 I,2,2 O,2,3 H,1,2");
+    let whole = [
+        (Case::new(Operation::ReadNet, &[&drive]), 0),
+        (Case::new(Operation::Build, &[&drive, &text("S,0 S,1 S,2")]), 1),
+        (Case::new(Operation::Check, &[&again, &text(both)]), 1),
+        (Case::new(Operation::Replay, &[&again, &text(both), &text("G,0 G,1 G,2 G,3,4")]), 2),
+        (Case::new(Operation::Program, &[&text("P,1 T I,0,0 O,0,0 = S,0 S,0")]), 0),
+    ];
+    for (case, which) in whole {
+        for at in 0..case.texts[which].len() {
+            for byte in 0..=255 {
+                let mut changed = case.clone();
+                changed.texts[which][at] = byte;
+                cases.push(changed);
             }
         }
     }
 }
 
-/// Buffers around the stated size. The program's is never too short: document 01 has no answer for that.
+/// Buffers around the stated size.
 fn rooms(case: &Case, cases: &mut Vec<Case>) {
     let stated = case.operation.stated_room();
     if stated == 0 {
         return;
     }
-    let short = [0, 1, stated / 2, stated - 1];
-    let short = short.iter().filter(|_| case.operation != Operation::Program);
-    for room in short.copied().chain([stated, stated + 1, stated + 4_096]) {
+    for room in [0, 1, stated / 2, stated - 1, stated, stated + 1, stated + 4_096] {
         cases.push(case.clone().with_room(room));
         let mut broken = case.clone().with_room(room);
         broken.texts[0].insert(0, b'x');
@@ -111,6 +168,15 @@ fn watched_steps(events: usize) -> (Vec<u8>, Vec<u8>) {
     (net, text(&log))
 }
 
+/// The greatest run, with the last of 32 places and of 32 transitions: no record of it is longer.
+fn widest_run() -> (Vec<u8>, Vec<u8>) {
+    let places = format!("{} P,352 {}", times(27, "P,0"), times(4, "P,0"));
+    let unused: Vec<String> = (0..29).map(|t| format!("I,0,{t} O,{t},0")).collect();
+    let used = "I,27,29 O,29,28 H,29,29 H,30,29 I,27,30 O,30,29 O,30,30 I,29,31 I,30,31 O,31,31";
+    let log = [29, 30, 31, 29].map(|transition| times(32, &format!("S,{transition}"))).join(" ");
+    (text(&format!("{places} {} {} {used}", times(32, "T"), unused.join(" "))), text(&log))
+}
+
 fn log_limits(cases: &mut Vec<Case>) {
     let mut add = |net: &str, log: &str| {
         cases.push(Case::new(Operation::Build, &[&text(net), &text(log)]));
@@ -135,7 +201,7 @@ fn log_limits(cases: &mut Vec<Case>) {
 
 /// The greatest record and what is around it, in every operation.
 fn record_limits(cases: &mut Vec<Case>) {
-    for (net, log) in [watched_run(128), watched_steps(128), watched_run(32), watched_steps(64)] {
+    for (net, log) in [watched_run(128), watched_steps(128), widest_run(), watched_run(32), watched_steps(64)] {
         cases.push(Case::new(Operation::Build, &[&net, &log]));
         cases.push(Case::new(Operation::Program, &[&[&net[..], b"=\n", &log].concat()]));
         let record = build(&net, &log).expect("the run is one of the net");
@@ -163,6 +229,21 @@ fn around(net: &[u8], record: &[u8], cases: &mut Vec<Case>) {
     let short: String = (0..events - 1).map(|event| format!("G,{event}\n")).collect();
     for arrangement in [shortest, single.into_bytes(), again.into_bytes(), short.into_bytes()] {
         cases.push(Case::new(Operation::Replay, &[net, record, &arrangement]));
+    }
+}
+
+/// 32 places in a ring, 32 transitions that move a token on, each inhibited by the place behind it: every row and column of
+/// the net is in use. One token goes round four times, which is 128 events.
+fn ring(cases: &mut Vec<Case>) {
+    let arcs: Vec<String> = (0..32).map(|t| format!("I,{t},{t} O,{t},{} H,{},{t}", (t + 1) % 32, (t + 31) % 32)).collect();
+    let net = text(&format!("P,1 {} {} {}", times(31, "P,0"), times(32, "T"), arcs.join(" ")));
+    for events in [31, 32, 33, 127, 128, 129] {
+        let log = text(&(0..events).map(|event| format!("S,{}", event % 32)).collect::<Vec<String>>().join(" "));
+        cases.push(Case::new(Operation::Build, &[&net, &log]));
+        cases.push(Case::new(Operation::Program, &[&[&net[..], b"=\n", &log].concat()]));
+        if let Some(record) = build(&net, &log) {
+            around(&net, &record, cases);
+        }
     }
 }
 

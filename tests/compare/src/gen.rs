@@ -12,7 +12,7 @@ use crate::model::{log_text, NetPlan};
 use crate::rng::Rng;
 use crate::sim::{Simulator, RECORD_ROOM};
 
-pub use damage::{damage, BYTES};
+pub use damage::{damage, BYTES, NUMBERS};
 pub use logs::play;
 pub use nets::net;
 pub use records::change;
@@ -36,18 +36,20 @@ const LARGE: Size = Size { places: 32, transitions: 32, tokens: 60, events: 135,
 const STORE: Size = Size { places: 4, transitions: 4, tokens: 512, events: 132, step: 70 };
 
 /// Mostly small, since the many kinds of mistakes show there and a small case costs little.
-fn net_and_size(rng: &mut Rng) -> (NetPlan, Size) {
-    match rng.below(400) {
+fn net_and_log(rng: &mut Rng) -> (NetPlan, Size, Vec<Vec<usize>>) {
+    let kind = rng.below(400);
+    let (plan, size) = match kind {
         0 => (nets::net(rng, LARGE), LARGE),
-        1 => (nets::store(rng), STORE),
-        2..=9 => (nets::net(rng, MEDIUM), MEDIUM),
+        1..=3 => (nets::store(rng), STORE),
+        4..=11 => (nets::net(rng, MEDIUM), MEDIUM),
         _ => (nets::net(rng, SMALL), SMALL),
-    }
+    };
+    let steps = if kind == 1 { logs::at_the_limit(rng) } else { logs::log(rng, &plan, size) };
+    (plan, size, steps)
 }
 
 pub fn round(rng: &mut Rng) -> Vec<Case> {
-    let (plan, size) = net_and_size(rng);
-    let steps = logs::log(rng, &plan, size);
+    let (plan, size, steps) = net_and_log(rng);
     let sound = nets::text(rng, &plan);
     let net = maybe_net(rng, 4, &sound);
     let log = maybe(rng, 8, &log_text(&steps));
@@ -126,14 +128,14 @@ fn asked_line(rng: &mut Rng, net: &[u8], second: &[u8]) -> Case {
     Case::new(Operation::RefusedLine, &[net, second]).asking(choice, line)
 }
 
-/// Mostly the stated size; the program's buffer is never too short, since document 01 has no answer for that.
+/// Mostly the stated size.
 fn room(rng: &mut Rng, operation: Operation) -> usize {
     let stated = operation.stated_room();
     let lends_none = stated == 0;
     match rng.below(50) {
         _ if lends_none => 0,
-        0 if operation != Operation::Program => stated - 1,
-        1 if operation != Operation::Program => rng.below(stated),
+        0 => stated - 1,
+        1 => rng.below(stated),
         2 | 3 => stated + 1,
         4 => stated + rng.below(1_000),
         _ => stated,

@@ -6,9 +6,9 @@ mod brute;
 mod case;
 mod compare;
 mod corpus;
-#[cfg(feature = "lib")]
 mod ffi;
 mod gen;
+mod loaded;
 mod model;
 mod rng;
 mod sim;
@@ -17,17 +17,19 @@ mod vectors;
 use case::Subject;
 use std::process::ExitCode;
 
-const USAGE: &str = "usage: compare compare [--cases N] [--seed S] [--generated-only] [--trace]
+const USAGE: &str = "usage: compare compare [--cases N] [--seed S] [--only vectors|fixed|generated] [--first] [--trace]
        compare brute [--runs N] [--seed S]
        compare bench
-Built without the feature lib, brute and bench judge the simulator and compare refuses.";
+Options of compare and brute: --subject FILE.so judges that library in place of the one linked;
+of compare: --reference FILE.so holds the subject to it in place of the simulator.
+Built without the feature lib and without --subject, brute and bench judge the simulator and compare refuses.";
 
 const NO_LIBRARY: &str = "there is no library in this build to compare with the simulator: \
-build with --features lib and PTI_LIB_DIR set to the folder of libpti.a (tests/run.sh does)";
+build with --features lib and PTI_LIB_DIR set to the folder of libpti.a (tests/run.sh does), or name one by --subject";
 
 fn library() -> Option<&'static dyn Subject> {
     #[cfg(feature = "lib")]
-    return Some(&ffi::Library);
+    return Some(&ffi::LINKED);
     #[cfg(not(feature = "lib"))]
     None
 }
@@ -50,19 +52,23 @@ fn run(words: &[String]) -> Result<bool, String> {
     let mut options = Options { words: rest.to_vec() };
     match command.as_str() {
         "compare" => {
+            let subject = options.library("--subject")?;
+            let reference = options.library("--reference")?;
             let plan = compare::Plan {
+                sources: options.sources()?,
                 cases: options.number("--cases", 100_000)? as usize,
                 seed: options.number("--seed", 1)?,
-                generated_only: options.flag("--generated-only"),
+                enough: if options.flag("--first") { 1 } else { 5 },
                 trace: options.flag("--trace"),
             };
             options.none_left()?;
-            Ok(compare::compare(library().ok_or(NO_LIBRARY)?, &plan))
+            Ok(compare::compare(subject.or(library()).ok_or(NO_LIBRARY)?, reference.unwrap_or(&sim::Simulator), &plan))
         }
         "brute" => {
+            let subject = options.library("--subject")?;
             let plan = brute::Plan { runs: options.number("--runs", 400)? as usize, seed: options.number("--seed", 1)? };
             options.none_left()?;
-            Ok(brute::brute(library().unwrap_or(&sim::Simulator), &plan))
+            Ok(brute::brute(subject.or(library()).unwrap_or(&sim::Simulator), &plan))
         }
         "bench" => {
             options.none_left()?;
@@ -85,16 +91,35 @@ impl Options {
         self.words.len() < before
     }
 
-    fn number(&mut self, name: &str, default: u64) -> Result<u64, String> {
+    fn word(&mut self, name: &str) -> Result<Option<String>, String> {
         let Some(at) = self.words.iter().position(|word| word == name) else {
-            return Ok(default);
+            return Ok(None);
         };
         self.words.remove(at);
         if at == self.words.len() {
-            return Err(format!("{name} needs a number"));
+            return Err(format!("{name} needs a word"));
         }
-        let value = self.words.remove(at);
-        value.parse().map_err(|_| format!("{name} needs a number, not {value}"))
+        Ok(Some(self.words.remove(at)))
+    }
+
+    fn number(&mut self, name: &str, default: u64) -> Result<u64, String> {
+        match self.word(name)? {
+            Some(value) => value.parse().map_err(|_| format!("{name} needs a number, not {value}")),
+            None => Ok(default),
+        }
+    }
+
+    fn library(&mut self, name: &str) -> Result<Option<&'static dyn Subject>, String> {
+        let file = self.word(name)?;
+        file.map(|file| loaded::load(&file).map(|library| library as &dyn Subject)).transpose()
+    }
+
+    fn sources(&mut self) -> Result<Vec<compare::Source>, String> {
+        let Some(name) = self.word("--only")? else {
+            return Ok(compare::Source::ALL.to_vec());
+        };
+        let found = compare::Source::ALL.into_iter().find(|source| source.name() == name);
+        Ok(vec![found.ok_or(format!("there is no source {name}"))?])
     }
 
     fn none_left(&self) -> Result<(), String> {

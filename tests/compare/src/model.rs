@@ -65,9 +65,18 @@ impl NetPlan {
     }
 
     pub fn enabled(&self, marking: &Marking, step: &[usize]) -> bool {
-        let enough = |p: usize| marking[p] >= Self::count(&self.inputs, step, p);
-        let free = |p: usize| marking[p] == 0 || Self::count(&self.inhibitors, step, p) == 0;
-        (0..self.places()).all(|p| enough(p) && free(p))
+        self.refusal(marking, step) == 0
+    }
+
+    /// 24 if there are too few tokens, else 25 if the step is inhibited, else 0.
+    pub fn refusal(&self, marking: &Marking, step: &[usize]) -> u64 {
+        let short = |p: usize| marking[p] < Self::count(&self.inputs, step, p);
+        let inhibited = |p: usize| marking[p] > 0 && Self::count(&self.inhibitors, step, p) > 0;
+        match (0..self.places()).any(short) {
+            true => 24,
+            false if (0..self.places()).any(inhibited) => 25,
+            false => 0,
+        }
     }
 
     /// Is there a step from the initial marking?

@@ -8,7 +8,7 @@ pub const BYTES: [u8; 32] = [
 ];
 
 /// Numbers at limits, too long, or with needless zeros, and what is no number.
-const NUMBERS: [&str; 22] = [
+pub const NUMBERS: [&str; 22] = [
     "-", "", "0", "1", "00", "01", "31", "32", "33", "127", "128", "129", "511", "512", "513", "4095", "4096", "9999", "09999", "10000", "99999", "18446744073709551616",
 ];
 

@@ -3,6 +3,7 @@
 use super::Size;
 use crate::model::{Marking, NetPlan};
 use crate::rng::Rng;
+use crate::sim::MARKS;
 
 /// Enabled steps, and sometimes one that may be wrong.
 pub fn log(rng: &mut Rng, plan: &NetPlan, size: Size) -> Vec<Vec<usize>> {
@@ -12,6 +13,20 @@ pub fn log(rng: &mut Rng, plan: &NetPlan, size: Size) -> Vec<Vec<usize>> {
         steps.insert(at, any_step(rng, plan, size));
     }
     steps
+}
+
+/// A log of `nets::store` whose record has about as many marks as may be: some events watch, then some fill.
+pub fn at_the_limit(rng: &mut Rng) -> Vec<Vec<usize>> {
+    let watchers = rng.between(50, 90);
+    let fillers = MARKS / (2 * watchers) + rng.below(3);
+    [(0, watchers), (1, fillers)].into_iter().flat_map(|(transition, events)| parted(rng, transition, events)).collect()
+}
+
+/// So many events of a transition, in some steps.
+fn parted(rng: &mut Rng, transition: usize, events: usize) -> Vec<Vec<usize>> {
+    let steps = rng.between(1, 4);
+    let sizes = (0..steps).map(|step| events * (step + 1) / steps - events * step / steps);
+    sizes.map(|size| vec![transition; size]).collect()
 }
 
 /// An enabled step sequence.

@@ -30,20 +30,40 @@ pub fn store(rng: &mut Rng) -> NetPlan {
     }
 }
 
-/// Like the drive net: tokens move along chains of places, some of them closed, and the places inhibit transitions of any
-/// chain. So places are filled and emptied again, and there are marks of both kinds.
+/// Like the drive net: tokens move along chains of places, some of them closed, and the places, mostly empty ones, inhibit
+/// transitions of any chain. So places are filled and emptied again, and there are marks of both kinds.
 fn chains(rng: &mut Rng, size: Size) -> NetPlan {
-    let inhibited = rng.pick(&[10, 20, 30]);
+    let inhibited = rng.pick(&[10, 20, 40]);
     let mut plan = NetPlan::default();
     while plan.places() + 2 <= size.places && plan.transitions() < size.transitions && (plan.places() == 0 || rng.chance(80)) {
         add_chain(rng, size, &mut plan);
     }
     for t in 0..plan.transitions() {
-        let inputs = plan.inputs[t];
-        let inhibitors = some(rng, plan.places(), |p| if inputs >> p & 1 == 1 { 1 } else { inhibited });
-        plan.inhibitors.push(inhibitors);
+        let (inputs, tokens) = (plan.inputs[t], plan.tokens.clone());
+        let percent = |p: usize| match (inputs >> p & 1, tokens[p]) {
+            (1, _) => 1,
+            (_, 0) => inhibited,
+            _ => inhibited / 4,
+        };
+        plan.inhibitors.push(some(rng, plan.places(), percent));
     }
+    (0..rng.below(3)).for_each(|_| add_guard(rng, &mut plan));
     plan
+}
+
+/// An empty place between two transitions inhibits a third: runs fill it and empty it, and the third comes before or after.
+fn add_guard(rng: &mut Rng, plan: &mut NetPlan) {
+    let all = |arcs: &[Places]| arcs.iter().fold(0, |all, places| all | places);
+    let between = all(&plan.inputs) & all(&plan.outputs);
+    let empty: Vec<usize> = (0..plan.places()).filter(|p| plan.tokens[*p] == 0 && between >> p & 1 == 1).collect();
+    let Some(place) = empty.get(rng.below(empty.len().max(1))) else {
+        return;
+    };
+    let apart = |t: &usize| (plan.inputs[*t] | plan.outputs[*t]) >> place & 1 == 0;
+    let others: Vec<usize> = (0..plan.transitions()).filter(apart).collect();
+    if !others.is_empty() {
+        plan.inhibitors[rng.pick(&others)] |= 1 << place;
+    }
 }
 
 fn add_chain(rng: &mut Rng, size: Size, plan: &mut NetPlan) {

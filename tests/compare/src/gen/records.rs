@@ -36,8 +36,10 @@ fn fill(rng: &mut Rng, plan: &mut RecordPlan) {
 
 /// Changes after which the record may well be a process still.
 pub fn change(rng: &mut Rng, plan: &mut RecordPlan) {
-    if rng.chance(50) {
-        other_kinds(rng, plan);
+    match rng.below(4) {
+        0 => other_kinds(rng, plan),
+        1 | 2 => kinds_of_another_order(rng, plan),
+        _ => {}
     }
     if rng.chance(40) {
         (0..rng.between(1, 3)).for_each(|_| swap_ends(rng, plan));
@@ -70,6 +72,33 @@ fn other_kinds(rng: &mut Rng, plan: &mut RecordPlan) {
             mark.letter = other_letter(mark.letter);
         }
     }
+}
+
+/// The events in another order, each after those that make what it takes, and the kinds of marks that a run in that order has.
+fn kinds_of_another_order(rng: &mut Rng, plan: &mut RecordPlan) {
+    let Some(line_of) = another_order(rng, plan) else {
+        return;
+    };
+    for mark in &mut plan.marks {
+        let consumer = plan.conditions[mark.condition].consumer;
+        let gone = consumer.is_some_and(|consumer| line_of[consumer] < line_of[mark.event]);
+        mark.letter = if gone { 'A' } else { 'B' };
+    }
+}
+
+/// The line of each event; nothing if some event is needed for itself.
+fn another_order(rng: &mut Rng, plan: &RecordPlan) -> Option<Vec<usize>> {
+    let share = rng.pick(&[0, 30, 100]);
+    let mut line_of = vec![None; plan.events.len()];
+    let mut line = 0;
+    while line_of.contains(&None) {
+        let waits = |f: usize| plan.conditions.iter().any(|c| c.consumer == Some(f) && c.producer.is_some_and(|e| line_of[e].is_none()));
+        let ready: Vec<usize> = (0..line_of.len()).filter(|f| line_of[*f].is_none() && !waits(*f)).collect();
+        let first = *ready.get(rng.below(ready.len().max(1)))?;
+        ready.iter().filter(|f| **f == first || rng.chance(share)).for_each(|f| line_of[*f] = Some(line));
+        line += 1;
+    }
+    line_of.into_iter().collect()
 }
 
 fn other_letter(letter: char) -> char {
@@ -152,5 +181,37 @@ fn break_mark(rng: &mut Rng, plan: &mut RecordPlan) {
         3 => plan.marks[at].event = fresh.event,
         4 => plan.marks[at].condition = fresh.condition,
         _ => plan.marks[at].letter = other_letter(plan.marks[at].letter),
+    }
+}
+
+#[cfg(test)]
+mod tests {
+    use super::*;
+    use crate::case::Subject;
+    use crate::gen::{build, net, play, SMALL};
+    use crate::model::log_text;
+    use crate::sim::{Simulator, TABLE_ROOM};
+
+    type Change = fn(&mut Rng, &mut RecordPlan);
+
+    /// Records that no log builds, and that are processes: by other names, another token, another kind of mark.
+    #[test]
+    fn changed_records_are_often_processes() {
+        let changes: [(&str, Change); 4] = [("names", rename), ("token", swap_ends), ("kinds", kinds_of_another_order), ("all", change)];
+        for (name, change) in changes {
+            let (mut changed, mut processes) = (0, 0);
+            for round in 0..3_000 {
+                let mut rng = Rng::for_round(13, round);
+                let net = net(&mut rng, SMALL);
+                let steps = play(&mut rng, &net, SMALL);
+                let built = build(&net.text(), &log_text(&steps)).expect("an enabled step sequence");
+                let mut plan = RecordPlan::read(&built);
+                change(&mut rng, &mut plan);
+                changed += (plan.text() != built) as usize;
+                processes += (plan.text() != built && Simulator.check(&net.text(), &plan.text(), &mut [0; TABLE_ROOM]).accepted()) as usize;
+            }
+            println!("{name}: {processes} of {changed}");
+            assert!(processes > 100, "{name}: {processes} of {changed}");
+        }
     }
 }

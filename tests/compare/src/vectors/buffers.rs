@@ -2,11 +2,12 @@
 
 use super::*;
 
-const TEXTS: [(Operation, &[&str], u64); 4] = [
+const TEXTS: [(Operation, &[&str], u64); 5] = [
     (Operation::Build, &[DRIVE, "S,0,2"], 20),
     (Operation::Check, &[DRIVE, CASE_B], 30),
     (Operation::Replay, &[DRIVE, CASE_B, "G,0,1"], 40),
     (Operation::Arrange, &[DRIVE, CASE_B], 50),
+    (Operation::Program, &["="], 20),
 ];
 
 pub fn add(book: &mut Book) {
@@ -19,7 +20,9 @@ pub fn add(book: &mut Book) {
         let broken: Vec<&str> = texts.iter().map(|_| "x").collect();
         book.refused("65: judged before the net", operation, &broken, number, 0);
         book.again_with_room("65: judged before the net", stated - 1);
-        book.refused("65: no line of the net", operation, &broken, 11, 1);
+        if operation != Operation::Program {
+            book.refused("65: no line of the net", operation, &broken, 11, 1);
+        }
     }
     longer(book, 1);
     longer(book, 4_000);
