@@ -18,7 +18,7 @@ use case::Subject;
 use std::process::ExitCode;
 
 const USAGE: &str = "usage: compare compare [--cases N] [--seed S] [--only vectors|fixed|generated] [--first] [--trace]
-       compare brute [--runs N] [--seed S]
+       compare brute [--nets N] [--runs N] [--seed S]
        compare bench
 Options of compare and brute: --subject FILE.so judges that library in place of the one linked;
 of compare: --reference FILE.so holds the subject to it in place of the simulator.
@@ -66,7 +66,11 @@ fn run(words: &[String]) -> Result<bool, String> {
         }
         "brute" => {
             let subject = options.library("--subject")?;
-            let plan = brute::Plan { runs: options.number("--runs", 400)? as usize, seed: options.number("--seed", 1)? };
+            let plan = brute::Plan {
+                nets: options.number("--nets", 200)? as usize,
+                runs: options.number("--runs", 400)? as usize,
+                seed: options.number("--seed", 1)?,
+            };
             options.none_left()?;
             Ok(brute::brute(subject.or(library()).unwrap_or(&sim::Simulator), &plan))
         }
