@@ -8,6 +8,7 @@ mod compare;
 mod corpus;
 mod ffi;
 mod gen;
+mod guarded;
 mod loaded;
 mod model;
 mod rng;
@@ -18,6 +19,7 @@ use case::Subject;
 use std::process::ExitCode;
 
 const USAGE: &str = "usage: compare compare [--cases N] [--seed S] [--only vectors|fixed|generated] [--first] [--trace]
+       compare guarded [--cases N] [--seed S]
        compare brute [--nets N] [--runs N] [--seed S]
        compare bench
 Options of compare and brute: --subject FILE.so judges that library in place of the one linked;
@@ -63,6 +65,23 @@ fn run(words: &[String]) -> Result<bool, String> {
             };
             options.none_left()?;
             Ok(compare::compare(subject.or(library()).ok_or(NO_LIBRARY)?, reference.unwrap_or(&sim::Simulator), &plan))
+        }
+        "guarded" => {
+            let subject = options.library("--subject")?.or(library()).unwrap_or(&sim::Simulator);
+            let plan = compare::Plan {
+                sources: compare::Source::ALL.to_vec(),
+                cases: options.number("--cases", 20_000)? as usize,
+                seed: options.number("--seed", 1)?,
+                enough: 1,
+                trace: false,
+            };
+            options.none_left()?;
+            let seen = guarded::planted_are_seen();
+            Ok(seen & guarded::stacks(subject) & compare::compare(&guarded::Guarded::new(subject), &sim::Simulator, &plan))
+        }
+        "planted" => {
+            guarded::plant(options.words.first().and_then(|word| word.parse().ok()).ok_or(USAGE)?);
+            Ok(true)
         }
         "brute" => {
             let subject = options.library("--subject")?;
