@@ -16,12 +16,14 @@ mod sim;
 mod vectors;
 
 use case::Subject;
+use std::io::{Read, Write};
 use std::process::ExitCode;
 
 const USAGE: &str = "usage: compare compare [--cases N] [--seed S] [--only vectors|fixed|generated] [--first] [--trace]
        compare guarded [--cases N] [--seed S]
        compare brute [--nets N] [--runs N] [--seed S]
        compare bench
+       compare print < INPUT      what the program prints for that input, by the simulator
 Options of compare and brute: --subject FILE.so judges that library in place of the one linked;
 of compare: --reference FILE.so holds the subject to it in place of the simulator.
 Built without the feature lib and without --subject, brute and bench judge the simulator and compare refuses.";
@@ -98,8 +100,22 @@ fn run(words: &[String]) -> Result<bool, String> {
             bench::bench(library());
             Ok(true)
         }
+        "print" => {
+            options.none_left()?;
+            print().map_err(|error| error.to_string())?;
+            Ok(true)
+        }
         _ => Err(USAGE.to_string()),
     }
+}
+
+/// Writes what the program prints for standard input, by the simulator.
+fn print() -> std::io::Result<()> {
+    let mut input = Vec::new();
+    std::io::stdin().read_to_end(&mut input)?;
+    let mut out = vec![0; sim::PROGRAM_ROOM];
+    let answer = sim::Simulator.program(&input, &mut out);
+    std::io::stdout().write_all(&out[..answer.a as usize])
 }
 
 /// `--name value` and `--name` words.
