@@ -33,3 +33,4 @@ pub mod Levels
 pub mod Computed
 pub mod Demand
 pub mod Drive
+pub mod Spots
