@@ -1,21 +1,27 @@
 #!/usr/bin/env bash
-# The tests of the library against an independent simulator: unit tests, comparison, and demand 3 by brute force.
-# Exits non-zero on any failure. Called by .ci/run before rt ci, which removes target/.
+# The tests of the library against an independent simulator. Exits non-zero on any failure. Each stage says what it did and how
+# long it took:
+#   unit tests    the simulator against written-out cases and literal renderings; the tests against faults put into it
+#   c             include/pti.h and the library from C
+#   comparison    library and simulator on written-out, fixed and generated cases, every lent byte included
+#   brute force   demand 3 on every run of small nets, all arrangements of each
+#   guarded       the comparison again with pages around every lent part that may not be touched, and the stack of each call
 #
-#   tests/run.sh           100,000 generated cases (and the fixed ones), 400 brute-force runs
-#   tests/run.sh --long    ten times as many of each, from other seeds
+#   tests/run.sh           400,000 generated cases, 200 nets, in about a minute
+#   tests/run.sh --long    ten times as many of each, from another seed
 #   tests/run.sh --bench   the benchmarks besides
-#   tests/run.sh --alone   the simulator alone, without the library: its unit tests, and brute force against itself
+#   tests/run.sh --alone   without the library: unit tests, and the simulator by brute force and on guarded pages
 #
-# With PTI_LIB_DIR set, the libpti.a of that folder is tested; else rt proves and builds it first.
+# With PTI_LIB_DIR set, the libpti.a of that folder is tested; else rt proves and builds it first. What the tests of the tests
+# see is tried apart from this, by tests/compare/mutants.sh.
 set -euo pipefail
 top=$(cd "$(dirname "$0")/.." && pwd)
 cd "$top"
 
-cases=100000 runs=400 seed=1 bench=no alone=no
+times=1 seed=1 bench=no alone=no
 for word in "$@"; do
   case $word in
-    --long) cases=1000000 runs=4000 seed=$(date +%s) ;;
+    --long) times=10 seed=$(date +%s) ;;
     --bench) bench=yes ;;
     --alone) alone=yes ;;
     *) echo "usage: tests/run.sh [--long] [--bench] [--alone]" >&2; exit 2 ;;
@@ -24,27 +30,62 @@ done
 
 export CARGO_TARGET_DIR=$top/target/compare
 compare=$CARGO_TARGET_DIR/release/compare
-package() { cargo "$@" --manifest-path tests/compare/Cargo.toml --release --offline --quiet; }
+brute_log=
+trap '[ -z "$brute_log" ] || rm -f "$brute_log"' EXIT
 
 if [ "$alone" = yes ]; then
-  package test
-  package build
-  timeout 3600 "$compare" brute --runs "$runs" --seed "$seed"
-  exit 0
+  features=()
+else
+  features=(--features lib)
+  if [ -z "${PTI_LIB_DIR:-}" ]; then
+    rt staticlib pti
+    PTI_LIB_DIR=$top/target/staticlib
+  fi
+  export PTI_LIB_DIR
+  [ -f "$PTI_LIB_DIR/libpti.a" ] || { echo "tests/run.sh: there is no $PTI_LIB_DIR/libpti.a" >&2; exit 2; }
 fi
 
-if [ -z "${PTI_LIB_DIR:-}" ]; then
-  rt staticlib pti
-  PTI_LIB_DIR=$top/target/staticlib
-fi
-export PTI_LIB_DIR
-[ -f "$PTI_LIB_DIR/libpti.a" ] || { echo "tests/run.sh: there is no $PTI_LIB_DIR/libpti.a" >&2; exit 2; }
+stage() { # NAME COMMAND...
+  local name=$1 from=$SECONDS
+  shift
+  echo "== $name"
+  "$@"
+  echo "-- $name: $((SECONDS - from)) s"
+}
 
-package test --features lib
-package build --features lib
+package() { cargo "$@" --manifest-path tests/compare/Cargo.toml ${features[@]+"${features[@]}"} --offline --quiet; }
+
+from_c() {
+  cc -std=c99 -Wall -Wextra -Wpedantic -Werror -O1 -Iinclude tests/c/drive.c "$PTI_LIB_DIR/libpti.a" -o "$CARGO_TARGET_DIR/drive"
+  "$CARGO_TARGET_DIR/drive"
+}
 
 # A call that does not end is a failure too.
-timeout 3600 "$compare" compare --cases "$cases" --seed "$seed"
-timeout 3600 "$compare" brute --runs "$runs" --seed "$seed"
-if [ "$bench" = yes ]; then "$compare" bench; fi
-echo "tests/run.sh: all passed (seed $seed)"
+limited() { timeout $((600 * times)) "$compare" "$@" --seed "$seed"; }
+brute() { limited brute --nets $((200 * times)) --runs $((400 * times)); }
+compared() { limited compare --cases $((400000 * times)); }
+guarded() { limited guarded --cases $((20000 * times)); }
+
+timed() {
+  package build --profile timed
+  "$CARGO_TARGET_DIR/timed/compare" bench
+}
+
+stage "unit tests" package test --release
+stage "build" package build --release
+if [ "$alone" = yes ]; then
+  stage "brute force" brute
+  stage "guarded" guarded
+else
+  # The brute force takes the second processor meanwhile.
+  brute_log=$(mktemp)
+  stage "brute force" brute > "$brute_log" 2>&1 &
+  brute=$!
+  stage "c" from_c
+  stage "comparison" compared
+  stage "guarded" guarded
+  wait "$brute" || { cat "$brute_log"; echo "tests/run.sh: the brute force failed"; exit 1; }
+  cat "$brute_log"
+fi
+if [ "$bench" = yes ]; then stage "benchmarks" timed; fi
+echo "tests/run.sh: all passed in $SECONDS s (seed $seed)"

@@ -1,8 +1,11 @@
 #!/usr/bin/env bash
-# The tests of the tests: each wrong simulator of mutants.txt stands in for the library, behind the same C interface, and must be
-# seen by the comparison. Says for each what saw it: the fixed cases, the generated ones, the brute force.
+# The tests of the tests: each wrong simulator of mutants.txt is compared with the library, and the comparison must see it. Says
+# for each at which case the first difference shows, among the vectors and among the generated cases (of the fixed cases only
+# where neither sees it), and whether the brute force sees it where it stands in for the library. Not a part of the gate.
 #
-#   tests/compare/mutants.sh [NAME...]     all mutants, or those named
+#   tests/compare/mutants.sh [NAME...]     all mutants, or those named; JOBS at a time (2)
+#
+# With PTI_LIB_DIR set, the libpti.a of that folder is taken; else rt proves and builds it first.
 set -euo pipefail
 here=$(cd "$(dirname "$0")" && pwd)
 top=$(cd "$here/../.." && pwd)
@@ -10,59 +13,82 @@ work=$(mktemp -d)
 trap 'rm -rf "$work"' EXIT
 wanted=("$@")
 
-stand_in() { # SOURCE FOLDER: the simulator of that folder as $work/libpti.so
-  rustc --edition 2021 -C opt-level=0 -C panic=abort -A warnings --crate-type cdylib --crate-name pti "$1/mock.rs" -o "$work/libpti.so"
+if [ -z "${PTI_LIB_DIR:-}" ]; then
+  (cd "$top" && rt staticlib pti)
+  PTI_LIB_DIR=$top/target/staticlib
+fi
+export PTI_LIB_DIR CARGO_TARGET_DIR=$top/target/compare
+cargo build --manifest-path "$here/Cargo.toml" --release --features lib --offline --quiet
+compare=$CARGO_TARGET_DIR/release/compare
+
+library() { # FOLDER: the simulator of its src, behind the C interface
+  rustc --edition 2021 -C opt-level=0 -C panic=abort -A warnings --crate-type cdylib --crate-name pti "$1/src/mock.rs" -o "$1/libpti.so" 2> "$1/errors"
 }
 
-build_tests() { # once: a shared library can be changed without linking anew
-  stand_in "$here/src"
-  PTI_LIB_DIR=$work PTI_LIB_KIND=dylib CARGO_TARGET_DIR=$top/target/compare-mutants \
-    cargo build --manifest-path "$here/Cargo.toml" --release --features lib --offline --quiet -j1
+# At which case a difference shows; '-' if none does. A crash counts. A refusal that was never met does not.
+first() { # FOLDER WORDS...
+  local dir=$1 status=0
+  shift
+  timeout 300 "$compare" "$@" > "$dir/out" 2>&1 || status=$?
+  if [ "$status" -gt 1 ]; then
+    echo crash
+  elif grep -qE '^DIFFERENCE' "$dir/out"; then
+    sed -n 's/^compare (.*): \([0-9]*\) cases.*/\1/p' "$dir/out"
+  elif grep -qE '^FAILED' "$dir/out"; then
+    echo seen
+  else
+    echo -
+  fi
 }
 
-tests() { LD_LIBRARY_PATH=$work timeout 120 "$top/target/compare-mutants/release/compare" "$@" > "$work/out" 2>&1; }
-
-# A difference or a failed clause is told of; a crash of the stand-in counts too. A refusal that was never met does not.
-sees() {
-  local status=0
-  tests "$@" || status=$?
-  if [ "$status" -gt 1 ] || grep -qE '^(DIFFERENCE|FAILED)' "$work/out"; then echo yes; else echo no; fi
+edit() { # FOLDER FILE OLD NEW
+  OLD=$3 NEW=$4 perl -0pi -e 'BEGIN { $o = $ENV{OLD}; $n = $ENV{NEW} } my $k = () = /\Q$o\E/g; die "the old text stands $k times\n" unless $k == 1; s/\Q$o\E/$n/' "$1/src/$2"
 }
 
-edit() { # FILE OLD NEW
-  OLD=$2 NEW=$3 perl -0pi -e 'BEGIN { $o = $ENV{OLD}; $n = $ENV{NEW} } my $k = () = /\Q$o\E/g; die "the old text stands $k times\n" unless $k == 1; s/\Q$o\E/$n/' "$work/src/$1"
+judge() { # NAME
+  local dir=$work/$1 so=$work/$1/libpti.so vectors fixed='not tried' generated brute
+  library "$dir" || { echo "$1: DOES NOT COMPILE"; return 0; }
+  vectors=$(first "$dir" compare --first --only vectors --reference "$so")
+  generated=$(first "$dir" compare --first --only generated --cases 20000 --reference "$so")
+  if [ "$vectors$generated" = -- ]; then fixed=$(first "$dir" compare --first --only fixed --reference "$so"); fi
+  brute=$(first "$dir" brute --nets 4 --runs 12 --subject "$so")
+  rm -rf "$dir"
+  if [ "$vectors$generated$fixed" = --- ]; then
+    echo "$1: NOT SEEN (brute $brute)"
+  else
+    echo "$1: vectors $vectors, generated $generated, fixed $fixed, brute $brute"
+  fi
 }
+export -f library first judge
+export compare work
 
-judge() { # NAME: the edited copy in $work/src
-  local fixed generated brute
-  stand_in "$work/src" || { echo "$1: DOES NOT COMPILE"; failed=$((failed + 1)); return; }
-  fixed=$(sees compare --only fixed)
-  generated=$(sees compare --only generated --cases 20000)
-  brute=$(sees brute --runs 30)
-  tried=$((tried + 1))
-  echo "$1: fixed $fixed, generated $generated, brute $brute"
-  [ "$fixed $generated" = "no no" ] && { echo "$1: NOT SEEN"; failed=$((failed + 1)); }
-  return 0
+control() { # the simulator unchanged is not told apart from the library
+  mkdir "$work/unchanged"
+  cp -r "$here/src" "$work/unchanged/src"
+  library "$work/unchanged"
+  [ "$(first "$work/unchanged" compare --first --cases 5000 --reference "$work/unchanged/libpti.so")" = - ] || { echo "mutants: the unchanged simulator differs"; exit 1; }
 }
 
 is_wanted() { [ ${#wanted[@]} -eq 0 ] || [[ " ${wanted[*]} " == *" $1 "* ]]; }
 
-finish() { # the mutant collected so far, if it is wanted
-  if [ -n "$name" ] && is_wanted "$name"; then judge "$name"; fi
+spread() { # a folder with the edited source for each mutant that is wanted; their names
+  local line name='' file='' old=''
+  while IFS= read -r line; do
+    case $line in
+      'name: '*)
+        name=${line#name: }
+        if is_wanted "$name"; then mkdir "$work/$name"; cp -r "$here/src" "$work/$name/src"; echo "$name"; else name=''; fi ;;
+      'file: '*) file=${line#file: } ;;
+      'old: '*) old=${line#old: } ;;
+      'new:'*) line=${line#new:}; if [ -n "$name" ]; then edit "$work/$name" "$file" "$old" "${line# }"; fi ;;
+    esac
+  done < "$here/mutants.txt"
 }
 
-build_tests
-tests compare --cases 1000 || { cat "$work/out"; echo "mutants: the unchanged simulator differs from itself"; exit 1; }
-
-tried=0 failed=0 name='' file='' old=''
-while IFS= read -r line; do
-  case $line in
-    'name: '*) finish; name=${line#name: }; rm -rf "$work/src"; cp -r "$here/src" "$work/src" ;;
-    'file: '*) file=${line#file: } ;;
-    'old: '*) old=${line#old: } ;;
-    'new:'*) line=${line#new:}; edit "$file" "$old" "${line# }" ;;
-  esac
-done < "$here/mutants.txt"
-finish
-echo "mutants: $tried tried, $failed not seen"
-[ "$failed" -eq 0 ]
+control
+spread > "$work/names"
+xargs -P "${JOBS:-2}" -I{} bash -c 'judge {}' < "$work/names" | tee "$work/judged"
+tried=$(wc -l < "$work/judged")
+missed=$(grep -cE 'NOT SEEN|DOES NOT COMPILE' "$work/judged" || true)
+echo "mutants: $tried tried, $missed not seen"
+[ "$missed" -eq 0 ] && [ "$tried" -eq "$(wc -l < "$work/names")" ]

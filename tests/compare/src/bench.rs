@@ -1,6 +1,9 @@
 //! Times of the operations: the library against the simulator, in one run.
+//!
+//! The times of a call are of one thread's processor, and of a sample of calls that is long against the clock's steps; the
+//! middle one of the samples is given, with the distance between the quarters as its spread.
 
-use crate::case::Subject;
+use crate::case::{Operation, Subject};
 use crate::corpus::watched_run;
 use crate::gen::build;
 use crate::sim::{Simulator, ARRANGEMENT_ROOM, PROGRAM_ROOM, RECORD_ROOM, ROWS_ROOM, TABLE_ROOM};
@@ -36,41 +39,63 @@ impl Load {
     }
 }
 
-const OPERATIONS: [&str; 7] = ["read_net", "build", "check", "replay", "arrange", "refused_line", "program"];
-
-/// The median time of one call.
-fn time(subject: &dyn Subject, operation: &str, load: &Load) -> Duration {
+/// One call after another of an operation on a load.
+fn calls<'a>(subject: &'a dyn Subject, operation: Operation, load: &'a Load) -> impl FnMut() -> u64 + 'a {
     let mut bytes = vec![0; PROGRAM_ROOM];
     let mut rows = vec![0; ROWS_ROOM];
     let (net, record) = (&load.net[..], &load.record[..]);
-    match operation {
-        "read_net" => median(|| subject.read_net(black_box(net)).a),
-        "build" => median(|| subject.build(net, black_box(&load.log), &mut bytes[..RECORD_ROOM]).a),
-        "check" => median(|| subject.check(net, black_box(record), &mut bytes[..TABLE_ROOM]).a),
-        "replay" => median(|| subject.replay(net, record, black_box(&load.arrangement), &mut rows).a),
-        "arrange" => median(|| subject.arrange(net, black_box(record), &mut bytes[..ARRANGEMENT_ROOM]).a),
-        "refused_line" => median(|| subject.refused_line(net, black_box(record), 1, load.last_line).a),
-        _ => median(|| subject.program(black_box(&load.input), &mut bytes).a),
+    move || match operation {
+        Operation::ReadNet => subject.read_net(black_box(net)).a,
+        Operation::Build => subject.build(net, black_box(&load.log), &mut bytes[..RECORD_ROOM]).a,
+        Operation::Check => subject.check(net, black_box(record), &mut bytes[..TABLE_ROOM]).a,
+        Operation::Replay => subject.replay(net, record, black_box(&load.arrangement), &mut rows).a,
+        Operation::Arrange => subject.arrange(net, black_box(record), &mut bytes[..ARRANGEMENT_ROOM]).a,
+        Operation::RefusedLine => subject.refused_line(net, black_box(record), 1, load.last_line).a,
+        Operation::Program => subject.program(black_box(&load.input), &mut bytes).a,
     }
 }
 
 const SAMPLES: usize = 31;
-/// A sample repeats a short call until it is about so long, since clocks are coarse.
-const SAMPLE: Duration = Duration::from_micros(200);
+/// A sample repeats a short call until it has about so many microseconds, since clocks are coarse.
+const SAMPLE: f64 = 500.0;
 
-fn median(mut call: impl FnMut() -> u64) -> Duration {
-    let mut sample = |calls: u32| {
-        let start = processor_time();
-        for _ in 0..calls {
-            black_box(call());
+/// Microseconds of one call, and their spread as a part of them.
+struct Time {
+    micros: f64,
+    spread: f64,
+}
+
+/// The times of the subjects, sample by sample in turn, so that what disturbs one disturbs the others.
+fn times(subjects: &[&dyn Subject], operation: Operation, load: &Load) -> Vec<Time> {
+    let mut calls: Vec<_> = subjects.iter().map(|subject| calls(*subject, operation, load)).collect();
+    let counts: Vec<u32> = calls.iter_mut().map(|call| count_for(call)).collect();
+    let mut found = vec![Vec::new(); subjects.len()];
+    for _ in 0..SAMPLES {
+        for ((call, count), times) in calls.iter_mut().zip(&counts).zip(&mut found) {
+            times.push(sample(call, *count));
         }
-        (processor_time() - start) / calls
-    };
-    let once = sample(3).max(Duration::from_nanos(20));
-    let calls = (SAMPLE.as_nanos() / once.as_nanos()).clamp(1, 10_000) as u32;
-    let mut times: Vec<Duration> = (0..SAMPLES).map(|_| sample(calls)).collect();
-    times.sort_unstable();
-    times[SAMPLES / 2]
+    }
+    found.into_iter().map(middle).collect()
+}
+
+/// Microseconds of a call, from so many.
+fn sample(call: &mut impl FnMut() -> u64, count: u32) -> f64 {
+    let start = processor_time();
+    for _ in 0..count {
+        black_box(call());
+    }
+    (processor_time() - start).as_nanos() as f64 / 1_000.0 / f64::from(count)
+}
+
+/// How many calls make a sample.
+fn count_for(call: &mut impl FnMut() -> u64) -> u32 {
+    (SAMPLE / sample(call, 3).max(0.02)).clamp(1.0, 50_000.0) as u32
+}
+
+fn middle(mut times: Vec<f64>) -> Time {
+    times.sort_unstable_by(f64::total_cmp);
+    let micros = times[SAMPLES / 2];
+    Time { micros, spread: (times[SAMPLES * 3 / 4] - times[SAMPLES / 4]) / micros }
 }
 
 /// The processor time of this thread: other programs on a shared machine do not count, as they would by the clock.
@@ -94,35 +119,48 @@ extern "C" {
     fn clock_gettime(clock: i32, time: *mut Timespec) -> i32;
 }
 
-fn micros(time: Duration) -> f64 {
-    time.as_nanos() as f64 / 1_000.0
+/// A load by its number of events; none is the drive net.
+fn load_of(events: usize) -> Load {
+    match events {
+        0 => Load::new("drive net", Text::from(DRIVE).0, Text::from("S,0 S,1 S,2").0),
+        _ => Load::watched(events),
+    }
 }
 
 /// Every operation at three sizes, then the growth with the events. Without the library only the simulator is timed.
 pub fn bench(library: Option<&dyn Subject>) {
-    let drive = Load::new("drive net", Text::from(DRIVE).0, Text::from("S,0 S,1 S,2").0);
     println!("median of {SAMPLES} samples, microseconds of processor time a call; ratio: library over simulator");
-    println!("{:12} {:12} {:>12} {:>12} {:>8}", "operation", "size", "library", "simulator", "ratio");
-    for load in [drive, Load::watched(32), Load::watched(128)] {
-        OPERATIONS.iter().for_each(|operation| line(library, operation, &load));
+    println!("{:12} {:12} {:>10} {:>10} {:>8} {:>8}", "operation", "size", "library", "simulator", "ratio", "spread");
+    for load in [0, 32, 128].map(load_of) {
+        Operation::ALL.iter().for_each(|operation| line(library, *operation, &load));
     }
     println!("growth: factor of each doubling of the events (marks grow fourfold)");
-    for operation in ["build", "check", "replay", "arrange", "program"] {
+    for operation in [Operation::Build, Operation::Check, Operation::Replay, Operation::Arrange, Operation::Program] {
         growth(library.unwrap_or(&Simulator), operation);
     }
 }
 
-fn line(library: Option<&dyn Subject>, operation: &str, load: &Load) {
-    let simulator = micros(time(&Simulator, operation, load));
-    match library.map(|library| micros(time(library, operation, load))) {
-        Some(library) => println!("{operation:12} {:12} {library:12.2} {simulator:12.2} {:8.2}", load.name, library / simulator),
-        None => println!("{operation:12} {:12} {:>12} {simulator:12.2} {:>8}", load.name, "-", "-"),
-    }
+fn line(library: Option<&dyn Subject>, operation: Operation, load: &Load) {
+    let subjects: Vec<&dyn Subject> = [&Simulator as &dyn Subject].into_iter().chain(library).collect();
+    let times = times(&subjects, operation, load);
+    let spread = times.iter().map(|time| time.spread).fold(0.0, f64::max) * 100.0;
+    let simulator = times[0].micros;
+    let library = times.get(1).map_or(f64::NAN, |time| time.micros);
+    println!("{:12} {:12} {library:10.2} {simulator:10.2} {:8.2} {spread:7.0}%", operation.name(), load.name, library / simulator);
 }
 
-fn growth(subject: &dyn Subject, operation: &str) {
-    let times: Vec<f64> = [8, 16, 32, 64, 128].map(|events| micros(time(subject, operation, &Load::watched(events)))).to_vec();
+fn growth(subject: &dyn Subject, operation: Operation) {
+    let times: Vec<f64> = [8, 16, 32, 64, 128].map(|events| times(&[subject], operation, &load_of(events))[0].micros).to_vec();
     let factors: Vec<String> = times.windows(2).map(|pair| format!("x{:.1}", pair[1] / pair[0])).collect();
     let times: Vec<String> = times.iter().map(|time| format!("{time:.1}")).collect();
-    println!("{operation:12} ({}) 8..128 events: {} us; {}", subject.name(), times.join(", "), factors.join(", "));
+    println!("{:12} ({}) 8..128 events: {} us; {}", operation.name(), subject.name(), times.join(", "), factors.join(", "));
+}
+
+/// So many calls of an operation and nothing else: for a profiler.
+pub fn repeat(subject: &dyn Subject, operation: Operation, events: usize, times: u64) {
+    let load = load_of(events);
+    let mut call = calls(subject, operation, &load);
+    for _ in 0..times {
+        black_box(call());
+    }
 }

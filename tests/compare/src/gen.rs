@@ -10,7 +10,7 @@ mod records;
 use crate::case::{run, Case, Operation};
 use crate::model::{log_text, NetPlan};
 use crate::rng::Rng;
-use crate::sim::{Simulator, RECORD_ROOM};
+use crate::sim::{Simulator, LONGEST_INPUT, RECORD_ROOM};
 
 pub use damage::{damage, BYTES, NUMBERS};
 pub use logs::play;
@@ -44,7 +44,7 @@ fn net_and_log(rng: &mut Rng) -> (NetPlan, Size, Vec<Vec<usize>>) {
         4..=11 => (nets::net(rng, MEDIUM), MEDIUM),
         _ => (nets::net(rng, SMALL), SMALL),
     };
-    let steps = if kind == 1 { logs::at_the_limit(rng) } else { logs::log(rng, &plan, size) };
+    let steps = if (1..=2).contains(&kind) { logs::at_the_limit(rng, &plan) } else { logs::log(rng, &plan, size) };
     (plan, size, steps)
 }
 
@@ -112,7 +112,19 @@ fn input(rng: &mut Rng, net: &[u8], log: &[u8]) -> Vec<u8> {
         3 => b"=\n=\n",
         _ => b"=\n",
     };
-    [net, parting, log].concat()
+    let mut input = [net, parting, log].concat();
+    if rng.below(200) == 0 {
+        fill_up(rng, &mut input);
+    }
+    input
+}
+
+/// A last line that makes the input as long as it may be, or one byte more or less.
+fn fill_up(rng: &mut Rng, input: &mut Vec<u8>) {
+    let length = rng.between(LONGEST_INPUT - 1, LONGEST_INPUT + 1);
+    input.extend(b"S,0");
+    input.resize(length.max(input.len()) - 1, b',');
+    input.push(10);
 }
 
 fn asked_line(rng: &mut Rng, net: &[u8], second: &[u8]) -> Case {

@@ -23,8 +23,9 @@ const USAGE: &str = "usage: compare compare [--cases N] [--seed S] [--only vecto
        compare guarded [--cases N] [--seed S]
        compare brute [--nets N] [--runs N] [--seed S]
        compare bench
+       compare repeat OPERATION [--events N] [--times N]
        compare print < INPUT      what the program prints for that input, by the simulator
-Options of compare and brute: --subject FILE.so judges that library in place of the one linked;
+Options of compare, guarded and brute: --subject FILE.so judges that library in place of the one linked;
 of compare: --reference FILE.so holds the subject to it in place of the simulator.
 Built without the feature lib and without --subject, brute and bench judge the simulator and compare refuses.";
 
@@ -103,6 +104,13 @@ fn run(words: &[String]) -> Result<bool, String> {
         "print" => {
             options.none_left()?;
             print().map_err(|error| error.to_string())?;
+            Ok(true)
+        }
+        "repeat" => {
+            let (events, times) = (options.number("--events", 0)? as usize, options.number("--times", 1)?);
+            let found = case::Operation::ALL.into_iter().find(|operation| options.flag(operation.name()));
+            options.none_left()?;
+            bench::repeat(library().unwrap_or(&sim::Simulator), found.ok_or(USAGE)?, events, times);
             Ok(true)
         }
         _ => Err(USAGE.to_string()),

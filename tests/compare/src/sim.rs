@@ -40,6 +40,8 @@ pub const MARKS: usize = 4_096;
 pub const PLACES: usize = 32;
 pub const TRANSITIONS: usize = 32;
 pub const TOKENS: usize = 512;
+/// Bytes of the program's input.
+pub const LONGEST_INPUT: usize = 65_536;
 
 /// Document 01's number and spot.
 #[derive(Clone, Copy, Debug, PartialEq, Eq)]

@@ -14,7 +14,7 @@ pub fn arrangement(rng: &mut Rng, net: &[u8], record: &[u8]) -> Vec<u8> {
         vec![vec![0], vec![1, 2]]
     };
     if rng.chance(35) {
-        break_lines(rng, &mut lines);
+        (0..rng.between(1, 2)).for_each(|_| break_lines(rng, &mut lines));
     }
     arrangement_text(&lines)
 }
@@ -51,7 +51,7 @@ fn break_lines(rng: &mut Rng, lines: &mut Vec<Vec<usize>>) {
         1 => merge(lines, one),
         2 => split(lines, one),
         3 => drop(lines.remove(one)),
-        4 => lines[other].push(rng.below(EVENTS + 2)),
+        4 => lines[other].insert(0, rng.below(EVENTS + 2)),
         5 => repeat(rng, lines, one, other),
         6 => exchange(rng, lines, one, other),
         _ => shift(rng, lines, one, other),

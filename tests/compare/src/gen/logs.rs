@@ -3,7 +3,7 @@
 use super::Size;
 use crate::model::{Marking, NetPlan};
 use crate::rng::Rng;
-use crate::sim::MARKS;
+use crate::sim::{CONDITIONS, EVENTS};
 
 /// Enabled steps, and sometimes one that may be wrong.
 pub fn log(rng: &mut Rng, plan: &NetPlan, size: Size) -> Vec<Vec<usize>> {
@@ -15,18 +15,25 @@ pub fn log(rng: &mut Rng, plan: &NetPlan, size: Size) -> Vec<Vec<usize>> {
     steps
 }
 
-/// A log of `nets::store` whose record has about as many marks as may be: some events watch, then some fill.
-pub fn at_the_limit(rng: &mut Rng) -> Vec<Vec<usize>> {
-    let watchers = rng.between(50, 90);
-    let fillers = MARKS / (2 * watchers) + rng.below(3);
-    [(0, watchers), (1, fillers)].into_iter().flat_map(|(transition, events)| parted(rng, transition, events)).collect()
+/// A log of `nets::store` whose record has about as many events, conditions or marks as may be. In that net transition 0
+/// watches two places and makes one condition, and transition 1 fills both places.
+pub fn at_the_limit(rng: &mut Rng, plan: &NetPlan) -> Vec<Vec<usize>> {
+    let (watchers, fillers) = match rng.below(4) {
+        0 => (rng.between(EVENTS - 1, EVENTS + 1), 0),
+        1 => ((CONDITIONS + 1 - plan.tokens[0]).saturating_sub(rng.below(3)).min(EVENTS), 0),
+        2 => (64, rng.between(31, 33)),
+        _ => (rng.between(50, 90), rng.between(20, 45)),
+    };
+    let mut steps = parted(rng, 0, watchers);
+    steps.extend(parted(rng, 1, fillers));
+    steps
 }
 
 /// So many events of a transition, in some steps.
 fn parted(rng: &mut Rng, transition: usize, events: usize) -> Vec<Vec<usize>> {
     let steps = rng.between(1, 4);
     let sizes = (0..steps).map(|step| events * (step + 1) / steps - events * step / steps);
-    sizes.map(|size| vec![transition; size]).collect()
+    sizes.filter(|size| *size > 0).map(|size| vec![transition; size]).collect()
 }
 
 /// An enabled step sequence.
@@ -68,5 +75,6 @@ fn enabled_step(rng: &mut Rng, plan: &NetPlan, marking: &Marking, most: usize) -
 fn any_step(rng: &mut Rng, plan: &NetPlan, size: Size) -> Vec<usize> {
     let unknown = if rng.chance(20) { 1 } else { 0 };
     let most = (plan.transitions() + unknown).max(1);
-    (0..rng.between(1, size.step)).map(|_| rng.below(most)).collect()
+    let length = if rng.chance(4) { rng.between(EVENTS - 3, EVENTS + 2) } else { rng.between(1, size.step) };
+    (0..length).map(|_| rng.below(most)).collect()
 }

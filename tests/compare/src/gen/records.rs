@@ -14,16 +14,19 @@ pub fn propose(rng: &mut Rng, net: &NetPlan, built: &[u8]) -> Vec<u8> {
         (0..rng.between(1, 2)).for_each(|_| break_rule(rng, net, &mut plan));
     }
     if rng.below(300) == 0 {
-        fill(rng, &mut plan);
+        fill(rng, net, &mut plan);
     }
     plan.text()
 }
 
 /// One group filled up to its limit or one past it.
-fn fill(rng: &mut Rng, plan: &mut RecordPlan) {
+fn fill(rng: &mut Rng, net: &NetPlan, plan: &mut RecordPlan) {
     let more = rng.below(2);
     match rng.below(3) {
-        0 => plan.events.resize(EVENTS + more, 0),
+        0 => {
+            plan.events.resize(EVENTS, 0);
+            plan.events.extend((0..more).map(|_| rng.below(net.transitions() + 2)));
+        }
         1 => plan.conditions.resize(CONDITIONS + more, ConditionPlan { place: 0, producer: None, consumer: None }),
         _ => {
             plan.events.resize(9, 0);

@@ -1,10 +1,8 @@
 //! The program: refusal 10, and what is printed.
 
 use super::text::lines;
-use super::{accepted, arranging, net, refuse, run, Refusal, PROGRAM_ROOM};
+use super::{accepted, arranging, net, refuse, run, Refusal, LONGEST_INPUT, PROGRAM_ROOM};
 use crate::answer::Answer;
-
-const LONGEST_INPUT: usize = 65_536;
 
 /// Writes what the program prints. A buffer that cannot hold every answer is 20 at spot 0, a choice of the C interface too.
 pub fn run(input: &[u8], out: &mut [u8]) -> Answer {

@@ -1,0 +1,74 @@
+/* The C interface from C: the header compiles by itself, its sizes suffice, and the drive net of document 01 comes out as
+ * printed there. Exits 0 if all is so; else it says what is not. */
+#include "pti.h"
+#include <stdio.h>
+#include <string.h>
+
+#define TEXT(words) (const uint8_t *)(words), sizeof(words) - 1
+
+static const char net[] = "P,1\nP,0\nP,1\nP,0\nP,0\nT\nT\nT\nI,0,0\nO,0,1\nI,1,1\nO,1,4\nI,2,2\nO,2,3\nH,1,2\n";
+static const char record[] = "E,0\nE,2\nC,0,-,0\nC,2,-,1\nC,1,0,-\nC,3,1,-\nB,2,1\n";
+static const char printed[] = "E,0\nE,1\nE,2\nC,0,-,0\nC,2,-,2\nC,1,0,1\nC,4,1,-\nC,3,2,-\nA,2,2\nZ,3,5,0,3\n";
+
+static uint8_t out[PTI_PROGRAM_BYTES];
+static uint16_t rows[PTI_ROW_COUNTS];
+static int wrong;
+
+static void expect(const char *what, pti_answer x, uint64_t number, uint64_t spot, uint64_t a, uint64_t b, uint64_t c)
+{
+    if (x.number == number && x.spot == spot && x.a == a && x.b == b && x.c == c)
+        return;
+    printf("%s: %llu,%llu gives %llu,%llu,%llu\n", what, (unsigned long long)x.number, (unsigned long long)x.spot,
+           (unsigned long long)x.a, (unsigned long long)x.b, (unsigned long long)x.c);
+    wrong = 1;
+}
+
+static void holds(const char *what, int so)
+{
+    if (!so) {
+        printf("not so: %s\n", what);
+        wrong = 1;
+    }
+}
+
+static void build_and_check(void)
+{
+    expect("net", pti_read_net(TEXT(net)), 0, 0, 5, 3, 0);
+    expect("build", pti_build(TEXT(net), TEXT("S,0,2\n"), out, PTI_RECORD_BYTES), 0, 0, sizeof(record) - 1, 0, 0);
+    holds("case b's record", memcmp(out, record, sizeof(record) - 1) == 0);
+    expect("c", pti_build(TEXT(net), TEXT("S,0\nS,2\n"), out, PTI_RECORD_BYTES), 25, 2, 0, 0, 0);
+    expect("short", pti_build(TEXT(net), TEXT("S,0\n"), out, PTI_RECORD_BYTES - 1), 20, 0, 0, 0, 0);
+    expect("check", pti_check(TEXT(net), TEXT(record), out, PTI_TABLE_BYTES), 0, 0, 2, 4, 1);
+    holds("1 at (1,0), and no other of the two events", out[128] == 1 && out[0] == 0 && out[1] == 0 && out[129] == 0);
+}
+
+static void replay_and_arrange(void)
+{
+    static const uint16_t last[5] = {0, 1, 0, 1, 0};
+    expect("i", pti_replay(TEXT(net), TEXT(record), TEXT("G,0\nG,1\n"), rows, PTI_ROW_COUNTS), 44, 1, 0, 0, 0);
+    expect("j", pti_replay(TEXT(net), TEXT(record), TEXT("G,1\nG,0\n"), rows, PTI_ROW_COUNTS), 0, 0, 2, 0, 0);
+    holds("j's last row", memcmp(rows + 64, last, sizeof last) == 0);
+    expect("arrange", pti_arrange(TEXT(net), TEXT(record), out, PTI_ARRANGEMENT_BYTES), 0, 0, 6, 1, 0);
+    holds("one line", memcmp(out, "G,0,1\n", 6) == 0);
+}
+
+static void lines_and_program(void)
+{
+    char input[512];
+    expect("line 2", pti_refused_line(TEXT(net), TEXT("S,0\nS,2\n"), 1, 2), 0, 0, 4, 3, 0);
+    expect("no line", pti_refused_line(TEXT(net), TEXT("S,0\n"), 2, 1), 46, 1, 0, 0, 0);
+    sprintf(input, "%s=\nS,0\nS,1\nS,2\n", net);
+    expect("a", pti_program((const uint8_t *)input, strlen(input), out, PTI_PROGRAM_BYTES), 0, 0, sizeof(printed) - 1, 0, 0);
+    holds("what a prints", memcmp(out, printed, sizeof(printed) - 1) == 0);
+    expect("program's room", pti_program(TEXT("=\n"), out, PTI_PROGRAM_BYTES - 1), 20, 0, 0, 0, 0);
+}
+
+int main(void)
+{
+    build_and_check();
+    replay_and_arrange();
+    lines_and_program();
+    if (!wrong)
+        puts("c: the drive net comes out as printed");
+    return wrong;
+}
