@@ -2,7 +2,7 @@
 # The tests of the library against an independent simulator. Exits non-zero on any failure. Each stage says what it did and how
 # long it took:
 #   unit tests    the simulator against written-out cases and literal renderings; the tests against faults put into it
-#   c             include/pti.h and the library from C
+#   c             include/pti.h and the library from C; it needs no other library and has no variables, so calls may overlap
 #   comparison    library and simulator on written-out, fixed and generated cases, every lent byte included
 #   brute force   demand 3 on every run of small nets, all arrangements of each
 #   guarded       the comparison again with pages around every lent part that may not be touched, and the stack of each call
@@ -56,6 +56,12 @@ stage() { # NAME COMMAND...
 package() { cargo "$@" --manifest-path tests/compare/Cargo.toml ${features[@]+"${features[@]}"} --offline --quiet; }
 
 from_c() {
+  local needs others data
+  needs=$(nm -u "$PTI_LIB_DIR/libpti.a" | sed -n 's/^ *U //p' | sort -u)
+  others=$(grep -vxE 'mem(cpy|set|move|cmp)' <<< "$needs" || true)
+  data=$(nm "$PTI_LIB_DIR/libpti.a" | grep -cE ' [bBcCdD] ' || true)
+  echo "c: the library needs" $needs "and has $data variables"
+  if [ -n "$others" ] || [ "$data" -ne 0 ]; then return 1; fi
   cc -std=c99 -Wall -Wextra -Wpedantic -Werror -O1 -Iinclude tests/c/drive.c "$PTI_LIB_DIR/libpti.a" -o "$CARGO_TARGET_DIR/drive"
   "$CARGO_TARGET_DIR/drive"
 }

@@ -1,7 +1,8 @@
 //! Times of the operations: the library against the simulator, in one run.
 //!
-//! The times of a call are of one thread's processor, and of a sample of calls that is long against the clock's steps; the
-//! middle one of the samples is given, with the distance between the quarters as its spread.
+//! The times of a call are of one thread's processor, and of a sample of calls that is long against the clock's steps. All is
+//! measured in several rounds; of the middle samples of the rounds the least is given, which other programs disturbed least,
+//! with the distance between that round's quarters as its spread.
 
 use crate::case::{Operation, Subject};
 use crate::corpus::watched_run;
@@ -55,11 +56,13 @@ fn calls<'a>(subject: &'a dyn Subject, operation: Operation, load: &'a Load) -> 
     }
 }
 
-const SAMPLES: usize = 31;
+const ROUNDS: usize = 9;
+const SAMPLES: usize = 15;
 /// A sample repeats a short call until it has about so many microseconds, since clocks are coarse.
 const SAMPLE: f64 = 500.0;
 
 /// Microseconds of one call, and their spread as a part of them.
+#[derive(Clone, Copy)]
 struct Time {
     micros: f64,
     spread: f64,
@@ -127,33 +130,59 @@ fn load_of(events: usize) -> Load {
     }
 }
 
+/// An operation on a load, with the least time of each subject so far.
+struct Row<'a> {
+    operation: Operation,
+    load: &'a Load,
+    least: Vec<Time>,
+}
+
+fn rows<'a>(subjects: usize, operations: &[Operation], loads: &'a [Load]) -> Vec<Row<'a>> {
+    let least = vec![Time { micros: f64::INFINITY, spread: 0.0 }; subjects];
+    let pairs = operations.iter().flat_map(|operation| loads.iter().map(|load| (*operation, load)));
+    pairs.map(|(operation, load)| Row { operation, load, least: least.clone() }).collect()
+}
+
+fn measure(subjects: &[&dyn Subject], rows: &mut [Row]) {
+    for row in rows {
+        for (least, time) in row.least.iter_mut().zip(times(subjects, row.operation, row.load)) {
+            if time.micros < least.micros {
+                *least = time;
+            }
+        }
+    }
+}
+
 /// Every operation at three sizes, then the growth with the events. Without the library only the simulator is timed.
 pub fn bench(library: Option<&dyn Subject>) {
-    println!("median of {SAMPLES} samples, microseconds of processor time a call; ratio: library over simulator");
-    println!("{:12} {:12} {:>10} {:>10} {:>8} {:>8}", "operation", "size", "library", "simulator", "ratio", "spread");
-    for load in [0, 32, 128].map(load_of) {
-        Operation::ALL.iter().for_each(|operation| line(library, *operation, &load));
-    }
-    println!("growth: factor of each doubling of the events (marks grow fourfold)");
-    for operation in [Operation::Build, Operation::Check, Operation::Replay, Operation::Arrange, Operation::Program] {
-        growth(library.unwrap_or(&Simulator), operation);
-    }
-}
-
-fn line(library: Option<&dyn Subject>, operation: Operation, load: &Load) {
     let subjects: Vec<&dyn Subject> = [&Simulator as &dyn Subject].into_iter().chain(library).collect();
-    let times = times(&subjects, operation, load);
-    let spread = times.iter().map(|time| time.spread).fold(0.0, f64::max) * 100.0;
-    let simulator = times[0].micros;
-    let library = times.get(1).map_or(f64::NAN, |time| time.micros);
-    println!("{:12} {:12} {library:10.2} {simulator:10.2} {:8.2} {spread:7.0}%", operation.name(), load.name, library / simulator);
+    let (sizes, growing) = ([0, 32, 128].map(load_of), [8, 16, 32, 64, 128].map(load_of));
+    let operations = [Operation::Build, Operation::Check, Operation::Replay, Operation::Arrange, Operation::Program];
+    let mut table: Vec<Row> = sizes.iter().flat_map(|load| rows(subjects.len(), &Operation::ALL, std::slice::from_ref(load))).collect();
+    let mut growth = rows(1, &operations, &growing);
+    for _ in 0..ROUNDS {
+        measure(&subjects, &mut table);
+        measure(&subjects[subjects.len() - 1..], &mut growth);
+    }
+    println!("microseconds of processor time a call: the least median of {ROUNDS} rounds of {SAMPLES} samples; ratio: library over simulator");
+    println!("{:12} {:12} {:>10} {:>10} {:>8} {:>8}", "operation", "size", "library", "simulator", "ratio", "spread");
+    table.iter().for_each(print_row);
+    println!("growth ({}): microseconds with 8, 16, 32, 64 and 128 events, and the factor of each doubling; marks grow fourfold", subjects[subjects.len() - 1].name());
+    growth.chunks(growing.len()).for_each(print_growth);
 }
 
-fn growth(subject: &dyn Subject, operation: Operation) {
-    let times: Vec<f64> = [8, 16, 32, 64, 128].map(|events| times(&[subject], operation, &load_of(events))[0].micros).to_vec();
+fn print_row(row: &Row) {
+    let spread = row.least.iter().map(|time| time.spread).fold(0.0, f64::max) * 100.0;
+    let simulator = row.least[0].micros;
+    let library = row.least.get(1).map_or(f64::NAN, |time| time.micros);
+    println!("{:12} {:12} {library:10.2} {simulator:10.2} {:8.2} {spread:7.0}%", row.operation.name(), row.load.name, library / simulator);
+}
+
+fn print_growth(rows: &[Row]) {
+    let times: Vec<f64> = rows.iter().map(|row| row.least[0].micros).collect();
     let factors: Vec<String> = times.windows(2).map(|pair| format!("x{:.1}", pair[1] / pair[0])).collect();
     let times: Vec<String> = times.iter().map(|time| format!("{time:.1}")).collect();
-    println!("{:12} ({}) 8..128 events: {} us; {}", operation.name(), subject.name(), times.join(", "), factors.join(", "));
+    println!("{:12} {}; {}", rows[0].operation.name(), times.join(", "), factors.join(", "));
 }
 
 /// So many calls of an operation and nothing else: for a profiler.

@@ -141,12 +141,14 @@ impl Comparison<'_> {
             let wanted = operation.refusals().into_iter().chain([0]);
             unmet.extend(wanted.filter(|number| !self.is_met(operation, *number)).map(|number| format!("{} {number}", operation.name())));
         }
-        let all = self.plan.sources.len() == Source::ALL.len();
-        if all && !unmet.is_empty() {
+        if self.plan.sources != Source::ALL {
+            unmet.clear();
+        }
+        if !unmet.is_empty() {
             println!("never met, or at one spot only: {}", unmet.join(", "));
         }
         println!("compare ({}): {} cases, {} differ, {} refusals not met", self.subject.name(), self.cases, self.differences, unmet.len());
-        self.differences == 0 && (unmet.is_empty() || !all)
+        self.differences == 0 && unmet.is_empty()
     }
 
     /// Did the answer come, and where it has a spot, at two spots or more?

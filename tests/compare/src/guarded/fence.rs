@@ -6,6 +6,7 @@ use std::sync::atomic::{AtomicPtr, AtomicUsize, Ordering::SeqCst};
 
 extern "C" {
     fn mmap(start: *mut c_void, length: usize, protection: c_int, flags: c_int, file: c_int, offset: c_long) -> *mut c_void;
+    fn munmap(start: *mut c_void, length: usize) -> c_int;
     fn mprotect(start: *mut c_void, length: usize, protection: c_int) -> c_int;
     fn signal(number: c_int, handler: usize) -> usize;
     fn write(file: c_int, bytes: *const c_void, count: usize) -> isize;
@@ -64,6 +65,13 @@ impl Fence {
             Side::Behind => self.start.wrapping_add(self.length - bytes),
             Side::Front => self.start,
         }
+    }
+}
+
+impl Drop for Fence {
+    fn drop(&mut self) {
+        // SAFETY: all that `new` asked for, and nothing is lent of it any more.
+        unsafe { munmap(self.start.wrapping_sub(PAGE).cast(), self.length + 2 * PAGE) };
     }
 }
 

@@ -1,5 +1,5 @@
 //! How much stack a call uses. The library asks for no other memory, and no proof bounds it; so the greatest inputs are run on
-//! a stack that is all zero before, and what is not zero after was used.
+//! a stack that is painted before, and where the paint is gone after was used.
 
 use super::fence::Fence;
 use crate::answer::Answer;
@@ -14,6 +14,7 @@ use std::ptr::{null, null_mut};
 /// More than any call may use, and a quarter of what a thread mostly has.
 const MOST: usize = 512 << 10;
 const ROOM: usize = 2 << 20;
+const PAINT: u8 = 0xA5;
 
 extern "C" {
     fn pthread_attr_init(attributes: *mut c_void) -> c_int;
@@ -40,11 +41,12 @@ fn used(call: Call) -> usize {
     let given = attributes.as_mut_ptr().cast();
     // SAFETY: the stack and the call live until the thread is joined; the stack is nobody else's.
     unsafe {
+        stack.start().write_bytes(PAINT, ROOM);
         let started = pthread_attr_init(given) | pthread_attr_setstack(given, stack.start().cast(), ROOM);
         assert_eq!(started | pthread_create(&mut thread, given, run, (&raw mut call).cast()), 0, "a thread can be started");
         assert_eq!(pthread_join(thread, null::<*mut c_void>().cast_mut()), 0);
         let bytes = std::slice::from_raw_parts(stack.start(), ROOM);
-        ROOM - bytes.iter().position(|byte| *byte != 0).unwrap_or(ROOM)
+        ROOM - bytes.iter().position(|byte| *byte != PAINT).unwrap_or(ROOM)
     }
 }
 
