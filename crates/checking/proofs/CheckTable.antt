@@ -1,7 +1,8 @@
 -- The bytes that the check writes, and the independent pairs that it counts, are those of the record.
 use mathlib.Core.Path.{_≡_, refl, sym, ap, ap₂, _∙_}
 use Prim.Native.Nat.{ℕ, zero, suc, _+_, _-_, _*_, _/_, _%_, _≤_, _<_}
-use native.Mathlib.Nat.{mul-suc, mul-zero, div-add-mod}
+use mathlib.Core.Logic.{_⊎_, inl, inr}
+use native.Mathlib.Nat.{mul-suc, mul-zero, div-add-mod, mod-lt}
 use native.Mathlib.Decide.{decLe}
 use native.Mathlib.Omega.{arith}
 use mathlib.Core.Bool.{Bool, true, false, not, _&&_, cond}
@@ -9,19 +10,20 @@ use mathlib.Core.List.{List, _++_, map}
 use lib.ListN.{length, getD, drop, length-append, length-drop, List·getD-append}
 use lib.Seq.{ext-getD, getD-append-add, getD-drop}
 use lib.Dec.{eqb, ltb}
-use borrow.Author.Tests.{ltb-true}
+use borrow.Author.Tests.{ltb-true, ltb-false, le-ltb}
 use Rattle.spec.specs.Lists.{count, upTo, from, flat, sum}
 use Rattle.spec.specs.Net.{Net as NetD}
 use Rattle.spec.specs.Record.{RunRecord}
 use Rattle.spec.specs.Process.{Process, WellFormed}
 use Rattle.spec.specs.Check.{related, tableAt, tableBytes, independent, independentPairs as pairsD}
 use Rattle.spec.specs.Buffer.{over}
-use Rattle.lists.specs.Laws.{length-map, length-upTo, upTo-snoc, in-upTo, flat-map-snoc, getD-table, getD-table-rows, map-same, count-same}
+use Rattle.lists.specs.Laws.{and-true, and-false, length-map, length-upTo, upTo-snoc, in-upTo, flat-map-snoc, getD-table, getD-table-rows, map-same, count-same}
 use Rattle.lists.specs.Mapped.{Mapped}
 use Rattle.order.specs.Table.{cellAt}
 use Rattle.order.specs.Diamond.{entry}
 use Rattle.runs.specs.Values.{orderOf}
 use Rattle.runs.specs.Closure.{related-is}
+use Rattle.closure.specs.Changes.{zeros}
 use Rattle.closure.specs.Pairs.{independentIn, independentsBelow, independentPairs}
 use Rattle.checking.specs.Relation.{HoldsOrder}
 use Rattle.checking.specs.Checking.{entryIn, byteIn}
@@ -100,3 +102,28 @@ module _ (N : NetD) (R : RunRecord) (t : List ℕ) (n : ℕ) (W : WellFormed N R
 pub byte-is : (t : List ℕ) (n i : ℕ) {v : ℕ} → v ≡ entryIn (cellAt 128 t) n (i / 128) (i % 128) → v ≡ byteIn t n i
 unfolding byteIn
 byte-is t n i h = h
+
+pub row-below : (n i : ℕ) → (ltb i 16384 && ltb (i / 128) n) ≡ true → i < 16384
+row-below n i e = ltb-true i 16384 (and-true (ltb i 16384) (ltb (i / 128) n) e .0)
+
+-- beyond the rows of the n events there is nothing
+rest-is : (t : List ℕ) (n i j : ℕ) → (ltb i 16384 && ltb (i / 128) n) ≡ false → i ≤ j → j < 16384 → byteIn t n j ≡ 0
+unfolding byteIn entryIn
+rest-is t n i j e l h = go (and-false (ltb i 16384) (ltb (i / 128) n) e)
+  where
+    go : (ltb i 16384 ≡ false) ⊎ (ltb (i / 128) n ≡ false) → cond (ltb (j / 128) n && ltb (j % 128) n && not (eqb (j / 128) (j % 128))) (cellAt 128 t (j / 128) (j % 128)) 0 ≡ 0
+    go (inl f) = absurd (omega (arith, ltb-false i 16384 f))
+    go (inr f) =
+        let p : 0 < 128 = omega arith in
+        rw (le-ltb (j / 128) n (omega (arith, ltb-false (i / 128) n f, div-add-mod i 128, div-add-mod j 128, mod-lt i p, mod-lt j p)))
+
+pub rows-written : (t : List ℕ) (n i : ℕ) {old mid new : List ℕ} → i ≤ 16384 → (ltb i 16384 && ltb (i / 128) n) ≡ false → Mapped old 16384 zeros mid → Mapped mid i (byteIn t n) new → Mapped old 16384 (byteIn t n) new
+unfolding zeros
+rows-written t n i l e z m = record {
+  long = m .long ∙ z .long;
+  here = λ j h. elim (decLe i j) [
+    | yes k ↦ m .beyond j k ∙ z .here j h ∙ sym (rest-is t n i j e k h)
+    | no k ↦ m .here j (omega arith)
+  ];
+  beyond = λ j h. m .beyond j (omega arith) ∙ z .beyond j h;
+}

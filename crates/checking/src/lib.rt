@@ -16,6 +16,7 @@ ghost use Rattle.lists.specs.Mapped.{Mapped};
 ghost use Rattle.order.specs.Table.{cellAt};
 ghost use Rattle.checking.specs.Checking.{entryIn, byteIn, Checks};
 use closure::bytes_at;
+use closure::clear;
 use closure::close;
 use closure::first_loop;
 use closure::independent_pairs;
@@ -212,13 +213,14 @@ fn entry(t: &[u8], n: usize, e: usize, f: usize) -> u8
     }
 }
 
-// The check's 16,384 bytes.
+// The check's 16,384 bytes: all 0, then the rows of the n events.
 fn write_table(t: &[u8], n: usize, out: &mut [u8])
     requires { ⌜ (16384 ≤ length (now t)) × (16384 ≤ length (now out)) ⌝ }
     ensures { λ _. ⌜ Mapped (now (out .entry)) 16384 (byteIn (now (t .entry)) n) (now (out .exit)) ⌝ }
 {
+    clear(out, 16384);
     let mut i: usize = 0;
-    while i < 16384 {
+    while (i < 16384) & (i / 128 < n) {
         out[i] = entry(t, n, i / 128, i % 128);
         i += 1;
     }

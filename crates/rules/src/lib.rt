@@ -170,14 +170,14 @@ fn kinds_wrong(rec: &[u8], m: usize, e: usize) -> bool
     requires { ⌜ (e < 128) × (m ≤ 512) × (67200 ≤ length (now rec)) ⌝ }
     ensures { λ r. ⌜ r ≡ kindsWrong (now (rec .entry)) m e ⌝ }
 {
+    let mut wrong = false;
     let mut c: usize = 0;
+    // no way out before the end: so many conditions are looked at together
     while c < m {
-        if kind_wrong(rec, e, c) {
-            return true;
-        }
+        wrong = wrong | kind_wrong(rec, e, c);
         c += 1;
     }
-    false
+    wrong
 }
 
 // 38: the lowest event with a mark B on an initial or A on an unconsumed condition, or the number of events.
