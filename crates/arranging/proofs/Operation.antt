@@ -12,7 +12,7 @@ use Rattle.spec.specs.Buffer.{leaves, arrangeLeaves}
 use Rattle.order.specs.Order.{Order}
 use Rattle.order.specs.Table.{cellAt}
 use Rattle.runs.specs.Answers.{not-refused}
-use Rattle.text.specs.Agree.{giving, refusing}
+use Rattle.lines.specs.Agree.{giving, refusing}
 use Rattle.checking.specs.Accepting.{verdictOf, Accepts}
 use Rattle.checking.specs.declared.Refusal.{Refusal}
 use Rattle.checking.specs.declared.Verdict.the-variants.{Given, Refused as Unaccepted}

@@ -14,7 +14,7 @@ use Rattle.spec.specs.Net.{Net, readNet}
 use Rattle.spec.specs.Record.{bench, recordBytes}
 use Rattle.spec.specs.Build.{Run as RunD, start, playLog, recordOf, runOf, recordFor, built, build}
 use Rattle.spec.specs.Buffer.{leaves, buildLeaves}
-use Rattle.text.specs.Agree.{Agrees, giving, refusing}
+use Rattle.lines.specs.Agree.{Agrees, giving, refusing}
 use Rattle.net.specs.Holds.{Holds, Reads, netCounts, answerOf as netAnswer}
 use Rattle.net.specs.declared.NetRead.{NetRead}
 use Rattle.net.specs.declared.NetAnswer.{NetAnswer}

@@ -13,7 +13,7 @@ use Rattle.spec.specs.Step.{short, inhibited}
 use Rattle.spec.specs.Build.{Run as RunD, start, playStep, marksDue, logLine, playLog, build}
 use Rattle.spec.specs.Record.{bench}
 use Rattle.spec.specs.Buffer.{buildLeaves}
-use Rattle.text.specs.Agree.{Agrees}
+use Rattle.lines.specs.Agree.{Agrees}
 use Rattle.net.specs.Holds.{lineOf, answerOf as netAnswer}
 use Rattle.net.specs.declared.NetAnswer.{NetAnswer}
 use Rattle.steps.specs.Holds.{HoldsStep, HoldsMarking}

@@ -7,6 +7,7 @@ ghost use Rattle.building.specs.Holds.{given, logAnswer, buildAnswer, Re
 ghost use lib.ListN.{length, take};
 ghost use Rattle.spec.specs.Lists.{sum};
 ghost use Rattle.net.specs.Holds.{lineOf, answerOf as netAnswer};
+use lines::line_at;
 use net::NetAnswer;
 use net::read_net;
 use playing::History;
@@ -27,7 +28,6 @@ use steps::numbers;
 use steps::play;
 use steps::short;
 use steps::sums;
-use text::line_at;
 
 // What a log played so far: the running marking, what is counted, and the history.
 pub struct Run {

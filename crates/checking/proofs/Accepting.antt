@@ -15,7 +15,7 @@ use Rattle.spec.specs.declared.Limits.{Limits}
 use Rattle.lists.specs.Laws.{clash}
 use Rattle.runs.specs.Answers.{of-gives, not-refused}
 use Rattle.runs.specs.RecordText.{record-text}
-use Rattle.text.specs.Agree.{Agrees, giving, refusing}
+use Rattle.lines.specs.Agree.{Agrees, giving, refusing}
 use Rattle.net.specs.Holds.{Holds, Reads, netCounts, answerOf as netAnswerOf}
 use Rattle.net.specs.declared.Net.{Net}
 use Rattle.net.specs.declared.NetRead.{NetRead}

@@ -16,7 +16,7 @@ use Rattle.lists.specs.Mapped.{Mapped}
 use Rattle.order.specs.Table.{cellAt}
 use Rattle.runs.specs.Answers.{of-gives, not-refused, of-bind}
 use Rattle.runs.specs.Accepted.{accepted-record}
-use Rattle.text.specs.Agree.{Agrees, giving, refusing}
+use Rattle.lines.specs.Agree.{Agrees, giving, refusing}
 use Rattle.closure.specs.Pairs.{independentPairs}
 use Rattle.checking.specs.Accepting.{refusedBy, verdictOf, nothing, HoldsAccepted, Accepts}
 use Rattle.checking.specs.Checking.{byteIn, checkCounts, Checks}

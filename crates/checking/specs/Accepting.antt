@@ -10,7 +10,7 @@ use Rattle.spec.specs.Net.{Net as NetD}
 use Rattle.spec.specs.Record.{RunRecord, transitionOf}
 use Rattle.spec.specs.Check.{obeys, readRecord, accepts, Accepted as AcceptedD}
 use Rattle.spec.specs.declared.Limits.{Limits}
-use Rattle.text.specs.Agree.{Agrees}
+use Rattle.lines.specs.Agree.{Agrees}
 use Rattle.net.specs.Holds.{Holds}
 use Rattle.net.specs.declared.Net.{Net}
 use Rattle.record.specs.declared.Counts.{Counts}

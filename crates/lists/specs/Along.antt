@@ -6,11 +6,11 @@ use mathlib.Core.List.{List, [], _∷_, _++_}
 use native.Mathlib.Nat.{zero-add}
 use native.Mathlib.Numerals.{add-one}
 use native.Mathlib.Omega.{arith}
-use lib.ListN.{length, getD, take}
+use lib.ListN.{length, getD, take, drop, drop-of-length-le}
 use lib.Dec.{ltb}
-use lib.Seq.{take-suc, getD-take, length-take-le}
+use lib.Seq.{take-suc, getD-take, length-take-le, drop-cons}
 use borrow.Author.Tests.{lt-ltb}
-use Rattle.spec.specs.Lists.{In, any, sumOf, asCount}
+use Rattle.spec.specs.Lists.{In, any, every, sumOf, asCount}
 use Rattle.lists.specs.Laws.{here, there, at-in, any-in, sumOf-append}
 
 -- ---- a list known by its first element and the others
@@ -23,6 +23,18 @@ module _ {A : Type 0} (q : A → Bool) {xs ys : List A} {x : A} (e : xs ≡ x �
   pub any-next : q x ≡ false → any q ys ≡ any q xs
   unfolding any
   any-next h = rw (e, h)
+
+  pub every-next : q x ≡ true → every q ys ≡ every q xs
+  unfolding every
+  every-next h = rw (e, h)
+
+  pub every-fails : q x ≡ false → every q xs ≡ false
+  unfolding every
+  every-fails h = rw (e, h)
+
+pub every-none : {A : Type 0} (q : A → Bool) {xs : List A} → xs ≡ [] → every q xs ≡ true
+unfolding every
+every-none q e = rw e
 
 pub any-nil : {A : Type 0} (q : A → Bool) {xs : List A} → xs ≡ [] → any q xs ≡ false
 unfolding any
@@ -72,3 +84,21 @@ module _ {A : Type 0} (d : A) where
   pub any-taken : (q : A → Bool) (xs : List A) (i n : ℕ) → i < n → n ≤ length xs → q (getD xs i d) ≡ true → any q (take n xs) ≡ true
   any-taken q xs i n h l e =
       any-in q (getD (take n xs) i d) (take n xs) (at-in d (take n xs) i (omega (arith, length-take-le n xs l))) (ap q (getD-take n xs i d h) ∙ e)
+
+-- ---- what is left of a list from a position on
+
+pub rest-at : (s : List ℕ) (i : ℕ) → i < length s → drop i s ≡ getD s i 0 ∷ drop (i + 1) s
+rest-at s i h = rw (add-one i) (drop-cons s i 0 h)
+
+module _ (q : ℕ → Bool) (s : List ℕ) (i : ℕ) where
+  pub every-on : i < length s → q (getD s i 0) ≡ true → every q (drop (i + 1) s) ≡ every q (drop i s)
+  unfolding every
+  every-on h e = rw (rest-at s i h, e)
+
+  pub every-not : i < length s → q (getD s i 0) ≡ false → every q (drop i s) ≡ false
+  unfolding every
+  every-not h e = rw (rest-at s i h, e)
+
+  pub every-end : length s ≤ i → every q (drop i s) ≡ true
+  unfolding every
+  every-end h = rw (drop-of-length-le s h)

@@ -10,10 +10,10 @@ use Rattle.spec.specs.Lists.{any, sum, asCount}
 use Rattle.lists.specs.Arrays.{blank}
 use Rattle.spec.specs.Text.{Line, linesOf, byLines}
 use Rattle.spec.specs.Net.{Net as NetD, joined, takes, makes, inhibits, addLine, emptyNet, whole, netOf, readNet}
-use Rattle.text.proofs.Answers.{isGiven, refuses≢gives, same-given}
-use Rattle.text.proofs.ByLines.{line-taken, line-refused, lines-done}
+use Rattle.lines.proofs.Answers.{isGiven, refuses≢gives, same-given}
+use Rattle.lines.proofs.ByLines.{line-taken, line-refused, lines-done}
 use Rattle.net.specs.Holds.{Cells, Holds, Draft, Fits, netCounts, Finishes, Reads, answerOf, goesOf}
-use Rattle.text.specs.Agree.{Agrees, giving, refusing}
+use Rattle.lines.specs.Agree.{Agrees, giving, refusing}
 use Rattle.net.specs.declared.Net.{Net}
 use Rattle.net.specs.declared.NetRead.{NetRead}
 use Rattle.net.specs.declared.NetAnswer.{NetAnswer}

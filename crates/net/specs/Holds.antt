@@ -6,7 +6,7 @@ use mathlib.Core.List.{List}
 use lib.ListN.{length, getD, set}
 use lib.Dec.{ltb}
 use Rattle.spec.specs.Answer.{Answer, gives, refuses, returned}
-use Rattle.text.specs.Agree.{Agrees}
+use Rattle.lines.specs.Agree.{Agrees}
 use Rattle.spec.specs.Lists.{any, upTo, sum, asCount}
 use Rattle.spec.specs.Text.{Line}
 use Rattle.spec.specs.Net.{Net as NetD, places, takes, makes, inhibits, whole, readNet}

@@ -5,15 +5,15 @@ ghost use Prim.Native.Nat.{ℕ, _≤_, _<_};
 ghost use lib.ListN.{length, getD};
 ghost use Rattle.spec.specs.Net.{addPlace, addTransition, addArc, addRow, addLine, whole, readNet};
 ghost use Rattle.net.specs.Holds.{cellsOf, marked, Holds, Draft, answerOf, goesOf, anyCell, lacksOf, lineOf, Steps, Fits, Finishes, Reads};
+use fields::row_of;
+use forms::is_alone;
+use forms::is_one;
+use forms::is_two;
+use forms::number_in;
+use lines::line_at;
 use spec::ArcKind;
 use spec::Class;
 use spec::Row;
-use text::is_alone;
-use text::is_one;
-use text::is_two;
-use text::line_at;
-use text::number_in;
-use text::row_of;
 
 // The net: of transition t and place p each array of arcs has 1 at 32 * t + p if they are joined so, else 0.
 pub struct Net {

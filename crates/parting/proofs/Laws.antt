@@ -12,8 +12,8 @@ use lib.Dec.{eqb}
 use borrow.Author.Tests.{eq-eqb, ne-eqb}
 use Rattle.spec.specs.Text.{Line, linesOf}
 use Rattle.spec.specs.Program.{Input, isParting, withNetLine, parted}
-use Rattle.text.specs.Scan.{LineAt}
-use Rattle.text.specs.declared.Span.{Span}
+use Rattle.lines.specs.Lines.{LineAt}
+use Rattle.lines.specs.declared.Span.{Span}
 use Rattle.parting.specs.Parts.{lineOf, PartedAt}
 
 -- ---- lines put in front of what was parted

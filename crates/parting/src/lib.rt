@@ -2,7 +2,7 @@
 ghost use mathlib.Core.Path.{_≡_};
 ghost use Rattle.spec.specs.Program.{isParting};
 ghost use Rattle.parting.specs.Parts.{Parts, lineOf};
-use text::line_at;
+use lines::line_at;
 
 // Where the net ends and where the log starts, or that no line is `=`.
 pub enum Parting {

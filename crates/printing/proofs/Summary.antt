@@ -24,7 +24,7 @@ use Rattle.runs.specs.Accepted.{accepted-record}
 use Rattle.runs.specs.NetLimits.{net-limits}
 use Rattle.runs.specs.ReadRecord.{Fits}
 use Rattle.runs.specs.Sizes.{record-size}
-use Rattle.text.specs.Agree.{Agrees, giving, refusing}
+use Rattle.lines.specs.Agree.{Agrees, giving, refusing}
 use Rattle.writing.specs.Written.{Wrote, lineBytes}
 use Rattle.writing.proofs.Laws.{put-over, wrote-length, after}
 use Rattle.checking.specs.Accepting.{HoldsAccepted, Accepts}

@@ -12,7 +12,7 @@ use Rattle.spec.specs.Check.{eventOf, enterLine, emptyRecord}
 use Rattle.spec.specs.declared.Field.{Field}
 use Rattle.spec.specs.declared.MarkKind.{MarkKind}
 use Rattle.spec.specs.declared.Limits.{Limits}
-use Rattle.text.specs.Agree.{Agrees}
+use Rattle.lines.specs.Agree.{Agrees}
 use Rattle.record.specs.Holds.{HoldsRecord}
 use Rattle.record.specs.declared.Counts.{Counts}
 use Rattle.record.specs.declared.RecordRead.{RecordRead}

@@ -6,17 +6,17 @@ ghost use Rattle.spec.specs.Process.{below};
 ghost use Rattle.spec.specs.Check.{eventOf, enterEvent, enterCondition, enterMark, enterRow, enterLine};
 ghost use Rattle.record.specs.Holds.{eventCode, kindCode};
 ghost use Rattle.record.specs.Reads.{goesOf, Room, Blank, Fits, Declares, Enters, conditionIn, markOf, lineOf, ReadsRecord};
+use fields::row_of;
+use forms::is_one;
+use forms::is_three;
+use forms::is_two;
+use forms::number_in;
+use lines::line_at;
 use spec::Class;
 use spec::Field;
 use spec::Limits;
 use spec::MarkKind;
 use spec::Row;
-use text::is_one;
-use text::is_three;
-use text::is_two;
-use text::line_at;
-use text::number_in;
-use text::row_of;
 
 // Where the bytes of a record stand: from here on the places of the conditions, their producers, their consumers, and
 // the marks, 512 for each event. Before them stand the transitions of the events.

@@ -14,8 +14,8 @@ use Rattle.spec.specs.Text.{Line, linesOf, isA}
 use Rattle.spec.specs.Answer.{Answer, gives, refuses, _>>=_, found, returned}
 use Rattle.spec.specs.Line.{lineAt, lineStart, startAfter, chosenText, refusedLine, partOf}
 use Rattle.spec.specs.declared.Class.the-variants.{LineEnd}
-use Rattle.text.specs.Scan.{LineAt}
-use Rattle.text.specs.declared.Span.{Span}
+use Rattle.lines.specs.Lines.{LineAt}
+use Rattle.lines.specs.declared.Span.{Span}
 use denote.Ref.{RefT, ptr, now}
 use Rattle.refused.specs.Shown.{Goes, Finds, placeIn, placeOf, answerOf, span}
 use Rattle.refused.specs.declared.Found.{Found}

@@ -4,7 +4,7 @@ ghost use denote.Ref.{ptr};
 ghost use Rattle.spec.specs.Answer.{returned};
 ghost use Rattle.spec.specs.Line.{refusedLine, partOf, chosenText};
 ghost use Rattle.refused.specs.Shown.{Finds, answerOf, span, placeOf};
-use text::line_at;
+use lines::line_at;
 
 // From where to where a line goes in its text, without its end.
 pub enum Found {

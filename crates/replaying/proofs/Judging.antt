@@ -17,7 +17,7 @@ use Rattle.spec.specs.Record.{RunRecord}
 use Rattle.spec.specs.Replay.{isGroupLine, repeats, breaks, groupsLine}
 use Rattle.spec.specs.declared.Class.the-variants.{LetterG}
 use Rattle.lists.specs.Laws.{at-in, and-true, and-three, all-below, flat-snoc}
-use Rattle.text.specs.Agree.{giving, refusing}
+use Rattle.lines.specs.Agree.{giving, refusing}
 use Rattle.net.specs.Holds.{lineOf}
 use Rattle.steps.specs.Holds.{Few, Begins}
 use Rattle.replaying.specs.Lined.{TellsOrder, Stands, Lined, Sound, Enters, breaksIn}

@@ -15,8 +15,8 @@ use Rattle.spec.specs.Replay.{readArrangement, replayed, replay}
 use Rattle.spec.specs.Buffer.{over, leaves, replayLeaves}
 use Rattle.lists.specs.Laws.{at-in}
 use Rattle.runs.specs.Answers.{not-refused}
-use Rattle.text.specs.Agree.{Agrees, giving, refusing}
-use Rattle.text.proofs.Answers.{isGiven}
+use Rattle.lines.specs.Agree.{Agrees, giving, refusing}
+use Rattle.lines.proofs.Answers.{isGiven}
 use Rattle.checking.specs.Accepting.{refusedBy, verdictOf, HoldsAccepted, Accepts}
 use Rattle.checking.specs.declared.Refusal.{Refusal}
 use Rattle.checking.specs.declared.Verdict.the-variants.{Given, Refused}

@@ -16,9 +16,9 @@ use Rattle.spec.specs.Replay.{repeats, missing, groupsLine, readArrangement, re
 use Rattle.lists.specs.Laws.{flat-snoc}
 use Rattle.lists.specs.Search.{first-same}
 use Rattle.lists.specs.Stretch.{MappedFrom}
-use Rattle.text.specs.Agree.{Agrees, giving, refusing}
-use Rattle.text.proofs.Answers.{isGiven}
-use Rattle.text.proofs.ByLines.{line-taken, line-refused, lines-done}
+use Rattle.lines.specs.Agree.{Agrees, giving, refusing}
+use Rattle.lines.proofs.Answers.{isGiven}
+use Rattle.lines.proofs.ByLines.{line-taken, line-refused, lines-done}
 use Rattle.net.specs.Holds.{lineOf}
 use Rattle.net.specs.declared.Net.{Net}
 use Rattle.steps.specs.Holds.{HoldsStep, IsStep, cellAt, Sums}

@@ -12,7 +12,7 @@ use Rattle.spec.specs.Forms.{numbersOf}
 use Rattle.spec.specs.Net.{Net as NetD}
 use Rattle.spec.specs.Record.{RunRecord, transitionOf}
 use Rattle.spec.specs.Replay.{groupsLine, readArrangement, replayed}
-use Rattle.text.specs.Agree.{Agrees}
+use Rattle.lines.specs.Agree.{Agrees}
 use Rattle.net.specs.Holds.{Holds, lineOf}
 use Rattle.net.specs.declared.Net.{Net}
 use Rattle.steps.specs.Holds.{Few, Begins}

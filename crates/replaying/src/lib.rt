@@ -17,6 +17,9 @@ ghost use Rattle.replaying.specs.Replaying.{Replays};
 use checking::Refusal;
 use checking::Verdict;
 use checking::accept;
+use fields::letter_at;
+use fields::number_at;
+use lines::line_at;
 use net::Net;
 use spec::Class;
 use spec::Limits;
@@ -25,9 +28,6 @@ use steps::count_numbers;
 use steps::is_list_line;
 use steps::numbers;
 use steps::sums;
-use text::letter_at;
-use text::line_at;
-use text::number_at;
 
 // What is answered to an arrangement: how many lines keep the order, or a refusal with its line or the missing event.
 pub enum ArrangementAnswer {

@@ -10,10 +10,10 @@ ghost use Rattle.spec.specs.Forms.{isList, numbersOf};
 ghost use Rattle.spec.specs.Build.{isStepLine};
 ghost use Rattle.net.specs.Holds.{lineOf};
 ghost use Rattle.steps.specs.Holds.{Few, Begins, IsStep, cellAt, Adds, Sums, falls, blocks, Plays, Playable};
+use fields::is_list;
+use fields::letter_at;
+use fields::number_at;
 use spec::Class;
-use text::is_list;
-use text::letter_at;
-use text::number_at;
 
 // ---- a line of one letter and one number or more
 

@@ -3,7 +3,7 @@ use native.Mathlib.Omega.{arith}
 use borrow.Author.Tests.{not-true, not-false}
 use Rattle.spec.specs.Text.{mostDigits}
 use Rattle.spec.specs.Forms.{numbersOf}
-use Rattle.text.specs.Agree.{giving, refusing}
+use Rattle.lines.specs.Agree.{giving, refusing}
 use Rattle.net.specs.Holds.{lineOf}
 use Rattle.steps.proofs.Lines.{few-known}
 use Rattle.building.proofs.Reaching.{events-held}

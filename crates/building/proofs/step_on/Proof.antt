@@ -1,6 +1,6 @@
 use mathlib.Core.Path.{_≡_, refl, sym, _∙_}
 use native.Mathlib.Omega.{arith}
-use Rattle.text.specs.Agree.{giving, refusing}
+use Rattle.lines.specs.Agree.{giving, refusing}
 use Rattle.playing.proofs.Held.{flows-total}
 use Rattle.building.proofs.Reaching.{tally-small, tally-low, playable}
 use Rattle.building.proofs.Judging.{answers-24, answers-25, answers-26, answers-27, answers-run, run-after}

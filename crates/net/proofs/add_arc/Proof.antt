@@ -1,6 +1,6 @@
 use native.Mathlib.Omega.{arith}
 use mathlib.Core.Path.{_≡_, refl, _∙_}
-use Rattle.text.specs.Agree.{giving, refusing}
+use Rattle.lines.specs.Agree.{giving, refusing}
 use Rattle.net.proofs.Laws.{arc-place, arc-transition, arc-again, arc-goes, arc-counts, arc-draft, arc-cell}
 use Rattle.net.proofs.add_arc.Statement.{statement}
 use Rattle.net.proofs.add_arc.Tie as tie

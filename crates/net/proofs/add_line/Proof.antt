@@ -2,7 +2,7 @@ use mathlib.Core.Path.{_≡_, refl}
 use borrow.Author.Needs.{needs}
 use Rattle.spec.specs.Answer.{_>>_, refuse_at_when_}
 use Rattle.spec.specs.Net.{addLine}
-use Rattle.text.specs.Agree.{refusing}
+use Rattle.lines.specs.Agree.{refusing}
 use Rattle.net.proofs.add_line.Statement.{statement}
 use Rattle.net.proofs.add_line.Tie as tie
 

@@ -1,7 +1,7 @@
 use native.Mathlib.Omega.{arith}
 use mathlib.Core.Path.{_≡_, refl}
 use borrow.Author.Needs.{needs}
-use Rattle.text.specs.Agree.{giving, refusing}
+use Rattle.lines.specs.Agree.{giving, refusing}
 use Rattle.net.proofs.Laws.{place-full, place-over, place-goes, place-counts, place-draft}
 use Rattle.net.proofs.add_place.Statement.{statement}
 use Rattle.net.proofs.add_place.Tie as tie

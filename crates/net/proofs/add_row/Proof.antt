@@ -1,7 +1,7 @@
 use mathlib.Core.Path.{_≡_, refl, sym, _∙_}
 use borrow.Author.Needs.{needs}
 use Rattle.spec.specs.Net.{addRow}
-use Rattle.text.specs.Agree.{refusing}
+use Rattle.lines.specs.Agree.{refusing}
 use Rattle.net.proofs.add_row.Statement.{statement}
 use Rattle.net.proofs.add_row.Tie as tie
 

@@ -1,7 +1,7 @@
 use native.Mathlib.Omega.{arith}
 use mathlib.Core.Path.{_≡_, refl}
 use borrow.Author.Needs.{needs}
-use Rattle.text.specs.Agree.{giving, refusing}
+use Rattle.lines.specs.Agree.{giving, refusing}
 use Rattle.net.proofs.Laws.{transition-full, transition-goes, transition-counts, transition-draft}
 use Rattle.net.proofs.add_transition.Statement.{statement}
 use Rattle.net.proofs.add_transition.Tie as tie

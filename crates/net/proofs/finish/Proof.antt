@@ -2,7 +2,7 @@ use Prim.Native.Nat.{ℕ, _+_, _-_, _≤_}
 use mathlib.Core.Path.{_≡_, refl, sym, _∙_}
 use native.Mathlib.Omega.{arith}
 use Rattle.spec.specs.Lists.{from, first, lowest}
-use Rattle.text.specs.Agree.{giving, refusing}
+use Rattle.lines.specs.Agree.{giving, refusing}
 use Rattle.net.specs.Holds.{lacksOf}
 use Rattle.lists.specs.Search.{lowest-start, first-hit, first-on, first-end}
 use Rattle.net.proofs.LastRule.{whole-lacks, whole-gives, counts}

@@ -2,8 +2,8 @@ use Prim.Native.Nat.{_+_, _-_, _≤_}
 use native.Mathlib.Omega.{arith}
 use lib.ListN.{length}
 use Rattle.spec.specs.Forms.{numbersOf}
-use Rattle.text.specs.Scan.{numbersFrom}
-use Rattle.text.proofs.Scans.{numbers-first, numbers-none}
+use Rattle.fields.specs.Fields.{numbersFrom}
+use Rattle.fields.proofs.Fields.{numbers-first, numbers-none}
 use Rattle.replaying.proofs.Standing.{Entries, entries-none, entries-low, entries-hit, entries-more, entries-end}
 use Rattle.replaying.proofs.enter_events.Statement.{statement}
 use Rattle.replaying.proofs.enter_events.Tie as tie

@@ -7,8 +7,8 @@ use lib.ListN.{length}
 use Rattle.spec.specs.Lists.{any}
 use Rattle.spec.specs.Forms.{numbersOf}
 use Rattle.lists.specs.Along.{any-first, any-next, any-nil}
-use Rattle.text.specs.Scan.{numbersFrom}
-use Rattle.text.proofs.Scans.{numbers-first, numbers-none}
+use Rattle.fields.specs.Fields.{numbersFrom}
+use Rattle.fields.proofs.Fields.{numbers-first, numbers-none}
 use Rattle.steps.proofs.any_unknown.Statement.{statement}
 use Rattle.steps.proofs.any_unknown.Tie as tie
 

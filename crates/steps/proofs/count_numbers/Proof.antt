@@ -3,8 +3,8 @@ use mathlib.Core.Path.{_≡_, ap}
 use native.Mathlib.Omega.{arith}
 use lib.ListN.{length}
 use Rattle.spec.specs.Forms.{numbersOf}
-use Rattle.text.specs.Scan.{numbersFrom}
-use Rattle.text.proofs.Scans.{numbers-first, numbers-none}
+use Rattle.fields.specs.Fields.{numbersFrom}
+use Rattle.fields.proofs.Fields.{numbers-first, numbers-none}
 use Rattle.steps.proofs.count_numbers.Statement.{statement}
 use Rattle.steps.proofs.count_numbers.Tie as tie
 

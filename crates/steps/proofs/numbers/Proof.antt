@@ -2,8 +2,8 @@ use Prim.Native.Nat.{_+_, _-_, _≤_}
 use native.Mathlib.Omega.{arith}
 use lib.ListN.{length}
 use Rattle.spec.specs.Forms.{numbersOf}
-use Rattle.text.specs.Scan.{numbersFrom}
-use Rattle.text.proofs.Scans.{numbers-first, numbers-none}
+use Rattle.fields.specs.Fields.{numbersFrom}
+use Rattle.fields.proofs.Fields.{numbers-first, numbers-none}
 use Rattle.steps.proofs.Lines.{Filled, filled-none, filled-room, filled-more, filled-all}
 use Rattle.steps.proofs.numbers.Statement.{statement}
 use Rattle.steps.proofs.numbers.Tie as tie

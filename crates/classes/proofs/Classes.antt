@@ -1,0 +1,61 @@
+-- Laws on the classes of bytes.
+use Prim.Native.Nat.{ℕ, zero, suc, _+_, _-_, _≤_, _<_}
+use mathlib.Core.Path.{_≡_, refl, sym, ap, _∙_}
+use mathlib.Core.Bool.{Bool, true, false, _&&_, cond}
+use mathlib.Core.List.{List, [], _∷_}
+use native.Mathlib.Omega.{arith}
+use lib.Dec.{leb, eqb}
+use borrow.Author.Tests.{le-leb, leb-true, ne-eqb}
+use Rattle.spec.specs.declared.Class.{Class}
+use Rattle.spec.specs.declared.Class.the-variants.{Digit, Foreign}
+use Rattle.spec.specs.declared.ByteClass.{ByteClass}
+use Rattle.spec.specs.Text.{named, classNames, inDigits, classOf, digitOf, byteClass}
+use Rattle.classes.specs.Scan.{plainByte}
+
+pub not-below : {a b : ℕ} → a < b → b ≤ a → ⊥
+not-below p q = omega arith
+
+pub digit : (b : ℕ) → 48 ≤ b → b ≤ 57 → record { class = Digit; digit = b - 48 } ≡ byteClass b
+unfolding byteClass classOf digitOf inDigits
+digit b p q = simp le-leb
+
+-- the byte is none of those that the list names
+abbrev pub None : ℕ → List (ℕ × Class) → Type 0
+None b [] = Unit {0}
+None b (n ∷ ns) = (b ≡ n .0 → ⊥) × None b ns
+
+-- the same as the rest of a `match` has it
+abbrev pub Rest : Type 0 → ℕ → List (ℕ × Class) → Type 0
+Rest X b [] = X
+Rest X b (n ∷ ns) = Rest (X × (b ≡ n .0 → ⊥)) b ns
+
+of-rest : (X : Type 0) (b : ℕ) (ns : List (ℕ × Class)) → Rest X b ns → X × None b ns
+of-rest X b [] h = (h, tt)
+of-rest X b (n ∷ ns) h = let r = of-rest (X × (b ≡ n .0 → ⊥)) b ns h in (r .0 .0, (r .0 .1, r .1))
+
+none-named : (b : ℕ) (ns : List (ℕ × Class)) → None b ns → named b ns ≡ Foreign
+unfolding named
+none-named b [] h = refl
+none-named b (n ∷ ns) h = rw (ne-eqb b (n .0) (h .0)) (none-named b ns (h .1))
+
+no-digit : (b : ℕ) → (48 ≤ b → b ≤ 57 → ⊥) → inDigits b ≡ false
+unfolding inDigits
+no-digit b h = go (leb 48 b) (leb b 57) refl refl
+  where
+    go : (s t : Bool) → leb 48 b ≡ s → leb b 57 ≡ t → (s && t) ≡ false
+    go true true p q = absurd (h (leb-true _ _ p) (leb-true _ _ q))
+    go true false p q = refl
+    go false t p q = refl
+
+pub foreign : (b : ℕ) → (48 ≤ b → b ≤ 57 → ⊥) → Rest (Unit {0}) b classNames → plainByte Foreign ≡ byteClass b
+unfolding byteClass classOf digitOf
+foreign b d h = sym (rw (no-digit b d, none-named b classNames (of-rest (Unit {0}) b classNames h .1)))
+
+pub digit-low : (b : ℕ) → digitOf b ≤ 9
+unfolding digitOf inDigits
+digit-low b = go (leb 48 b) (leb b 57) refl
+  where
+    go : (s t : Bool) → leb b 57 ≡ t → cond (s && t) (b - 48) 0 ≤ 9
+    go true true q = omega (arith, leb-true b 57 q)
+    go true false q = omega arith
+    go false t q = omega arith

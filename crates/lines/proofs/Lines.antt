@@ -1,0 +1,102 @@
+-- Laws on the first line of a text, and on the line at a position.
+-- Assumes nothing.
+use Prim.Native.Nat.{ℕ, suc, _+_, _-_, _≤_, _<_}
+use mathlib.Core.Path.{_≡_, refl, ap, _∙_}
+use mathlib.Core.Bool.{Bool, true, false, cond}
+use mathlib.Core.List.{List, [], _∷_, _++_}
+use native.Mathlib.Numerals.{add-one}
+use native.Mathlib.Omega.{arith}
+use lib.ListN.{length, drop, take, length-drop}
+use lib.Dec.{ltb, leb·suc-suc}
+use borrow.Author.Tests.{lt-ltb, ltb-true, ltb-false}
+use Rattle.spec.specs.Text.{isA, Line, onFirst, linesOf}
+use Rattle.spec.specs.Line.{startAfter}
+use Rattle.spec.specs.declared.Class.the-variants.{LineEnd}
+use Rattle.classes.specs.Scan.{before}
+use Rattle.classes.proofs.Scans.{before-zero, before-suc, within, beyond, width}
+use Rattle.lines.specs.Lines.{endFrom, spanTo, LineAt}
+
+abbrev firstLine : List ℕ → ℕ → Line
+firstLine bs n = record { bytes = take n bs; ended = ltb n (length bs) }
+
+module _ (b : ℕ) (bs : List ℕ) where
+  line-ends : isA LineEnd b ≡ true → linesOf (b ∷ bs) ≡ firstLine (b ∷ bs) 0 ∷ linesOf bs
+  unfolding linesOf
+  line-ends e = rw (e, lt-ltb 0 (suc (length bs)) (omega arith))
+
+  line-grows : (n : ℕ) (ls : List Line) → linesOf bs ≡ firstLine bs n ∷ ls → isA LineEnd b ≡ false → linesOf (b ∷ bs) ≡ firstLine (b ∷ bs) (suc n) ∷ ls
+  unfolding linesOf onFirst
+  line-grows n ls r e = rw (e, r, leb·suc-suc (suc n) (length bs))
+
+-- a byte that is no line end, in front of an ended line
+grown : (b : ℕ) (bs line : List ℕ) (ls : List Line) → isA LineEnd b ≡ false → linesOf bs ≡ record { bytes = line; ended = true } ∷ ls → linesOf (b ∷ bs) ≡ record { bytes = b ∷ line; ended = true } ∷ ls
+unfolding linesOf onFirst
+grown b bs line ls e r = rw (e, r)
+
+shorter : (b : ℕ) (bs : List ℕ) → isA LineEnd b ≡ false → before LineEnd (b ∷ bs) < suc (length bs) → before LineEnd bs < length bs
+shorter b bs e h = omega (arith, before-suc LineEnd b bs e)
+
+line-last : (b : ℕ) → isA LineEnd b ≡ false → linesOf (b ∷ []) ≡ firstLine (b ∷ []) (suc (before LineEnd [])) ∷ linesOf []
+unfolding linesOf onFirst before
+line-last b e = rw e
+
+lines-first : (bs : List ℕ) → 0 < length bs → linesOf bs ≡ firstLine bs (before LineEnd bs) ∷ linesOf (drop (suc (before LineEnd bs)) bs)
+lines-first [] h = absurd (omega arith)
+lines-first (b ∷ bs) h = go bs (isA LineEnd b) refl (λ p. lines-first bs p)
+  where
+    go : (xs : List ℕ) (t : Bool) → isA LineEnd b ≡ t → (0 < length xs → linesOf xs ≡ firstLine xs (before LineEnd xs) ∷ linesOf (drop (suc (before LineEnd xs)) xs)) → linesOf (b ∷ xs) ≡ firstLine (b ∷ xs) (before LineEnd (b ∷ xs)) ∷ linesOf (drop (suc (before LineEnd (b ∷ xs))) (b ∷ xs))
+    go xs true e r = rw (before-zero LineEnd b xs e) (line-ends b xs e)
+    go [] false e r = rw (before-suc LineEnd b [] e) (line-last b e)
+    go (x ∷ xs) false e r = rw (before-suc LineEnd b (x ∷ xs) e) (line-grows b (x ∷ xs) (before LineEnd (x ∷ xs)) _ (r (omega arith)) e)
+
+pub line-here : (s : List ℕ) (at e : ℕ) → at < length s → e ≡ at + before LineEnd (drop at s) → linesOf (drop at s) ≡ record { bytes = take (e - at) (drop at s); ended = ltb e (length s) } ∷ linesOf (drop (e + 1) s)
+line-here s at e h q =
+    let n = before LineEnd (drop at s) in
+    lines-first (drop at s) (omega (arith, length-drop at s))
+    ∙ rw (add-one e, q, within s at n (omega arith), beyond s at n (omega arith), ← width s at n (omega arith))
+
+-- an ended line, whatever stands behind it
+closed-first : (bs rest : List ℕ) → before LineEnd bs < length bs → linesOf (take (suc (before LineEnd bs)) bs ++ rest) ≡ record { bytes = take (before LineEnd bs) bs; ended = true } ∷ linesOf rest
+closed-first [] rest h = absurd (omega arith)
+closed-first (b ∷ bs) rest h = go (isA LineEnd b) refl (λ k. closed-first bs rest k)
+  where
+    go : (t : Bool) → isA LineEnd b ≡ t → (before LineEnd bs < length bs → linesOf (take (suc (before LineEnd bs)) bs ++ rest) ≡ record { bytes = take (before LineEnd bs) bs; ended = true } ∷ linesOf rest)
+        → linesOf (take (suc (before LineEnd (b ∷ bs))) (b ∷ bs) ++ rest) ≡ record { bytes = take (before LineEnd (b ∷ bs)) (b ∷ bs); ended = true } ∷ linesOf rest
+    go true e r = rw (before-zero LineEnd b bs e) (unfold linesOf in (rw e))
+    go false e r = rw (before-suc LineEnd b bs e) (grown b (take (suc (before LineEnd bs)) bs ++ rest) (take (before LineEnd bs) bs) (linesOf rest) e (r (shorter b bs e h)))
+
+pub line-closes : (s : List ℕ) (at e : ℕ) (rest : List ℕ) → at < length s → e ≡ at + before LineEnd (drop at s) → ltb e (length s) ≡ true
+    → linesOf (take (e + 1 - at) (drop at s) ++ rest) ≡ record { bytes = take (e - at) (drop at s); ended = ltb e (length s) } ∷ linesOf rest
+line-closes s at e rest h q l =
+    let n = before LineEnd (drop at s) in
+    let a : e + 1 - at ≡ suc n = omega arith in
+    let b : e - at ≡ n = omega arith in
+    rw (a, b, l) (closed-first (drop at s) rest (omega (arith, ltb-true e (length s) l, length-drop at s)))
+
+-- the next line starts behind the first line end
+start-one : (bs : List ℕ) → before LineEnd bs < length bs → startAfter 1 bs ≡ suc (before LineEnd bs)
+unfolding before startAfter
+start-one [] h = absurd (omega arith)
+start-one (b ∷ bs) h = go (isA LineEnd b) (λ k. start-one bs k) h
+  where
+    go : (t : Bool) → (before LineEnd bs < length bs → startAfter 1 bs ≡ suc (before LineEnd bs)) → cond t 0 (suc (before LineEnd bs)) < suc (length bs)
+        → suc (cond t 0 (startAfter 1 bs)) ≡ suc (cond t 0 (suc (before LineEnd bs)))
+    go true r k = refl
+    go false r k = ap suc (r (omega arith))
+
+pub line-skips : (s : List ℕ) (at e : ℕ) → at < length s → e ≡ at + before LineEnd (drop at s) → ltb e (length s) ≡ true → e + 1 ≡ at + startAfter 1 (drop at s)
+line-skips s at e h q l = omega (arith, start-one (drop at s) (omega (arith, ltb-true e (length s) l, length-drop at s)))
+
+-- the line whose end was found
+pub line-found : (s : List ℕ) (at e : ℕ) → at < length s → e ≡ endFrom s at → e ≤ length s → LineAt s at (spanTo s e (e + 1))
+line-found s at e h q m = record {
+  start = omega arith;
+  end = m;
+  on = omega arith;
+  next = omega arith;
+  lines = line-here s at e h q;
+  last = λ l. omega (arith, ltb-false e (length s) l);
+  within = λ l. omega (arith, ltb-true e (length s) l);
+  closes = λ l rest. line-closes s at e rest h q l;
+  skips = λ l. line-skips s at e h q l;
+}

@@ -1,8 +1,0 @@
-use native.Mathlib.Omega.{arith}
-use Rattle.text.proofs.find_end.Statement.{statement}
-use Rattle.text.proofs.find_end.Tie as tie
-
-pub find-end-spec : {M : Type 1} → statement M
-find-end-spec = tie.close (tie.spec
-    (λ c κs. omega arith)
-    (λ c. c .end-of .ensures))

@@ -1,7 +1,0 @@
-use mathlib.Core.Path.{refl}
-use Rattle.text.proofs.span_of.Statement.{statement}
-use Rattle.text.proofs.span_of.Tie as tie
-
-pub span-of-spec : {M : Type 1} → statement M
-span-of-spec = tie.close (tie.spec
-    (λ c. refl))
