@@ -9,7 +9,7 @@ use borrow.Author.Tests.{le-leb, leb-true, ne-eqb}
 use Rattle.spec.specs.declared.Class.{Class}
 use Rattle.spec.specs.declared.Class.the-variants.{Digit, Foreign}
 use Rattle.spec.specs.declared.ByteClass.{ByteClass}
-use Rattle.spec.specs.Text.{named, classNames, inDigits, classOf, digitOf, byteClass}
+use Rattle.spec.specs.Text.{named, classNames, inDigits, classOf, digitOf, byteClass, alike, isA}
 use Rattle.classes.specs.Scan.{plainByte}
 
 pub not-below : {a b : ℕ} → a < b → b ≤ a → ⊥
@@ -59,3 +59,17 @@ digit-low b = go (leb 48 b) (leb b 57) refl
     go true true q = omega (arith, leb-true b 57 q)
     go true false q = omega arith
     go false t q = omega arith
+
+-- ---- what the class and the digit of a byte tell, once it has been looked at
+
+module _ {r : ByteClass} (b : ℕ) (e : r ≡ byteClass b) where
+  pub told-class : (k : Class) → alike (r .class) k ≡ isA k b
+  unfolding byteClass isA
+  told-class k = rw e
+
+  pub told-digit : r .digit ≡ digitOf b
+  unfolding byteClass
+  told-digit = ap (λ z. z .digit) e
+
+  pub told-low : r .digit ≤ 9
+  told-low = omega (arith, told-digit, digit-low b)

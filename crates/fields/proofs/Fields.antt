@@ -21,7 +21,7 @@ use Rattle.lists.specs.Along.{rest-at}
 use Rattle.classes.proofs.Scans.{before-zero, before-suc, within, beyond, width}
 use Rattle.fields.specs.declared.LetterAt.{LetterAt}
 use Rattle.fields.specs.declared.FieldAt.{FieldAt}
-use Rattle.fields.specs.Fields.{fieldsFrom, ReadsLetter, MayReadField, numbersFrom}
+use Rattle.fields.specs.Fields.{fieldsFrom, pieceAt, ReadsLetter, MayReadField, numbersFrom}
 
 -- ---- the first piece
 
@@ -113,30 +113,3 @@ pub row-made : (most : ℕ) (l : List ℕ) (k : LetterAt) (a b c d : FieldAt) �
 unfolding rowOf
 row-made most l k a b c d hk ha hb hc hd =
     rw (hk .letter, ha .field, hb .field, hc .field, hd .field, hc .rest, hb .rest, ha .rest, hk .fields most) (simp nth-drop)
-
--- ---- the value of digits
-
-module _ (s : List ℕ) (v i : ℕ) where
-  pub value-on : (d : ℕ) → i < length s → d ≡ digitOf (getD s i 0) → valueFrom (v * 10 + d) (drop (i + 1) s) ≡ valueFrom v (drop i s)
-  unfolding valueFrom
-  value-on d h e = rw (rest-at s i h, e)
-
-  pub value-end : length s ≤ i → v ≡ valueFrom v (drop i s)
-  unfolding valueFrom
-  value-end h = rw (drop-of-length-le s h)
-
--- ten to the next power
-pub grows : (v d n : ℕ) → v < 10 ^ n → d ≤ 9 → v * 10 + d < 10 ^ (n + 1)
-grows v d n h g = rw (add-one n, pow-suc 10 n) (omega arith)
-
-pub small : (v n : ℕ) → v < 10 ^ n → n ≤ 17 → v < 100000000000000000
-small v n h g = lt-of-lt-of-le h (pow-le-pow-right (lit< tt) g)
-
-pub number-short : (most : ℕ) (p : List ℕ) → isNumber most p ≡ true → length p ≤ most
-unfolding isNumber
-number-short most p e = go (leb 1 (length p)) (leb (length p) most) refl e
-  where
-    go : (s t : Bool) → leb (length p) most ≡ t → (s && t && not (needlessZero p) && every (isA Digit) p) ≡ true → length p ≤ most
-    go true true q r = leb-true _ _ q
-    go true false q r = absurd (false≢true r)
-    go false t q r = absurd (false≢true r)

@@ -1,11 +1,11 @@
 // The fields of a line: its letter, and the numbers and dashes behind it.
 ghost use mathlib.Core.Path.{_≡_};
 ghost use Prim.Native.Nat.{_+_, _≤_};
-ghost use lib.ListN.{length, getD};
+ghost use lib.ListN.{length};
 ghost use Rattle.spec.specs.Lists.{every};
-ghost use Rattle.spec.specs.Text.{isA, needlessZero, isNumber, valueFrom, isDash, fieldOf, letterOf, rowOf};
+ghost use Rattle.spec.specs.Text.{isA, needlessZero, valueFrom, isDash, fieldOf, letterOf, rowOf};
 ghost use Rattle.spec.specs.Forms.{aNumber, isList};
-ghost use Rattle.fields.specs.Fields.{fieldsFrom, ReadsField, MayReadField, ReadsLetter, ReadsNumber};
+ghost use Rattle.fields.specs.Fields.{fieldsFrom, ReadsPiece, ReadsField, MayReadField, ReadsLetter, ReadsNumber};
 use classes::alike;
 use classes::class_of;
 use classes::digit_value;
@@ -17,67 +17,34 @@ use spec::Class;
 use spec::Field;
 use spec::Row;
 
-// The byte at a position, and 0 past the end.
-fn byte_at(p: &[u8], i: usize) -> u8
-    ensures { λ r. ⌜ r ≡ getD (now (p .entry)) i 0 ⌝ }
-{
-    if i < p.len() { p[i] } else { 0 }
-}
-
-// Whether every byte is a digit.
-fn all_digits(p: &[u8]) -> bool
-    ensures { λ r. ⌜ r ≡ every (isA Class.Digit) (now (p .entry)) ⌝ }
-{
-    let mut i: usize = 0;
-    while i < p.len() {
-        if !is_a(Class::Digit, p[i]) {
-            return false;
-        }
-        i += 1;
-    }
-    true
-}
-
+// Whether a piece of two bytes or more starts with the digit 0.
 fn needless_zero(p: &[u8]) -> bool
     ensures { λ r. ⌜ r ≡ needlessZero (now (p .entry)) ⌝ }
 {
-    (1 < p.len()) & (digit_value(byte_at(p, 0)) == 0)
-}
-
-// Whether a piece is a number of at most so many digits.
-fn is_number(most: usize, p: &[u8]) -> bool
-    ensures { λ r. ⌜ r ≡ isNumber most (now (p .entry)) ⌝ }
-{
-    (1 <= p.len()) & (p.len() <= most) & !needless_zero(p) & all_digits(p)
-}
-
-// The value of a piece's digits.
-fn value_of(p: &[u8]) -> usize
-    requires { ⌜ length (now p) ≤ 18 ⌝ }
-    ensures { λ r. ⌜ r ≡ valueFrom 0 (now (p .entry)) ⌝ }
-{
-    let mut v: usize = 0;
-    let mut i: usize = 0;
-    while i < p.len() {
-        v = v * 10 + digit_value(p[i]);
-        i += 1;
+    if p.len() < 2 {
+        return false;
     }
-    v
+    digit_value(p[0]) == 0
 }
 
+// Whether a piece is a dash alone.
 fn is_dash(p: &[u8]) -> bool
     ensures { λ r. ⌜ r ≡ isDash (now (p .entry)) ⌝ }
 {
-    (p.len() == 1) & is_a(Class::Dash, byte_at(p, 0))
+    if p.len() == 1 {
+        is_a(Class::Dash, p[0])
+    } else {
+        false
+    }
 }
 
-// What a piece is as a field.
-fn field_of(most: usize, p: &[u8]) -> Field
-    requires { ⌜ most ≤ 18 ⌝ }
+// What a piece is as a field, once it is known whether its bytes are digits, and their value if they are not too many.
+fn field_of(most: usize, p: &[u8], digits: bool, value: usize) -> Field
+    requires { ⌜ (digits ≡ every (isA Class.Digit) (now p)) × (length (now p) ≤ most → value ≡ valueFrom 0 (now p)) ⌝ }
     ensures { λ r. ⌜ r ≡ fieldOf most (now (p .entry)) ⌝ }
 {
-    if is_number(most, p) {
-        return Field::Number(value_of(p));
+    if (1 <= p.len()) & (p.len() <= most) & !needless_zero(p) & digits {
+        return Field::Number(value);
     }
     if is_dash(p) {
         return Field::Dash;
@@ -97,6 +64,40 @@ fn letter_of(p: &[u8]) -> Class
     }
 }
 
+// A piece up to its comma or the end of the line: whether its bytes are digits, and their value if they are not too many.
+pub struct Piece {
+    pub end: usize,
+    pub digits: bool,
+    pub value: usize,
+}
+
+// The piece that starts at a position of a line. One walk finds all of it, so that each byte is classed once.
+fn piece_at(most: usize, l: &[u8], at: usize) -> Piece
+    requires { ⌜ (most ≤ 18) × (at ≤ length (now l)) ⌝ }
+    ensures { λ r. ⌜ ReadsPiece most (now (l .entry)) at r ⌝ }
+{
+    let mut i = at;
+    let mut digits = true;
+    let mut value: usize = 0;
+    while i < l.len() {
+        let c = class_of(l[i]);
+        let class = c.class;
+        if alike(class, Class::Comma) {
+            break;
+        }
+        digits = digits & alike(class, Class::Digit);
+        if i - at < most {
+            value = value * 10 + c.digit as usize;
+        }
+        i += 1;
+    }
+    Piece {
+        end: i,
+        digits,
+        value,
+    }
+}
+
 pub struct FieldAt {
     pub field: Field,
     pub next: usize,
@@ -107,8 +108,9 @@ fn field_at(most: usize, l: &[u8], at: usize) -> FieldAt
     requires { ⌜ (most ≤ 18) × (at ≤ length (now l)) ⌝ }
     ensures { λ r. ⌜ ReadsField most (now (l .entry)) at r ⌝ }
 {
-    let end = end_of(Class::Comma, l, at);
-    let field = field_of(most, &l[at..end]);
+    let piece = piece_at(most, l, at);
+    let end = piece.end;
+    let field = field_of(most, &l[at..end], piece.digits, piece.value);
     FieldAt {
         field,
         next: end + 1,
