@@ -10,7 +10,7 @@ use borrow.Author.Tests.{le-leb, leb-true, eqb-true}
 use Rattle.spec.specs.Lists.{every}
 use Rattle.spec.specs.Text.{classNames, named, inDigits, classOf, digitOf, classCode, alike, isA, digit}
 use Rattle.spec.specs.declared.Class.{Class}
-use Rattle.spec.specs.declared.Class.the-variants.{Digit, Comma, Dash as DashByte, LineEnd, LetterS, LetterE, LetterC, LetterB, LetterA, LetterG, Foreign}
+use Rattle.spec.specs.declared.Class.the-variants.{Digit, Comma, Dash as DashByte, LineEnd, LetterP, LetterT, LetterI, LetterO, LetterH, LetterS, LetterE, LetterC, LetterB, LetterA, LetterG, Foreign}
 use Rattle.lists.specs.Laws.{clash, and-true, and-three, true-and, not-is-true}
 
 -- a test that Foreign passes at every byte, and each name of a list, the named class passes
@@ -117,6 +117,26 @@ letter : (c : Char) → alone (code c) && not (isA Comma (code c)) && not (isA L
 letter c h =
     let z = and-three (alone (code c)) (not (isA Comma (code c))) (not (isA LineEnd (code c))) h in
     record { class = refl; only = one-byte (code c) (z .0); notForeign = alone-parts (code c) (z .0) .1; noComma = not-is-true _ (z .1); noEnd = not-is-true _ (z .2) }
+
+pub P-letter : Letter "P" LetterP
+unfolding alone every isA alike classOf inDigits named
+P-letter = letter "P" refl
+
+pub T-letter : Letter "T" LetterT
+unfolding alone every isA alike classOf inDigits named
+T-letter = letter "T" refl
+
+pub I-letter : Letter "I" LetterI
+unfolding alone every isA alike classOf inDigits named
+I-letter = letter "I" refl
+
+pub O-letter : Letter "O" LetterO
+unfolding alone every isA alike classOf inDigits named
+O-letter = letter "O" refl
+
+pub H-letter : Letter "H" LetterH
+unfolding alone every isA alike classOf inDigits named
+H-letter = letter "H" refl
 
 pub S-letter : Letter "S" LetterS
 unfolding alone every isA alike classOf inDigits named

@@ -1,4 +1,4 @@
--- The second demand's exactness: what building, the check and replay accept is what document 01 says, and nothing else.
+-- Exactness: what the net reader, building, the check and replay accept is what document 01 says, and nothing else.
 use mathlib.Core.Path.{_≡_, sym, ap, _∙_}
 use mathlib.Core.Logic.{_↔_}
 use Prim.Native.Nat.{ℕ, _≤_}
@@ -18,7 +18,9 @@ use Rattle.spec.specs.Runs.{WithinLimits}
 use Rattle.spec.specs.Demand.{Builds, IsProcess, IsArrangement, Exactness}
 use Rattle.runs.specs.Log.{record-events}
 use Rattle.runs.specs.Answers.{of-gives, of-bind}
+use Rattle.runs.specs.NetText.{net-text}
 use Rattle.runs.specs.NetLimits.{NetLimits, net-limits}
+use Rattle.runs.specs.ReadNet.{net-read}
 use Rattle.runs.specs.ReadRecord.{Fits, Printed}
 use Rattle.runs.specs.Accepted.{accepted-record, record-accepted}
 use Rattle.runs.specs.Growth.{start-fits}
@@ -90,6 +92,7 @@ module _ (net : List ℕ) (N : Net) (accepted : readNet net ≡ gives N) where
 
 pub exactness : Exactness
 exactness = record {
+  reads = λ text N. (net-text text N, net-read text N);
   builds = λ net N h log bytes room l. (was-built net N h log bytes room l, is-built net N h log bytes room l);
   checks = λ net N h text R. (was-process net N h text R, is-process net N h text R);
   replays = λ net N h. replaying net N h;

@@ -19,7 +19,9 @@ pub mod LineForms
 pub mod Answers
 pub mod Texts
 pub mod Readers
+pub mod NetText
 pub mod NetLimits
+pub mod ReadNet
 pub mod ReadRecord
 pub mod RecordText
 pub mod Accepted

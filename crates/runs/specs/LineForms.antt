@@ -13,7 +13,7 @@ use lib.Dec.{leb}
 use borrow.Author.Tests.{leb-true, le-leb, eq-eqb}
 use Rattle.spec.specs.Lists.{In, from, upTo, every}
 use Rattle.spec.specs.Text.{alike, classCode, mostDigits, pieces, isNumber, isDash, valueFrom, fieldOf, letterIn, fieldsOf, rowOf}
-use Rattle.spec.specs.Forms.{aNumber, aNumberOrDash, absent, valueOf, isOne, isTwo, isThree, isList, numbersOf}
+use Rattle.spec.specs.Forms.{aNumber, aNumberOrDash, absent, valueOf, isAlone, isOne, isTwo, isThree, isList, numbersOf}
 use Rattle.spec.specs.Record.{eventField}
 use Rattle.spec.specs.Check.{eventOf}
 use Rattle.spec.specs.declared.Class.{Class}
@@ -85,7 +85,15 @@ field-count l n h e = elim (decLe (length (fieldsOf mostDigits l)) n) [
 fields-are : (l : List ℕ) (n : ℕ) → aNumberOrDash (fieldAt l n) ≡ true → absent (fieldAt l (suc n)) ≡ true → fieldsOf mostDigits l ≡ map (fieldAt l) (upTo (suc n))
 fields-are l n h e = tabled Absent (fieldsOf mostDigits l) ∙ ap (λ (m : ℕ). map (fieldAt l) (upTo m)) (field-count l n (present (fieldAt l n) h) e)
 
--- ---- a letter and one, two or three fields
+-- where the first field is beyond them, there is none
+no-fields : (l : List ℕ) → absent (fieldAt l 0) ≡ true → fieldsOf mostDigits l ≡ []
+no-fields l e = go (fieldsOf mostDigits l) refl e
+  where
+    go : (fs : List Field) → fieldsOf mostDigits l ≡ fs → absent (getD fs 0 Absent) ≡ true → fs ≡ []
+    go [] q e = refl
+    go (f ∷ fs) q e = clash e (read-present l f (rw q here))
+
+-- ---- a letter and no, one, two or three fields
 
 module _ {c : Char} {k : Class} (L : Letter c k) where
   pub row-back : (fs : List Field) → AllWritable fs
@@ -95,6 +103,10 @@ module _ {c : Char} {k : Class} (L : Letter c k) where
 
   form-is : (l : List ℕ) (fs : List Field) → alike (letterIn l) k ≡ true → fieldsOf mostDigits l ≡ fs → every aNumberOrDash fs ≡ true → l ≡ body c fs
   form-is l fs h e a = body-is L l h (rw e a) ∙ ap (body c) e
+
+  pub alone-is : (l : List ℕ) → isAlone k (rowOf mostDigits l) ≡ true → l ≡ body c []
+  unfolding isAlone rowOf every
+  alone-is l h = let z = and-true (alike (letterIn l) k) (absent (fieldAt l 0)) h in form-is l [] (z .0) (no-fields l (z .1)) refl
 
   pub one-is : (l : List ℕ) → isOne k (rowOf mostDigits l) ≡ true → l ≡ body c (Number (valueOf (rowOf mostDigits l .first)) ∷ [])
   unfolding isOne rowOf every upTo from

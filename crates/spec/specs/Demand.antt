@@ -1,13 +1,14 @@
--- The statements that are owed: the third demand as one record, and beside it the second demand's two exactness claims and
--- that what is computed is what the papers say. They are types here; the crate `runs` has a proof of each.
+-- The statements that are owed: the third demand as one record, and beside it what exactly is accepted, of the first and the
+-- second, and that what is computed is what the papers say. They are types here; the crate `runs` has a proof of each.
 use mathlib.Core.Path.{_≡_}
 use mathlib.Core.Logic.{_≢_, _↔_, _⊎_}
 use Prim.Native.Nat.{ℕ, _+_, _*_, _≤_, _<_}
 use mathlib.Core.Bool.{Bool, true, false}
-use mathlib.Core.List.{List, [], _∷_}
+use mathlib.Core.List.{List, [], _∷_, _++_}
 use lib.ListN.{length, getD}
 use Rattle.spec.specs.Answer.{Answer, gives, refuses}
 use Rattle.spec.specs.Net.{Net, places, readNet}
+use Rattle.spec.specs.NetText.{Declaration, netBytes, declared, Allowed, Complete}
 use Rattle.spec.specs.Step.{tokensAt, EnabledAt, short, inhibited}
 use Rattle.spec.specs.Record.{RunRecord, bench, recordBytes}
 use Rattle.spec.specs.Order.{StrictlyBefore, NotLater, strictlyBefore, notLater}
@@ -79,7 +80,15 @@ pub record Demand : Type 0 where
   pub order-of-runs : (net : List ℕ) (N : Net) → readNet net ≡ gives N → (text : List ℕ) (R : RunRecord) → readRecord bench N text ≡ gives R → OrderOfRuns net text N R
   pub runs-recorded : (net : List ℕ) (N : Net) → readNet net ≡ gives N → (steps : List (List ℕ)) → EnabledSequence N steps → WithinLimits N steps → RunIsRecorded net N steps
 
--- ---- the second demand
+-- ---- the second demand, and of the first: "Input that meets no refusal named in the papers is accepted, by each operation."
+
+-- the text is that of declarations, each allowed below those above it, and N is the net that they declare
+pub record IsNet (text : List ℕ) (N : Net) : Type 0 where
+  pub lines : List Declaration
+  pub written : text ≡ netBytes lines
+  pub sound : (above below : List Declaration) (d : Declaration) → lines ≡ above ++ d ∷ below → Allowed (declared above) d
+  pub complete : Complete N
+  pub named : N ≡ declared lines
 
 -- "a well-formed log of known transitions becomes a record exactly when each step is enabled in its turn and the limits
 -- hold, and the record is the one document 01 names."
@@ -106,6 +115,7 @@ pub record IsArrangement (R : RunRecord) (text : List ℕ) (lines : List (List �
   pub keeps : KeepsOrder R lines
 
 pub record Exactness : Type 0 where
+  pub reads : (text : List ℕ) (N : Net) → (readNet text ≡ gives N) ↔ IsNet text N
   pub builds : (net : List ℕ) (N : Net) → readNet net ≡ gives N → (log bytes : List ℕ) (room : ℕ) → 48256 ≤ room → (build net log room ≡ gives bytes) ↔ Builds N log bytes
   pub checks : (net : List ℕ) (N : Net) → readNet net ≡ gives N → (text : List ℕ) (R : RunRecord) → (readRecord bench N text ≡ gives R) ↔ IsProcess N text R
   pub replays : (net : List ℕ) (N : Net) → readNet net ≡ gives N → (text : List ℕ) (R : RunRecord) → readRecord bench N text ≡ gives R

@@ -3,6 +3,7 @@ pub mod Answer
 pub mod Text
 pub mod Forms
 pub mod Net
+pub mod NetText
 pub mod Step
 pub mod Record
 pub mod Order

@@ -1,0 +1,151 @@
+-- A net text that is read is the text of declarations, each allowed below those above it, and the net is the one that they
+-- declare.
+use mathlib.Core.Path.{_≡_, refl, sym, ap, ap₂, _∙_, subst}
+use mathlib.Core.Logic.{_⊎_, inl, inr, _↔_}
+use Prim.Native.Nat.{ℕ, _+_, _<_}
+use native.Mathlib.Omega.{arith}
+use mathlib.Core.Bool.{true, not}
+use mathlib.Core.Option.{none}
+use mathlib.Core.List.{List, [], _∷_, _++_, head-eq-of-cons-eq, tail-eq-of-cons-eq}
+use lib.ListN.{length, length-append}
+use lib.Dec.{ltb, leb}
+use borrow.Author.Tests.{ltb-true, ltb-false, leb-false}
+use Rattle.spec.specs.Lists.{any, upTo, sum, lowest, asCount, flat}
+use Rattle.spec.specs.Answer.{gives}
+use Rattle.spec.specs.Text.{Line, linesOf, byLines, rowOf, mostDigits}
+use Rattle.spec.specs.Forms.{isAlone, isOne, isTwo, valueOf}
+use Rattle.spec.specs.Net.{Net, places, joined, takes, makes, addPlace, addTransition, addArc, addRow, addLine, emptyNet, lacking, whole, netOf, readNet}
+use Rattle.spec.specs.NetText.{Declaration, place, transition, arc, declarationLine, netBytes, declare, declareAll, declared, Allowed, Complete}
+use Rattle.spec.specs.Demand.{IsNet}
+use Rattle.spec.specs.declared.ArcKind.{ArcKind}
+use Rattle.spec.specs.declared.ArcKind.the-variants.{Input, Output, Inhibitor}
+use Rattle.spec.specs.declared.Class.the-variants.{LetterP, LetterT, LetterI, LetterO, LetterH}
+use Rattle.lists.specs.Laws.{and-true, or-false, false-or, not-is-false, count-pos, any-in, any-found, in-upTo, upTo-in, lowest-none, none-lowest, flat-map-snoc}
+use Rattle.runs.specs.Bytes.{P-letter, T-letter, I-letter, O-letter, H-letter}
+use Rattle.runs.specs.LineForms.{alone-is, one-is, two-is}
+use Rattle.runs.specs.Answers.{of-gives, not-refused, of-bind, of-when, of-lowest, of-cond}
+use Rattle.runs.specs.Texts.{lineBytes, ended-line}
+use Rattle.runs.specs.Readers.{text-keeps}
+
+-- ---- one declaration more
+
+pub declare-snoc : (n : Net) (ds : List Declaration) (d : Declaration) → declareAll n (ds ++ d ∷ []) ≡ declare (declareAll n ds) d
+unfolding declareAll
+declare-snoc n [] d = refl
+declare-snoc n (e ∷ ds) d = declare-snoc (declare n e) ds d
+
+-- each declaration is allowed below the net and those above it
+abbrev pub Sound : Net → List Declaration → Type 0
+Sound n ds = (above below : List Declaration) (d : Declaration) → ds ≡ above ++ d ∷ below → Allowed (declareAll n above) d
+
+-- what stands in a list with x at its end is that x, or stands in the list
+snoc-cases : {A : Type 0} (xs : List A) (x : A) (above : List A) (y : A) (below : List A) → xs ++ x ∷ [] ≡ above ++ y ∷ below
+    → ((above ≡ xs) × (y ≡ x)) ⊎ ((rest : List A) × (xs ≡ above ++ y ∷ rest))
+snoc-cases [] x [] y below h = inl (refl, sym (head-eq-of-cons-eq h))
+snoc-cases [] x (z ∷ above) y below h = absurd (omega (arith, ap length h, length-append above (y ∷ below)))
+snoc-cases (z ∷ xs) x [] y below h = inr (xs, ap (λ w. w ∷ xs) (head-eq-of-cons-eq h))
+snoc-cases (z ∷ xs) x (w ∷ above) y below h = elim (snoc-cases xs x above y below (tail-eq-of-cons-eq h)) [
+  | inl e ↦ inl (ap₂ (λ u us. u ∷ us) (sym (head-eq-of-cons-eq h)) (e .0), e .1)
+  | inr e ↦ inr (e .0, ap₂ (λ u us. u ∷ us) (head-eq-of-cons-eq h) (e .1))
+]
+
+sound-snoc : (n : Net) (ds : List Declaration) (d : Declaration) → Sound n ds → Allowed (declareAll n ds) d → Sound n (ds ++ d ∷ [])
+sound-snoc n ds d S a above below e h = elim (snoc-cases ds d above e below h) [
+  | inl q ↦ rw (q .0, q .1) a
+  | inr q ↦ S above (q .0) e (q .1)
+]
+
+-- ---- a line
+
+-- the bytes are those of one declaration, which is allowed below net n and makes it net m
+record Declares (bytes : List ℕ) (n m : Net) : Type 0 where
+  what : Declaration
+  written : bytes ≡ declarationLine what
+  allowed : Allowed n what
+  next : declare n what ≡ m
+
+declares : {bytes : List ℕ} {n m : Net} (d : Declaration) → bytes ≡ declarationLine d → Allowed n d × (declare n d ≡ m) → Declares bytes n m
+declares d e z = record { what = d; written = e; allowed = z .0; next = z .1 }
+
+module _ (k : ℕ) (n m : Net) where
+  place-added : (v : ℕ) → addPlace k v n ≡ gives m → Allowed n (place v) × (declare n (place v) ≡ m)
+  unfolding addPlace declare
+  place-added v h =
+      let z = of-when 12 k _ _ h in
+      let y = or-false (leb 32 (places n)) (ltb 512 (sum (n .tokens) + v)) (z .0) in
+      ((leb-false 32 (places n) (y .0), ltb-false 512 (sum (n .tokens) + v) (y .1)), of-gives (z .1))
+
+  transition-added : addTransition k n ≡ gives m → Allowed n transition × (declare n transition ≡ m)
+  unfolding addTransition declare
+  transition-added h = let z = of-when 12 k _ _ h in (leb-false 32 (n .transitions) (z .0), of-gives (z .1))
+
+  arc-added : (x : ArcKind) (p t : ℕ) → addArc x k p t n ≡ gives m → Allowed n (arc x p t) × (declare n (arc x p t) ≡ m)
+  unfolding addArc declare
+  arc-added x p t h =
+      let z = of-when 13 k _ _ h in
+      let y = of-when 14 k _ _ (z .1) in
+      let b = and-true (ltb p (places n)) (ltb t (n .transitions)) (not-is-false _ (z .0)) in
+      ((ltb-true p (places n) (b .0), ltb-true t (n .transitions) (b .1), y .0), of-gives (y .1))
+
+  line-added : (l : Line) → addLine k l n ≡ gives m → Declares (lineBytes l) n m
+  unfolding addLine addRow declarationLine
+  line-added l h =
+      let w = rowOf mostDigits (l .bytes) in
+      let a = of-when 11 k (not (l .ended)) (addRow k w n) h in
+      let ends = not-is-false (l .ended) (a .0) in
+      let u = valueOf (w .first) in
+      let v = valueOf (w .second) in
+      of-cond (isOne LetterP w) _ _ (a .1) (λ t q. declares (place u) (ended-line "P" _ l ends (one-is P-letter (l .bytes) t)) (place-added u q)) λ h.
+      of-cond (isAlone LetterT w) _ _ h (λ t q. declares transition (ended-line "T" _ l ends (alone-is T-letter (l .bytes) t)) (transition-added q)) λ h.
+      of-cond (isTwo LetterI w) _ _ h (λ t q. declares (arc Input u v) (ended-line "I" _ l ends (two-is I-letter (l .bytes) t)) (arc-added Input u v q)) λ h.
+      of-cond (isTwo LetterO w) _ _ h (λ t q. declares (arc Output v u) (ended-line "O" _ l ends (two-is O-letter (l .bytes) t)) (arc-added Output v u q)) λ h.
+      of-cond (isTwo LetterH w) _ _ h (λ t q. declares (arc Inhibitor u v) (ended-line "H" _ l ends (two-is H-letter (l .bytes) t)) (arc-added Inhibitor u v q)) not-refused
+
+-- ---- a text
+
+-- the bytes are those of sound declarations, and they declare the net
+record Declared (n : Net) (done : List ℕ) : Type 0 where
+  lines : List Declaration
+  written : done ≡ netBytes lines
+  sound : Sound emptyNet lines
+  named : n ≡ declared lines
+
+nothing : Declared emptyNet []
+unfolding netBytes flat declareAll
+nothing = record { lines = []; written = refl; sound = λ above below d h. absurd (omega (arith, ap length h, length-append above (d ∷ below))); named = refl }
+
+line-declared : (k : ℕ) (l : Line) (n m : Net) (done : List ℕ) → addLine k l n ≡ gives m → Declared n done → Declared m (done ++ lineBytes l)
+unfolding netBytes
+line-declared k l n m done h D =
+    let z = line-added k n m l h in record {
+      lines = D .lines ++ z .what ∷ [];
+      written = ap₂ _++_ (D .written) (z .written) ∙ sym (flat-map-snoc declarationLine (D .lines) (z .what));
+      sound = sound-snoc emptyNet (D .lines) (z .what) (D .sound) (subst (λ (n : Net). Allowed n (z .what)) (D .named) (z .allowed));
+      named = sym (z .next) ∙ ap (λ (n : Net). declare n (z .what)) (D .named) ∙ sym (declare-snoc emptyNet (D .lines) (z .what));
+    }
+
+-- ---- the rule that is judged after all lines
+
+-- a transition has an arc of a kind with some place
+has-arc : (n : Net) (x : ArcKind) (t : ℕ) → (any (λ p. ltb 0 (asCount (joined n x p t))) (upTo (places n)) ≡ true) ↔ ((p : ℕ) × (p < places n) × (joined n x p t ≡ true))
+has-arc n x t = (
+  λ h. let z = any-found _ (upTo (places n)) h in (z .0, in-upTo (places n) (z .1), sym (count-pos _) ∙ z .2),
+  λ z. any-in _ (z .0) (upTo (places n)) (upTo-in (places n) (z .1)) (count-pos _ ∙ z .2),
+)
+
+pub complete-is : (n : Net) → (lowest (lacking n) (n .transitions) ≡ none) ↔ Complete n
+unfolding lacking takes makes
+complete-is n = (
+  λ h.
+      let z : (t : ℕ) → t < n .transitions → _ = λ t l. or-false _ _ (lowest-none (lacking n) (n .transitions) h t l) in
+      record { input = λ t l. has-arc n Input t .0 (not-is-false _ (z t l .0)); output = λ t l. has-arc n Output t .0 (not-is-false _ (z t l .1)) },
+  λ C. none-lowest (lacking n) (n .transitions) (λ t l. false-or (ap not (has-arc n Input t .1 (C .input t l))) (ap not (has-arc n Output t .1 (C .output t l)))),
+)
+
+pub net-text : (text : List ℕ) (N : Net) → readNet text ≡ gives N → IsNet text N
+unfolding readNet netOf whole
+net-text text N h =
+    let z = of-bind (byLines addLine 1 (linesOf text) emptyNet) _ h in
+    let y = of-lowest 15 (lowest (lacking (z .0)) (z .0 .transitions)) (gives (z .0)) (z .2) in
+    let D = text-keeps addLine (λ k n done. Declared n done) line-declared 1 text emptyNet (z .0) (z .1) nothing .1 in
+    subst (IsNet text) (of-gives (y .1)) (record { lines = D .lines; written = D .written; sound = D .sound; complete = complete-is (z .0) .0 (y .0); named = D .named })

@@ -1,0 +1,67 @@
+-- The text of declarations, each allowed below those above it, is read, and gives the net that they declare.
+use mathlib.Core.Path.{_≡_, ap, _∙_}
+use Prim.Native.Nat.{ℕ, suc, _+_, _^_, _<_}
+use native.Mathlib.Omega.{arith}
+use mathlib.Core.List.{List, [], _∷_, _++_, append-assoc}
+use borrow.Author.Tests.{lt-ltb, le-ltb, lt-leb}
+use Rattle.spec.specs.Lists.{sum}
+use Rattle.spec.specs.Answer.{gives, _>>=_, _>>_, refuse_at_when_, refuse_at?_}
+use Rattle.spec.specs.Text.{linesOf, byLines, alike, mostDigits}
+use Rattle.spec.specs.Forms.{isAlone, isOne, isTwo}
+use Rattle.spec.specs.Net.{Net, places, withArc, addPlace, addTransition, addArc, addRow, addLine, emptyNet, whole, netOf, readNet}
+use Rattle.spec.specs.NetText.{Declaration, place, transition, arc, declarationLine, netBytes, declare, declareAll, declared, Allowed}
+use Rattle.spec.specs.Demand.{IsNet}
+use Rattle.spec.specs.declared.ArcKind.{ArcKind}
+use Rattle.spec.specs.declared.ArcKind.the-variants.{Input, Output, Inhibitor}
+use Rattle.spec.specs.declared.Field.the-variants.{Number}
+use Rattle.runs.specs.Bytes.{P-letter, T-letter, I-letter, O-letter, H-letter}
+use Rattle.runs.specs.Fields.{AllWritable}
+use Rattle.runs.specs.LineForms.{row-back}
+use Rattle.runs.specs.Readers.{Takes, takes-line, takes-end, takes-all}
+use Rattle.runs.specs.NetText.{declare-snoc, Sound, complete-is}
+use Rattle.runs.specs.NetLimits.{NetLimits, sound-limits}
+
+module _ (k : ℕ) (n : Net) (L : NetLimits n) where
+  -- the numbers that an arc names can be written
+  ends : (p t : ℕ) → p < places n → t < n .transitions → (p < 10 ^ mostDigits) × (t < 10 ^ mostDigits)
+  ends p t l h = (omega (arith, L .places), omega (arith, L .transitions))
+
+  arc-added : (x : ArcKind) (p t : ℕ) → Allowed n (arc x p t) → addArc x k p t n ≡ gives (withArc x p t n)
+  unfolding addArc _>>_ refuse_at_when_
+  arc-added x p t a = rw (lt-ltb p (places n) (a .0), lt-ltb t (n .transitions) (a .1), a .2)
+
+  line-taken : (d : Declaration) → Allowed n d → Takes addLine k n (declarationLine d) (suc k) (declare n d)
+  unfolding declarationLine declare addLine addRow isOne isAlone isTwo alike addPlace addTransition _>>_ refuse_at_when_
+  line-taken (place v) a =
+      let fs = Number v ∷ [] in
+      let w : AllWritable fs = (omega (arith, a .1), tt) in
+      takes-line P-letter fs w (rw (row-back P-letter fs w, lt-leb 32 (places n) (a .0), le-ltb 512 (sum (n .tokens) + v) (a .1)))
+  line-taken transition a = takes-line T-letter [] tt (rw (row-back T-letter [] tt, lt-leb 32 (n .transitions) a))
+  line-taken (arc Input p t) a =
+      let fs = Number p ∷ Number t ∷ [] in
+      let e = ends p t (a .0) (a .1) in
+      let w : AllWritable fs = (e .0, (e .1, tt)) in
+      takes-line I-letter fs w (rw (row-back I-letter fs w) (arc-added Input p t a))
+  line-taken (arc Output p t) a =
+      let fs = Number t ∷ Number p ∷ [] in
+      let e = ends p t (a .0) (a .1) in
+      let w : AllWritable fs = (e .1, (e .0, tt)) in
+      takes-line O-letter fs w (rw (row-back O-letter fs w) (arc-added Output p t a))
+  line-taken (arc Inhibitor p t) a =
+      let fs = Number p ∷ Number t ∷ [] in
+      let e = ends p t (a .0) (a .1) in
+      let w : AllWritable fs = (e .0, (e .1, tt)) in
+      takes-line H-letter fs w (rw (row-back H-letter fs w) (arc-added Inhibitor p t a))
+
+-- what stands above a line is sound too
+above-sound : (ds above below : List Declaration) (d : Declaration) → Sound emptyNet ds → ds ≡ above ++ d ∷ below → Sound emptyNet above
+above-sound ds above below d S e xs ys x h = S xs (ys ++ d ∷ below) x (e ∙ ap (λ (z : List Declaration). z ++ d ∷ below) h ∙ append-assoc xs (x ∷ ys) (d ∷ below))
+
+lines-read : (ds : List Declaration) → Sound emptyNet ds → byLines addLine 1 (linesOf (netBytes ds)) emptyNet ≡ gives (declared ds)
+unfolding netBytes declareAll
+lines-read ds S = takes-end (takes-all declarationLine declared 1 ds (λ above d below e m l.
+    rw (declare-snoc emptyNet above d) (line-taken _ (declared above) (sound-limits above (above-sound ds above below d S e)) d (S above below d e))))
+
+pub net-read : (text : List ℕ) (N : Net) → IsNet text N → readNet text ≡ gives N
+unfolding readNet netOf whole _>>=_ _>>_ refuse_at?_
+net-read text N I = rw (I .written, lines-read (I .lines) (I .sound), ← I .named, complete-is N .1 (I .complete))
