@@ -17,7 +17,7 @@ use Rattle.order.specs.Table.{cellAt}
 use Rattle.runs.specs.Answers.{of-gives, not-refused, of-bind}
 use Rattle.runs.specs.Accepted.{accepted-record}
 use Rattle.text.specs.Agree.{Agrees, giving, refusing}
-use Rattle.closure.specs.Pairs.{independentPairs}
+use Rattle.strictness.specs.Pairs.{independentPairs}
 use Rattle.checking.specs.Accepting.{refusedBy, verdictOf, nothing, HoldsAccepted, Accepts}
 use Rattle.checking.specs.Checking.{byteIn, checkCounts, Checks}
 use Rattle.checking.specs.declared.Refusal.{Refusal}

@@ -24,7 +24,7 @@ use Rattle.order.specs.Diamond.{entry}
 use Rattle.runs.specs.Values.{orderOf}
 use Rattle.runs.specs.Closure.{related-is}
 use Rattle.closure.specs.Changes.{zeros}
-use Rattle.closure.specs.Pairs.{independentIn, independentsBelow, independentPairs}
+use Rattle.strictness.specs.Pairs.{independentIn, independentsBelow, independentPairs}
 use Rattle.checking.specs.Relation.{HoldsOrder}
 use Rattle.checking.specs.Checking.{entryIn, byteIn}
 use Rattle.checking.proofs.RecordOrder.{strict-in}

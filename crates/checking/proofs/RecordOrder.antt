@@ -20,7 +20,7 @@ use Rattle.order.specs.Table.{cellAt}
 use Rattle.runs.specs.Values.{pairAt, orderOf, strict-order}
 use Rattle.runs.specs.Closure.{strict-is}
 use Rattle.closure.specs.Changes.{Holds}
-use Rattle.closure.specs.Pairs.{strictIn, onCycle}
+use Rattle.strictness.specs.Pairs.{strictIn, onCycle}
 use Rattle.net.specs.declared.Net.{Net}
 use Rattle.record.specs.declared.Counts.{Counts}
 use Rattle.rules.specs.Held.{Held}

@@ -18,8 +18,6 @@ ghost use Rattle.checking.specs.Checking.{entryIn, byteIn, Checks};
 use closure::bytes_at;
 use closure::clear;
 use closure::close;
-use closure::first_loop;
-use closure::independent_pairs;
 use net::Net;
 use net::NetAnswer;
 use net::read_net;
@@ -32,6 +30,8 @@ use rules::wrong_initial;
 use rules::wrong_kinds;
 use rules::wrong_marks;
 use spec::Limits;
+use strictness::first_loop;
+use strictness::independent_pairs;
 
 // Why a net and a record are not accepted, with the spot: a line, or the lowest transition, place or event.
 pub enum Refusal {

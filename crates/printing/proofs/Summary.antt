@@ -18,7 +18,7 @@ use Rattle.spec.specs.Buffer.{over}
 use Rattle.spec.specs.declared.Field.the-variants.{Number}
 use Rattle.order.specs.Order.{Order}
 use Rattle.order.specs.Table.{cellAt}
-use Rattle.closure.specs.Pairs.{independentPairs}
+use Rattle.strictness.specs.Pairs.{independentPairs}
 use Rattle.runs.specs.Answers.{of-gives, of-bind, not-refused}
 use Rattle.runs.specs.Accepted.{accepted-record}
 use Rattle.runs.specs.NetLimits.{net-limits}

@@ -14,13 +14,13 @@ use arranging::line_count;
 use building::BuildAnswer;
 use building::build;
 use checking::accept;
-use closure::independent_pairs;
-use closure::levels;
+use levels::levels;
 use numbers::of_build;
 use parting::Parting;
 use parting::part_input;
 use spec::Field;
 use spec::Limits;
+use strictness::independent_pairs;
 use writing::put_line;
 
 // How many bytes were printed, or that the buffer is too short to print into.
