@@ -22,7 +22,7 @@ use Rattle.net.specs.declared.NetRead.{NetRead}
 use Rattle.record.specs.Reads.{Declares, ReadsRecord, noValues, answerOf as recordAnswerOf, Holds as HoldsRecord}
 use Rattle.record.specs.declared.Counts.{Counts}
 use Rattle.record.specs.declared.RecordRead.{RecordRead}
-use Rattle.rules.specs.Held.{Held}
+use Rattle.held.specs.Held.{Held}
 use Rattle.checking.specs.Relation.{HoldsOrder}
 use Rattle.checking.specs.Accepting.{verdictOf, isGiven, nothing, Judges, HoldsRun, AcceptsRecord, HoldsAccepted, Accepts}
 use Rattle.checking.specs.declared.Verdict.{Verdict}

@@ -23,7 +23,7 @@ use Rattle.closure.specs.Changes.{Holds}
 use Rattle.strictness.specs.Pairs.{strictIn, onCycle}
 use Rattle.net.specs.declared.Net.{Net}
 use Rattle.record.specs.declared.Counts.{Counts}
-use Rattle.rules.specs.Held.{Held}
+use Rattle.held.specs.Held.{Held}
 use Rattle.pairs.specs.Relation.{relationIn, Filled}
 use Rattle.checking.specs.Relation.{HoldsOrder, Ordered}
 use Rattle.checking.proofs.RecordPairs.{relation-is}

@@ -14,7 +14,7 @@ use Rattle.text.specs.Agree.{Agrees}
 use Rattle.net.specs.Holds.{Holds}
 use Rattle.net.specs.declared.Net.{Net}
 use Rattle.record.specs.declared.Counts.{Counts}
-use Rattle.rules.specs.Held.{Held}
+use Rattle.held.specs.Held.{Held}
 use Rattle.checking.specs.Relation.{HoldsOrder}
 use Rattle.checking.specs.declared.Refusal.{Refusal}
 use Rattle.checking.specs.declared.Refusal.the-variants.{NetMalformed, NetLimitPassed, NetUndeclared, ArcRepeated, Lacking, Malformed, LimitPassed, Undeclared, MarkedAlready, WrongInitial, WrongArcs, WrongMarks, WrongKind, BeforeItself}

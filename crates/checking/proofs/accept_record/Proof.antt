@@ -5,7 +5,7 @@ use Prim.Native.Nat.{ℕ}
 use borrow.Author.Tests.{not-true, not-false}
 use borrow.Author.Needs.{needs}
 use Rattle.lists.specs.Arrays.{blank}
-use Rattle.rules.proofs.Codes.{sound}
+use Rattle.held.proofs.Codes.{sound}
 use Rattle.checking.proofs.Accepting.{held, record-stop, record-go}
 use Rattle.checking.proofs.accept_record.Statement.{statement}
 use Rattle.checking.proofs.accept_record.Tie as tie
