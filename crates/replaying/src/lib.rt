@@ -14,9 +14,9 @@ ghost use Rattle.replaying.specs.Lined.{Sound, Enters, lateIn, lateFor, 
 ghost use Rattle.replaying.specs.Rows.{transitionsOf, together, AddsStep, leftOf};
 ghost use Rattle.replaying.specs.Arrangement.{answerOf, goesOf, finished, Judges, Ready, Blank, ReplaysLines};
 ghost use Rattle.replaying.specs.Replaying.{Replays};
-use checking::Refusal;
-use checking::Verdict;
-use checking::accept;
+use accepting::Refusal;
+use accepting::Verdict;
+use accepting::accept;
 use net::Net;
 use spec::Class;
 use spec::Limits;

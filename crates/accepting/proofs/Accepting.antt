@@ -10,10 +10,12 @@ use Rattle.spec.specs.Answer.{Answer, gives, refuses, _>>=_, _>>_, returned}
 use Rattle.spec.specs.Text.{linesOf, byLines}
 use Rattle.spec.specs.Net.{Net as NetD, readNet}
 use Rattle.spec.specs.Record.{RunRecord}
+use Rattle.spec.specs.Process.{Process, WellFormed}
 use Rattle.spec.specs.Check.{enterLine, emptyRecord, obeys, readRecord, accepts, Accepted as AcceptedD}
 use Rattle.spec.specs.declared.Limits.{Limits}
 use Rattle.lists.specs.Laws.{clash}
-use Rattle.runs.specs.Answers.{of-gives, not-refused}
+use Rattle.runs.specs.Answers.{of-gives, not-refused, of-bind}
+use Rattle.runs.specs.Accepted.{accepted-record}
 use Rattle.runs.specs.RecordText.{record-text}
 use Rattle.text.specs.Agree.{Agrees, giving, refusing}
 use Rattle.net.specs.Holds.{Holds, Reads, netCounts, answerOf as netAnswerOf}
@@ -23,11 +25,11 @@ use Rattle.record.specs.Reads.{Declares, ReadsRecord, noValues, answerOf as rec
 use Rattle.record.specs.declared.Counts.{Counts}
 use Rattle.record.specs.declared.RecordRead.{RecordRead}
 use Rattle.held.specs.Held.{Held}
-use Rattle.checking.specs.Relation.{HoldsOrder}
-use Rattle.checking.specs.Accepting.{verdictOf, isGiven, nothing, Judges, HoldsRun, AcceptsRecord, HoldsAccepted, Accepts}
-use Rattle.checking.specs.declared.Verdict.{Verdict}
-use Rattle.checking.specs.declared.Verdict.the-variants.{Given, Refused}
-use Rattle.checking.specs.declared.Accepted.{Accepted}
+use Rattle.accepting.specs.Relation.{HoldsOrder}
+use Rattle.accepting.specs.Accepting.{verdictOf, isGiven, nothing, Judges, HoldsRun, AcceptsRecord, HoldsAccepted, Accepts}
+use Rattle.accepting.specs.declared.Verdict.{Verdict}
+use Rattle.accepting.specs.declared.Verdict.the-variants.{Given, Refused}
+use Rattle.accepting.specs.declared.Accepted.{Accepted}
 
 -- ---- verdicts
 
@@ -130,3 +132,12 @@ module _ (net : List ℕ) (r : NetRead) (read : Reads net r) (v : Verdict) (hv :
 pub net-go : (lim : Limits) (net text : List ℕ) (N : NetD) (a : Accepted) (t : List ℕ) → readNet net ≡ gives N → Holds (a .net) N → Agrees nothing (verdictOf (a .verdict)) (HoldsRun a t) (readRecord lim N text) → Accepts lim net text a t
 net-go lim net text N a t e h (giving R z x b) = giving _ (both-accepted lim net text N R e z) x (record { arrays = h; bytes = b })
 net-go lim net text N a t e h (refusing n p z x) = refusing n p (record-refused lim net text N e z) x
+
+-- what is accepted is a well-formed record that is a process
+pub accepted-process : (lim : Limits) (net text : List ℕ) (a : AcceptedD) → accepts lim net text ≡ gives a → WellFormed (a .net) (a .run) × Process (a .net) (a .run)
+unfolding accepts
+accepted-process lim net text a h =
+    let x = of-bind (readNet net) _ h in
+    let y = of-bind (readRecord lim (x .0) text) _ (x .2) in
+    let z = accepted-record lim (x .0) text (y .0) (y .1) in
+    subst (λ (a : AcceptedD). WellFormed (a .net) (a .run) × Process (a .net) (a .run)) (of-gives (y .2)) (z .0 .wellFormed, z .1)

@@ -2,9 +2,9 @@ use native.Mathlib.Omega.{arith}
 use mathlib.Core.Path.{refl}
 use borrow.Author.Needs.{needs}
 use Rattle.text.specs.Agree.{giving, refusing}
-use Rattle.checking.proofs.Judging.{broken-35, broken-36, broken-37, broken-38, broken-39, none-broken}
-use Rattle.checking.proofs.judge.Statement.{statement}
-use Rattle.checking.proofs.judge.Tie as tie
+use Rattle.accepting.proofs.Judging.{broken-35, broken-36, broken-37, broken-38, broken-39, none-broken}
+use Rattle.accepting.proofs.judge.Statement.{statement}
+use Rattle.accepting.proofs.judge.Tie as tie
 
 pub judge-spec : {M : Type 1} → statement M
 judge-spec = tie.close (tie.spec

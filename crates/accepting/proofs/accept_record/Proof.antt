@@ -6,9 +6,9 @@ use borrow.Author.Tests.{not-true, not-false}
 use borrow.Author.Needs.{needs}
 use Rattle.lists.specs.Arrays.{blank}
 use Rattle.held.proofs.Codes.{sound}
-use Rattle.checking.proofs.Accepting.{held, record-stop, record-go}
-use Rattle.checking.proofs.accept_record.Statement.{statement}
-use Rattle.checking.proofs.accept_record.Tie as tie
+use Rattle.accepting.proofs.Accepting.{held, record-stop, record-go}
+use Rattle.accepting.proofs.accept_record.Statement.{statement}
+use Rattle.accepting.proofs.accept_record.Tie as tie
 
 pub accept-record-spec : {M : Type 1} → statement M
 accept-record-spec = tie.close (tie.spec

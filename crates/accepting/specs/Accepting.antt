@@ -15,12 +15,12 @@ use Rattle.net.specs.Holds.{Holds}
 use Rattle.net.specs.declared.Net.{Net}
 use Rattle.record.specs.declared.Counts.{Counts}
 use Rattle.held.specs.Held.{Held}
-use Rattle.checking.specs.Relation.{HoldsOrder}
-use Rattle.checking.specs.declared.Refusal.{Refusal}
-use Rattle.checking.specs.declared.Refusal.the-variants.{NetMalformed, NetLimitPassed, NetUndeclared, ArcRepeated, Lacking, Malformed, LimitPassed, Undeclared, MarkedAlready, WrongInitial, WrongArcs, WrongMarks, WrongKind, BeforeItself}
-use Rattle.checking.specs.declared.Verdict.{Verdict}
-use Rattle.checking.specs.declared.Verdict.the-variants.{Given, Refused}
-use Rattle.checking.specs.declared.Accepted.{Accepted}
+use Rattle.accepting.specs.Relation.{HoldsOrder}
+use Rattle.accepting.specs.declared.Refusal.{Refusal}
+use Rattle.accepting.specs.declared.Refusal.the-variants.{NetMalformed, NetLimitPassed, NetUndeclared, ArcRepeated, Lacking, Malformed, LimitPassed, Undeclared, MarkedAlready, WrongInitial, WrongArcs, WrongMarks, WrongKind, BeforeItself}
+use Rattle.accepting.specs.declared.Verdict.{Verdict}
+use Rattle.accepting.specs.declared.Verdict.the-variants.{Given, Refused}
+use Rattle.accepting.specs.declared.Accepted.{Accepted}
 
 -- the paper's number and spot of a refusal
 abbrev pub refusalOf : Refusal → ℕ × ℕ
