@@ -9,7 +9,7 @@ use lib.ListN.{length, getD}
 use Rattle.spec.specs.Answer.{Answer, gives, refuses, _>>=_, _>>_, returned}
 use Rattle.spec.specs.Text.{linesOf, byLines}
 use Rattle.spec.specs.Net.{Net as NetD, readNet}
-use Rattle.spec.specs.Record.{RunRecord}
+use Rattle.spec.specs.Record.{RunRecord, bench}
 use Rattle.spec.specs.Process.{Process, WellFormed}
 use Rattle.spec.specs.Check.{enterLine, emptyRecord, obeys, readRecord, accepts, Accepted as AcceptedD}
 use Rattle.spec.specs.declared.Limits.{Limits}
@@ -141,3 +141,7 @@ accepted-process lim net text a h =
     let y = of-bind (readRecord lim (x .0) text) _ (x .2) in
     let z = accepted-record lim (x .0) text (y .0) (y .1) in
     subst (λ (a : AcceptedD). WellFormed (a .net) (a .run) × Process (a .net) (a .run)) (of-gives (y .2)) (z .0 .wellFormed, z .1)
+
+-- what is accepted within limits that are the bench's
+pub at-bench : {lim : Limits} (net text : List ℕ) {a : Accepted} {t : List ℕ} → lim ≡ bench → Accepts lim net text a t → Accepts bench net text a t
+at-bench {lim} net text {a} {t} q h = subst (λ (l : Limits). Accepts l net text a t) q h

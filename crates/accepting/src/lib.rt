@@ -4,7 +4,7 @@ ghost use Prim.Native.Nat.{_<_, _≤_};
 ghost use lib.ListN.{length};
 ghost use Rattle.spec.specs.Answer.{returned};
 ghost use Rattle.spec.specs.Net.{Net as NetD};
-ghost use Rattle.spec.specs.Record.{RunRecord};
+ghost use Rattle.spec.specs.Record.{RunRecord, bench};
 ghost use Rattle.net.specs.Holds.{answerOf as netAnswerOf};
 ghost use Rattle.net.specs.declared.Net.{Net as NetA};
 ghost use Rattle.record.specs.Reads.{answerOf as recordAnswerOf};
@@ -57,6 +57,17 @@ pub struct Accepted {
     pub transitions: [u8; 128],
     pub events: usize,
     pub conditions: usize,
+}
+
+// The limits of the bench.
+pub fn bench() -> Limits
+    ensures { λ r. ⌜ (r ≡ bench) × Within r ⌝ }
+{
+    Limits {
+        events: 128,
+        conditions: 512,
+        marks: 4096,
+    }
 }
 
 // ---- the rules 35 to 39

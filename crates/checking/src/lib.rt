@@ -10,6 +10,7 @@ ghost use Rattle.checking.specs.Checking.{entryIn, byteIn, Checks};
 use accepting::Refusal;
 use accepting::Verdict;
 use accepting::accept;
+use accepting::bench;
 use closure::clear;
 use spec::Limits;
 use strictness::independent_pairs;
@@ -68,14 +69,5 @@ pub fn check_within(lim: Limits, net: &[u8], text: &[u8], out: &mut [u8]) -> Che
 pub fn check(net: &[u8], text: &[u8], out: &mut [u8]) -> CheckAnswer
     ensures { λ r. ⌜ Checks (check (now (net .entry)) (now (text .entry)) (length (now (out .entry)))) (now (out .entry)) r (now (out .exit)) ⌝ }
 {
-    check_within(
-        Limits {
-            events: 128,
-            conditions: 512,
-            marks: 4096,
-        },
-        net,
-        text,
-        out,
-    )
+    check_within(bench(), net, text, out)
 }
