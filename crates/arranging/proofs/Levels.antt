@@ -19,7 +19,7 @@ use Rattle.runs.specs.Levels.{level-at, arranged-keeps}
 use Rattle.runs.specs.Sizes.{arrangement-size}
 use Rattle.writing.specs.Written.{Wrote}
 use Rattle.writing.proofs.Laws.{put-over}
-use Rattle.checking.specs.Relation.{HoldsOrder}
+use Rattle.accepting.specs.Relation.{HoldsOrder}
 use Rattle.arranging.specs.Answers.{levelsIn, WritesLines}
 use Rattle.arranging.specs.declared.ArrangeAnswer.the-variants.{Arranged}
 

@@ -13,11 +13,11 @@ use Rattle.order.specs.Order.{Order}
 use Rattle.order.specs.Table.{cellAt}
 use Rattle.runs.specs.Answers.{not-refused}
 use Rattle.lines.specs.Agree.{giving, refusing}
-use Rattle.checking.specs.Accepting.{verdictOf, Accepts}
-use Rattle.checking.specs.declared.Refusal.{Refusal}
-use Rattle.checking.specs.declared.Verdict.the-variants.{Given, Refused as Unaccepted}
-use Rattle.checking.specs.declared.Accepted.{Accepted}
-use Rattle.checking.proofs.CheckAnswers.{accepted-process}
+use Rattle.accepting.specs.Accepting.{verdictOf, Accepts}
+use Rattle.accepting.specs.declared.Refusal.{Refusal}
+use Rattle.accepting.specs.declared.Verdict.the-variants.{Given, Refused as Unaccepted}
+use Rattle.accepting.specs.declared.Accepted.{Accepted}
+use Rattle.accepting.proofs.Accepting.{accepted-process}
 use Rattle.arranging.specs.Answers.{levelsIn, WritesLines, answerOf, arrangedCounts, Arranges}
 use Rattle.arranging.specs.declared.ArrangeAnswer.{ArrangeAnswer}
 use Rattle.arranging.specs.declared.ArrangeAnswer.the-variants.{BufferShort, Refused}

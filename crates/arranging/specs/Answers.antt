@@ -9,7 +9,7 @@ use Rattle.spec.specs.Arrange.{Arranged as ArrangedD, lineCount, arrangedLines,
 use Rattle.spec.specs.Buffer.{over, arrangeLeaves}
 use Rattle.order.specs.Level.{lev}
 use Rattle.order.specs.Table.{cellAt}
-use Rattle.checking.specs.Accepting.{refusedBy}
+use Rattle.accepting.specs.Accepting.{refusedBy}
 use Rattle.arranging.specs.declared.ArrangeAnswer.{ArrangeAnswer}
 use Rattle.arranging.specs.declared.ArrangeAnswer.the-variants.{Arranged, BufferShort, Refused}
 

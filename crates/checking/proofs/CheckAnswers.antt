@@ -1,40 +1,26 @@
 -- The check's answers, and what it leaves in the buffer.
-use mathlib.Core.Path.{_≡_, refl, sym, ap, ap₂, _∙_, subst}
+use mathlib.Core.Path.{_≡_, refl, sym, ap, _∙_}
 use Prim.Native.Nat.{ℕ, _≤_, _<_}
-use native.Mathlib.Omega.{arith}
 use mathlib.Core.List.{List}
 use lib.ListN.{length}
 use borrow.Author.Tests.{lt-ltb, le-ltb}
 use Rattle.spec.specs.Answer.{Answer, gives, refuses, _>>=_, _>>_, refuse_at_when_, returned}
-use Rattle.spec.specs.Net.{Net as NetD, readNet}
-use Rattle.spec.specs.Record.{RunRecord}
-use Rattle.spec.specs.Process.{Process, WellFormed}
-use Rattle.spec.specs.Check.{readRecord, accepts, Accepted as AcceptedD, checked, checkWithin, tableBytes, independentPairs as pairsD}
-use Rattle.spec.specs.Buffer.{over, leaves, checkLeaves}
+use Rattle.spec.specs.Check.{accepts, Accepted as AcceptedD, checked, checkWithin}
+use Rattle.spec.specs.Buffer.{leaves, checkLeaves}
 use Rattle.spec.specs.declared.Limits.{Limits}
 use Rattle.lists.specs.Mapped.{Mapped}
 use Rattle.order.specs.Table.{cellAt}
-use Rattle.runs.specs.Answers.{of-gives, not-refused, of-bind}
-use Rattle.runs.specs.Accepted.{accepted-record}
-use Rattle.lines.specs.Agree.{Agrees, giving, refusing}
-use Rattle.closure.specs.Pairs.{independentPairs}
-use Rattle.checking.specs.Accepting.{refusedBy, verdictOf, nothing, HoldsAccepted, Accepts}
+use Rattle.runs.specs.Answers.{not-refused}
+use Rattle.lines.specs.Agree.{giving, refusing}
+use Rattle.strictness.specs.Pairs.{independentPairs}
+use Rattle.accepting.specs.Accepting.{refusedBy, verdictOf, Accepts}
+use Rattle.accepting.specs.declared.Refusal.{Refusal}
+use Rattle.accepting.specs.declared.Verdict.the-variants.{Given, Refused}
+use Rattle.accepting.specs.declared.Accepted.{Accepted}
+use Rattle.accepting.proofs.Accepting.{accepted-process}
 use Rattle.checking.specs.Checking.{byteIn, checkCounts, Checks}
-use Rattle.checking.specs.declared.Refusal.{Refusal}
-use Rattle.checking.specs.declared.Verdict.{Verdict}
-use Rattle.checking.specs.declared.Verdict.the-variants.{Given, Refused}
-use Rattle.checking.specs.declared.Accepted.{Accepted}
 use Rattle.checking.specs.declared.CheckAnswer.the-variants.{Checked, BufferShort, Refused as CheckRefused}
 use Rattle.checking.proofs.CheckTable.{table-written, pairs-counted}
-
--- what is accepted is a well-formed record that is a process
-pub accepted-process : (lim : Limits) (net text : List ℕ) (a : AcceptedD) → accepts lim net text ≡ gives a → WellFormed (a .net) (a .run) × Process (a .net) (a .run)
-unfolding accepts
-accepted-process lim net text a h =
-    let x = of-bind (readNet net) _ h in
-    let y = of-bind (readRecord lim (x .0) text) _ (x .2) in
-    let z = accepted-record lim (x .0) text (y .0) (y .1) in
-    subst (λ (a : AcceptedD). WellFormed (a .net) (a .run) × Process (a .net) (a .run)) (of-gives (y .2)) (z .0 .wellFormed, z .1)
 
 module _ (lim : Limits) (net text : List ℕ) where
   pub few-events : (a : Accepted) (t : List ℕ) → a .verdict ≡ Given → Accepts lim net text a t → a .events ≤ 128

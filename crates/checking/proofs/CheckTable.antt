@@ -24,10 +24,10 @@ use Rattle.order.specs.Diamond.{entry}
 use Rattle.runs.specs.Values.{orderOf}
 use Rattle.runs.specs.Closure.{related-is}
 use Rattle.closure.specs.Changes.{zeros}
-use Rattle.closure.specs.Pairs.{independentIn, independentsBelow, independentPairs}
-use Rattle.checking.specs.Relation.{HoldsOrder}
+use Rattle.strictness.specs.Pairs.{independentIn, independentsBelow, independentPairs}
+use Rattle.accepting.specs.Relation.{HoldsOrder}
 use Rattle.checking.specs.Checking.{entryIn, byteIn}
-use Rattle.checking.proofs.RecordOrder.{strict-in}
+use Rattle.accepting.proofs.RecordOrder.{strict-in}
 
 -- ---- rows of one width, and a list at the start of a buffer
 

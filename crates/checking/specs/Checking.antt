@@ -8,7 +8,7 @@ use Rattle.spec.specs.Answer.{Answer, gives, refuses, returned}
 use Rattle.spec.specs.Check.{Checked as CheckedD}
 use Rattle.spec.specs.Buffer.{checkLeaves}
 use Rattle.order.specs.Table.{cellAt}
-use Rattle.checking.specs.Accepting.{refusedBy}
+use Rattle.accepting.specs.Accepting.{refusedBy}
 use Rattle.checking.specs.declared.CheckAnswer.{CheckAnswer}
 use Rattle.checking.specs.declared.CheckAnswer.the-variants.{Checked, BufferShort, Refused}
 

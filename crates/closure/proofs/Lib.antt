@@ -1,4 +1,2 @@
 pub mod Rows
 pub mod Rounds
-pub mod Counting
-pub mod Pushing

@@ -18,7 +18,7 @@ use Rattle.spec.specs.Buffer.{over}
 use Rattle.spec.specs.declared.Field.the-variants.{Number}
 use Rattle.order.specs.Order.{Order}
 use Rattle.order.specs.Table.{cellAt}
-use Rattle.closure.specs.Pairs.{independentPairs}
+use Rattle.strictness.specs.Pairs.{independentPairs}
 use Rattle.runs.specs.Answers.{of-gives, of-bind, not-refused}
 use Rattle.runs.specs.Accepted.{accepted-record}
 use Rattle.runs.specs.NetLimits.{net-limits}
@@ -27,9 +27,9 @@ use Rattle.runs.specs.Sizes.{record-size}
 use Rattle.lines.specs.Agree.{Agrees, giving, refusing}
 use Rattle.writing.specs.Written.{Wrote, lineBytes}
 use Rattle.writing.proofs.Laws.{put-over, wrote-length, after}
-use Rattle.checking.specs.Accepting.{HoldsAccepted, Accepts}
-use Rattle.checking.specs.declared.Accepted.{Accepted}
-use Rattle.checking.proofs.CheckAnswers.{accepted-process}
+use Rattle.accepting.specs.Accepting.{HoldsAccepted, Accepts}
+use Rattle.accepting.specs.declared.Accepted.{Accepted}
+use Rattle.accepting.proofs.Accepting.{accepted-process}
 use Rattle.checking.proofs.CheckTable.{pairs-counted}
 use Rattle.arranging.specs.Answers.{levelsIn}
 use Rattle.arranging.proofs.Levels.{order-held, levels-held}

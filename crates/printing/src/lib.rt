@@ -10,17 +10,17 @@ ghost use Rattle.order.specs.Table.{cellAt};
 ghost use Rattle.spec.specs.Arrange.{lineCount};
 ghost use Rattle.arranging.specs.Answers.{levelsIn};
 ghost use Rattle.printing.specs.Prints.{ran, Recorded, Summarizes, Printed, Prints};
+use accepting::accept;
+use accepting::bench;
 use arranging::line_count;
 use building::BuildAnswer;
 use building::build;
-use checking::accept;
-use closure::independent_pairs;
-use closure::levels;
+use levels::levels;
 use numbers::of_build;
 use parting::Parting;
 use parting::part_input;
 use spec::Field;
-use spec::Limits;
+use strictness::independent_pairs;
 use writing::put_line;
 
 // How many bytes were printed, or that the buffer is too short to print into.
@@ -58,13 +58,8 @@ fn put_summary(net: &[u8], out: &mut [u8], n: usize) -> usize
     requires { ⌜ (n + 19 ≤ length (now out)) × Recorded (now net) (take n (now out)) ⌝ }
     ensures { λ r. ⌜ Summarizes (now (net .entry)) n (now (out .entry)) r (now (out .exit)) ⌝ }
 {
-    let bench = Limits {
-        events: 128,
-        conditions: 512,
-        marks: 4096,
-    };
     let mut table = [0u8; 16384];
-    let accepted = accept(net, &out[0..n], bench, &mut table);
+    let accepted = accept(net, &out[0..n], bench(), &mut table);
     let events = accepted.events;
     let fields = [
         Field::Number(events),

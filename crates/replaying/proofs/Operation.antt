@@ -17,11 +17,11 @@ use Rattle.lists.specs.Laws.{at-in}
 use Rattle.runs.specs.Answers.{not-refused}
 use Rattle.lines.specs.Agree.{Agrees, giving, refusing}
 use Rattle.lines.proofs.Answers.{isGiven}
-use Rattle.checking.specs.Accepting.{refusedBy, verdictOf, HoldsAccepted, Accepts}
-use Rattle.checking.specs.declared.Refusal.{Refusal}
-use Rattle.checking.specs.declared.Verdict.the-variants.{Given, Refused}
-use Rattle.checking.specs.declared.Accepted.{Accepted}
-use Rattle.checking.proofs.CheckAnswers.{accepted-process}
+use Rattle.accepting.specs.Accepting.{refusedBy, verdictOf, HoldsAccepted, Accepts}
+use Rattle.accepting.specs.declared.Refusal.{Refusal}
+use Rattle.accepting.specs.declared.Verdict.the-variants.{Given, Refused}
+use Rattle.accepting.specs.declared.Accepted.{Accepted}
+use Rattle.accepting.proofs.Accepting.{accepted-process}
 use Rattle.replaying.specs.Arrangement.{answerOf, goesOf, Ready, Describes, ReplaysLines}
 use Rattle.replaying.specs.Replaying.{Replays}
 use Rattle.replaying.specs.declared.ArrangementAnswer.{ArrangementAnswer}

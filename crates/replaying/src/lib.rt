@@ -14,15 +14,15 @@ ghost use Rattle.replaying.specs.Lined.{Sound, Enters, lateIn, lateFor, 
 ghost use Rattle.replaying.specs.Rows.{transitionsOf, together, AddsStep, leftOf};
 ghost use Rattle.replaying.specs.Arrangement.{answerOf, goesOf, finished, Judges, Ready, Blank, ReplaysLines};
 ghost use Rattle.replaying.specs.Replaying.{Replays};
-use checking::Refusal;
-use checking::Verdict;
-use checking::accept;
+use accepting::Refusal;
+use accepting::Verdict;
+use accepting::accept;
+use accepting::bench;
 use fields::letter_at;
 use fields::number_at;
 use lines::line_at;
 use net::Net;
 use spec::Class;
-use spec::Limits;
 use steps::any_unknown;
 use steps::count_numbers;
 use steps::is_list_line;
@@ -317,13 +317,8 @@ pub fn replay(net: &[u8], text: &[u8], arrangement: &[u8], out: &mut [u16]) -> R
     if out.len() < 4128 {
         return ReplayAnswer::BufferShort;
     }
-    let bench = Limits {
-        events: 128,
-        conditions: 512,
-        marks: 4096,
-    };
     let mut table = [0u8; 16384];
-    let accepted = accept(net, text, bench, &mut table);
+    let accepted = accept(net, text, bench(), &mut table);
     let verdict = accepted.verdict;
     if let Verdict::Refused(why) = verdict {
         return ReplayAnswer::Refused(why);

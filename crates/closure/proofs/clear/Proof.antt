@@ -5,7 +5,6 @@ use borrow.Author.Needs.{needs}
 use lib.ListN.{length, length-set}
 use Rattle.lists.specs.Mapped.{Mapped, mapped-none, mapped-more, mapped-end}
 use Rattle.closure.specs.Changes.{zeros}
-use Rattle.closure.proofs.Counting.{zero-is}
 use Rattle.closure.proofs.clear.Statement.{statement}
 use Rattle.closure.proofs.clear.Tie as tie
 
@@ -14,6 +13,10 @@ Inv-loop a₀ n f₀ a f = (f ≤ n) × (length a ≡ length a₀) × Mapped a�
 
 abbrev μ-loop : tie.MeasureT-loop
 μ-loop a₀ n f₀ a f = n - f
+
+zero-is : (f : ℕ) → _≡_ {A = ℕ} 0 (zeros f)
+unfolding zeros
+zero-is f = refl
 
 pub clear-spec : {M : Type 1} → statement M
 clear-spec = tie.close (tie.spec Inv-loop μ-loop

@@ -1,4 +1,0 @@
-pub mod Tallies
-pub mod Codes
-pub mod Rules
-pub mod MarkBytes
