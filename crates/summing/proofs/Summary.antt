@@ -1,40 +1,33 @@
--- The summary of a record that is accepted, by what the code has counted of it; and what stands in the buffer at the end.
-use mathlib.Core.Path.{_≡_, refl, sym, ap, _∙_, subst}
+-- The summary of a record that is accepted, by what the code has counted of it.
+use mathlib.Core.Path.{_≡_, sym, ap, _∙_, subst}
 use Prim.Native.Nat.{ℕ, _+_, _-_, _≤_}
-use native.Mathlib.Nat.{le-trans}
 use native.Mathlib.Omega.{arith}
-use mathlib.Core.List.{List, [], _∷_, _++_}
-use lib.ListN.{length, take, length-append}
-use lib.Seq.{take-append-seam}
-use Rattle.spec.specs.Answer.{Answer, gives, refuses, _>>=_}
+use mathlib.Core.List.{List, [], _∷_}
+use lib.ListN.{length, take}
+use Rattle.spec.specs.Answer.{gives}
 use Rattle.spec.specs.Net.{readNet}
 use Rattle.spec.specs.Text.{line}
-use Rattle.spec.specs.Record.{RunRecord, bench, recordBytes}
-use Rattle.spec.specs.Process.{Process, WellFormed}
+use Rattle.spec.specs.Record.{bench}
 use Rattle.spec.specs.Check.{accepts, readRecord, Accepted as AcceptedD}
 use Rattle.spec.specs.Arrange.{levels, lineCount}
 use Rattle.spec.specs.Program.{summary}
-use Rattle.spec.specs.Buffer.{over}
 use Rattle.spec.specs.declared.Field.the-variants.{Number}
 use Rattle.order.specs.Order.{Order}
 use Rattle.order.specs.Table.{cellAt}
 use Rattle.closure.specs.Pairs.{independentPairs}
 use Rattle.runs.specs.Answers.{of-gives, of-bind, not-refused}
 use Rattle.runs.specs.Accepted.{accepted-record}
-use Rattle.runs.specs.NetLimits.{net-limits}
 use Rattle.runs.specs.ReadRecord.{Fits}
-use Rattle.runs.specs.Sizes.{record-size}
-use Rattle.text.specs.Agree.{Agrees, giving, refusing}
+use Rattle.text.specs.Agree.{giving, refusing}
 use Rattle.writing.specs.Written.{Wrote, lineBytes}
-use Rattle.writing.proofs.Laws.{put-over, wrote-length, after}
 use Rattle.checking.specs.Accepting.{HoldsAccepted, Accepts}
 use Rattle.checking.specs.declared.Accepted.{Accepted}
 use Rattle.checking.proofs.CheckAnswers.{accepted-process}
 use Rattle.checking.proofs.CheckTable.{pairs-counted}
 use Rattle.arranging.specs.Answers.{levelsIn}
 use Rattle.arranging.proofs.Levels.{order-held, levels-held}
-use Rattle.printing.specs.Prints.{Recorded, Summarizes, Printed}
-use Rattle.printing.proofs.Sizes.{summary-size}
+use Rattle.summing.specs.Summaries.{Recorded, Summarizes}
+use Rattle.summing.proofs.Sizes.{summary-size}
 
 -- ---- an accepted record
 
@@ -46,14 +39,6 @@ module _ (net text : List ℕ) where
       let z = of-bind (readNet net) _ e in
       let y = of-bind (readRecord bench (z .0) text) _ (z .2) in
       subst (λ b. Fits bench (b .run)) (of-gives (y .2)) (accepted-record bench (z .0) text (y .0) (y .1) .0 .fits)
-
-  pub record-room : (a : AcceptedD) → accepts bench net text ≡ gives a → length (recordBytes (a .run)) ≤ 48256
-  unfolding accepts
-  record-room a e =
-      let z = of-bind (readNet net) _ e in
-      let y = of-bind (readRecord bench (z .0) text) _ (z .2) in
-      let I = accepted-record bench (z .0) text (y .0) (y .1) .0 in
-      subst (λ b. length (recordBytes (b .run)) ≤ 48256) (of-gives (y .2)) (record-size (z .0) (y .0) (net-limits net (z .0) (z .1)) (I .wellFormed) (I .fits))
 
   pub summary-fits : (a : AcceptedD) → accepts bench net text ≡ gives a → length (summary (a .run)) ≤ 19
   summary-fits a e = let w = accepted-process bench net text a e in summary-size (a .net) (a .run) (w .0) (w .1) (record-fits a e)
@@ -88,24 +73,7 @@ module _ (net text : List ℕ) where
           → n + length (lineBytes 90 (Number (A .events) ∷ Number (A .conditions) ∷ Number k ∷ Number m ∷ [])) ≤ room
       summary-room n p q h = omega (arith, ap length (summarized p q (R .accepted) (R .is)), summary-fits (R .accepted) (R .is))
 
--- ---- the buffer
-
-pub wrote-printed : {bytes old new : List ℕ} {r : ℕ} → length bytes ≤ length old → Wrote old 0 bytes r new → Printed bytes old r new
-wrote-printed {bytes} {old} h w = record { count = omega (arith, w .next); buffer = w .bytes ∙ put-over old bytes h }
-
-module _ (bytes old : List ℕ) {mid : List ℕ} {n : ℕ} (q : n ≡ length bytes) (m : mid ≡ over bytes old) (h : length bytes ≤ length old) where
-  first-wrote : Wrote old 0 bytes n mid
-  first-wrote = record { next = omega arith; bytes = m ∙ sym (put-over old bytes h) }
-
-  pub over-length : length mid ≡ length old
-  over-length = wrote-length first-wrote
-
-  pub over-start : take n mid ≡ bytes
-  unfolding over
-  over-start = rw (m, q) (take-append-seam bytes _)
-
-  pub both-printed : {last new : List ℕ} {r : ℕ} → length bytes + length last ≤ length old → Wrote mid n last r new → Printed (bytes ++ last) old r new
-  both-printed {last} l w = wrote-printed (omega (arith, length-append bytes last)) (after first-wrote w)
+-- ---- behind the record in the buffer
 
 -- the part of a buffer up to n
 pub to-part : {net : List ℕ} (n : ℕ) (old : List ℕ) → Recorded net (take n old) → Recorded net (take (n - 0) old)

@@ -4,9 +4,9 @@ use native.Mathlib.Omega.{arith}
 use lib.ListN.{length-replicate}
 use borrow.Author.Needs.{needs}
 use Rattle.spec.specs.Record.{bench}
-use Rattle.printing.proofs.Summary.{to-part, few-events, table-order, summary-room, summary-wrote}
-use Rattle.printing.proofs.put_summary.Statement.{statement}
-use Rattle.printing.proofs.put_summary.Tie as tie
+use Rattle.summing.proofs.Summary.{to-part, few-events, table-order, summary-room, summary-wrote}
+use Rattle.summing.proofs.put_summary.Statement.{statement}
+use Rattle.summing.proofs.put_summary.Tie as tie
 
 pub put-summary-spec : {M : Type 1} → statement M
 unfolding bench
