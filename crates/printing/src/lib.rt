@@ -1,5 +1,4 @@
 // The operation behind the program: what it prints of its input.
-ghost use mathlib.Core.Path.{_≡_};
 ghost use Prim.Native.Nat.{_≤_};
 ghost use lib.ListN.{length};
 ghost use Rattle.spec.specs.Answer.{refuses};
