@@ -5,18 +5,18 @@ ghost use Rattle.net.specs.Holds.{answerOf as netAnswer};
 ghost use Rattle.building.specs.Holds.{buildAnswer};
 ghost use Rattle.accepting.specs.Accepting.{refusedBy};
 ghost use Rattle.checking.specs.Checking.{checkOf};
-ghost use Rattle.replaying.specs.Arrangement.{answerOf as arrangementAnswer};
+ghost use Rattle.arrangements.specs.Arrangement.{answerOf as arrangementAnswer};
 ghost use Rattle.replaying.specs.Replaying.{replayOf};
 ghost use Rattle.arranging.specs.Answers.{answerOf as arrangeAnswer};
 ghost use Rattle.refused.specs.Shown.{answerOf as lineAnswer};
 ghost use Rattle.numbers.specs.Values.{numbersOf, one, two};
 use accepting::Refusal;
+use arrangements::ArrangementAnswer;
 use arranging::ArrangeAnswer;
 use building::BuildAnswer;
 use checking::CheckAnswer;
 use net::NetAnswer;
 use refused::LineAnswer;
-use replaying::ArrangementAnswer;
 use replaying::ReplayAnswer;
 
 // What the C interface returns: the number and the spot, 0 where a call is accepted, and its values.

@@ -28,10 +28,13 @@ use Rattle.parting.specs.declared.Parting.{Parting}
 use Rattle.parting.specs.declared.Parting.the-variants.{At, Nothing}
 use Rattle.numbers.specs.Values.{numbersOf, one}
 use Rattle.numbers.specs.declared.Numbers.{Numbers}
-use Rattle.printing.specs.Prints.{ran, Recorded, Summarizes, Printed, Prints}
+use Rattle.summing.specs.Summaries.{Recorded, Summarizes}
+use Rattle.summing.proofs.Summary.{summary-fits}
+use Rattle.printing.specs.Prints.{ran, Printed, Prints}
 use Rattle.printing.specs.declared.PrintAnswer.the-variants.{Printed as Bytes, BufferShort}
 use Rattle.printing.proofs.Running.{parted-runs, build-ran, ran-accepted}
-use Rattle.printing.proofs.Summary.{record-room, summary-fits, over-length, over-start, both-printed}
+use Rattle.printing.proofs.Sizes.{record-room}
+use Rattle.printing.proofs.Buffer.{over-length, over-start, both-printed}
 
 -- only one case says that something is written
 is-written : (x : BuildAnswer) {n : ℕ} → buildAnswer x ≡ gives n → x ≡ Written n

@@ -2,16 +2,14 @@
 use mathlib.Core.Path.{_≡_}
 use Prim.Native.Nat.{ℕ}
 use mathlib.Core.List.{List}
-use lib.ListN.{length, take}
+use lib.ListN.{length}
 use Rattle.spec.specs.Answer.{Answer, gives, refuses, _>>=_, returned}
 use Rattle.spec.specs.Text.{linesOf}
 use Rattle.spec.specs.Net.{readNet}
 use Rattle.spec.specs.Record.{RunRecord, bench}
 use Rattle.spec.specs.Build.{built}
-use Rattle.spec.specs.Check.{Accepted, accepts}
-use Rattle.spec.specs.Program.{summary, programInto}
+use Rattle.spec.specs.Program.{programInto}
 use Rattle.spec.specs.Buffer.{over, buildLeaves}
-use Rattle.writing.specs.Written.{Wrote}
 use Rattle.printing.specs.declared.PrintAnswer.{PrintAnswer}
 use Rattle.printing.specs.declared.PrintAnswer.the-variants.{Printed as Bytes, BufferShort}
 
@@ -20,15 +18,6 @@ unfoldable pub ran : List ℕ → List ℕ → Answer RunRecord
 ran net log = do
   n ← readNet net
   built bench n (linesOf log)
-
--- the text is a record that is accepted on the net
-pub record Recorded (net text : List ℕ) : Type 0 where
-  pub accepted : Accepted
-  pub is : accepts bench net text ≡ gives accepted
-
--- the record's summary is written behind its n bytes
-abbrev pub Summarizes : List ℕ → ℕ → List ℕ → ℕ → List ℕ → Type 0
-Summarizes net n old r new = (a : Accepted) → accepts bench net (take n old) ≡ gives a → Wrote old n (summary (a .run)) r new
 
 -- the bytes stand at the start of the buffer, and r counts them
 pub record Printed (bytes old : List ℕ) (r : ℕ) (new : List ℕ) : Type 0 where

@@ -1,26 +1,16 @@
 // The operation behind the program: what it prints of its input.
-ghost use mathlib.Core.Path.{_≡_};
-ghost use Prim.Native.Nat.{_+_, _≤_};
-ghost use mathlib.Core.List.{_∷_, []};
-ghost use lib.ListN.{length, take};
+ghost use Prim.Native.Nat.{_≤_};
+ghost use lib.ListN.{length};
 ghost use Rattle.spec.specs.Answer.{refuses};
 ghost use Rattle.spec.specs.Program.{printed};
-ghost use Rattle.order.specs.Order.{Order};
-ghost use Rattle.order.specs.Table.{cellAt};
-ghost use Rattle.spec.specs.Arrange.{lineCount};
-ghost use Rattle.arranging.specs.Answers.{levelsIn};
-ghost use Rattle.printing.specs.Prints.{ran, Recorded, Summarizes, Printed, Prints};
-use accepting::accept;
-use accepting::bench;
-use arranging::line_count;
+ghost use Rattle.printing.specs.Prints.{ran, Printed, Prints};
 use building::BuildAnswer;
 use building::build;
-use levels::levels;
 use numbers::of_build;
 use parting::Parting;
 use parting::part_input;
 use spec::Field;
-use strictness::independent_pairs;
+use summing::put_summary;
 use writing::put_line;
 
 // How many bytes were printed, or that the buffer is too short to print into.
@@ -41,33 +31,6 @@ fn put_refusal(out: &mut [u8], number: usize, spot: usize) -> usize
         Field::Absent,
     ];
     put_line(out, 0, b'X', fields, 2)
-}
-
-// How many lines the arrangement of n events has, by the table of their closed order.
-fn lines_of(table: &[u8], n: usize) -> usize
-    requires { ⌜ (n ≤ 128) × (16384 ≤ length (now table)) × Order n (cellAt 128 (now table)) ⌝ }
-    ensures { λ r. ⌜ r ≡ lineCount (levelsIn n (now (table .entry))) ⌝ }
-{
-    let mut a = [0u8; 128];
-    levels(table, n, &mut a);
-    line_count(&a[0..n])
-}
-
-// `Z,events,conditions,pairs,lines` behind the record of a net that stands in the first n bytes.
-fn put_summary(net: &[u8], out: &mut [u8], n: usize) -> usize
-    requires { ⌜ (n + 19 ≤ length (now out)) × Recorded (now net) (take n (now out)) ⌝ }
-    ensures { λ r. ⌜ Summarizes (now (net .entry)) n (now (out .entry)) r (now (out .exit)) ⌝ }
-{
-    let mut table = [0u8; 16384];
-    let accepted = accept(net, &out[0..n], bench(), &mut table);
-    let events = accepted.events;
-    let fields = [
-        Field::Number(events),
-        Field::Number(accepted.conditions),
-        Field::Number(independent_pairs(&table, events)),
-        Field::Number(lines_of(&table, events)),
-    ];
-    put_line(out, n, b'Z', fields, 4)
 }
 
 // The record that a log builds and its summary, or the refusal.

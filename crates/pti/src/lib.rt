@@ -12,6 +12,7 @@ ghost use Rattle.printing.specs.Prints.{printAnswer};
 ghost use Rattle.pti.specs.Values.{netValues, lineValues};
 ghost use Rattle.pti.specs.Calls.{BuildCall, CheckCall, ReplayCall, ArrangeCall, ProgramCall};
 pub use accepting::Refusal;
+pub use arrangements::ArrangementAnswer;
 pub use arranging::ArrangeAnswer;
 pub use arranging::arrange;
 pub use building::BuildAnswer;
@@ -33,7 +34,6 @@ pub use printing::program;
 pub use refused::LineAnswer;
 pub use refused::refused_line;
 pub use refused::refused_line_answer;
-pub use replaying::ArrangementAnswer;
 pub use replaying::ReplayAnswer;
 pub use replaying::replay;
 

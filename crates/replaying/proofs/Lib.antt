@@ -1,11 +1,3 @@
-pub mod Distinct
-pub mod Standing
-pub mod Lateness
-pub mod Counts
 pub mod Buffers
-pub mod Finishing
-pub mod Judging
-pub mod Markings
-pub mod Running
 pub mod Telling
 pub mod Operation

@@ -22,12 +22,13 @@ use Rattle.accepting.specs.declared.Refusal.{Refusal}
 use Rattle.accepting.specs.declared.Verdict.the-variants.{Given, Refused}
 use Rattle.accepting.specs.declared.Accepted.{Accepted}
 use Rattle.accepting.proofs.Accepting.{accepted-process}
-use Rattle.replaying.specs.Arrangement.{answerOf, goesOf, Ready, Describes, ReplaysLines}
+use Rattle.arrangements.specs.Arrangement.{answerOf, goesOf}
+use Rattle.played_lines.specs.Lines.{Ready, Describes, ReplaysLines}
 use Rattle.replaying.specs.Replaying.{Replays}
-use Rattle.replaying.specs.declared.ArrangementAnswer.{ArrangementAnswer}
+use Rattle.arrangements.specs.declared.ArrangementAnswer.{ArrangementAnswer}
 use Rattle.replaying.specs.declared.ReplayAnswer.the-variants.{BufferShort, Refused as ReplayRefused, Lines}
 use Rattle.replaying.proofs.Telling.{tells-order}
-use Rattle.replaying.proofs.Running.{goes-given}
+use Rattle.played_lines.proofs.Running.{goes-given}
 
 -- ---- 40, and a refusal of the net or the record
 

@@ -1,4 +1,1 @@
-pub mod Lined
-pub mod Rows
-pub mod Arrangement
 pub mod Replaying

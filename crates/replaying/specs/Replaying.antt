@@ -6,7 +6,7 @@ use Rattle.spec.specs.Answer.{Answer, refuses, returned}
 use Rattle.spec.specs.Replay.{Replayed}
 use Rattle.spec.specs.Buffer.{replayLeaves}
 use Rattle.accepting.specs.Accepting.{refusedBy}
-use Rattle.replaying.specs.Arrangement.{answerOf}
+use Rattle.arrangements.specs.Arrangement.{answerOf}
 use Rattle.replaying.specs.declared.ReplayAnswer.{ReplayAnswer}
 use Rattle.replaying.specs.declared.ReplayAnswer.the-variants.{BufferShort, Refused, Lines}
 

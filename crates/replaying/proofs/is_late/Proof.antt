@@ -1,8 +1,0 @@
-use borrow.Author.Needs.{needs}
-use Rattle.replaying.specs.Lined.{lateIn}
-use Rattle.replaying.proofs.is_late.Statement.{statement}
-use Rattle.replaying.proofs.is_late.Tie as tie
-
-pub is-late-spec : {M : Type 1} → statement M
-unfolding lateIn
-is-late-spec = tie.close (tie.spec (λ c. search needs))
