@@ -17,8 +17,9 @@ use Rattle.spec.specs.Net.{Net}
 use Rattle.spec.specs.Record.{bench}
 use Rattle.spec.specs.Build.{Run as RunD, isStepLine, logLine}
 use Rattle.lists.specs.Laws
-use Rattle.steps.specs.Holds.{Begins, HoldsStep}
-use Rattle.steps.proofs.Lines.{few-known}
+use Rattle.number_lines.specs.Numbers.{Begins}
+use Rattle.steps.specs.Holds.{HoldsStep}
+use Rattle.number_lines.proofs.Lines.{few-known}
 use Rattle.steps.proofs.Held.{step-held}
 use Rattle.building.specs.Holds.{stepOn}
 

@@ -19,7 +19,7 @@ use Rattle.spec.specs.declared.Class.the-variants.{LetterG}
 use Rattle.lists.specs.Laws.{at-in, and-true, and-three, all-below, flat-snoc}
 use Rattle.text.specs.Agree.{giving, refusing}
 use Rattle.net.specs.Holds.{lineOf}
-use Rattle.steps.specs.Holds.{Few, Begins}
+use Rattle.number_lines.specs.Numbers.{Few, Begins}
 use Rattle.replaying.specs.Lined.{TellsOrder, Stands, Lined, Sound, Enters, breaksIn}
 use Rattle.replaying.specs.Arrangement.{answerOf, goesOf, Judged}
 use Rattle.replaying.specs.declared.Group.{Group}

@@ -15,7 +15,7 @@ use Rattle.spec.specs.Replay.{groupsLine, readArrangement, replayed}
 use Rattle.text.specs.Agree.{Agrees}
 use Rattle.net.specs.Holds.{Holds, lineOf}
 use Rattle.net.specs.declared.Net.{Net}
-use Rattle.steps.specs.Holds.{Few, Begins}
+use Rattle.number_lines.specs.Numbers.{Few, Begins}
 use Rattle.replaying.specs.Lined.{TellsOrder, Lined}
 use Rattle.replaying.specs.declared.Group.{Group}
 use Rattle.replaying.specs.declared.ArrangementAnswer.{ArrangementAnswer}

@@ -16,7 +16,8 @@ use Rattle.lists.specs.Along.{any-agree, some-counted}
 use Rattle.lists.specs.Mapped.{Mapped}
 use Rattle.net.specs.Holds.{Cells, Holds}
 use Rattle.net.specs.declared.Net.{Net}
-use Rattle.steps.specs.Holds.{Few, Begins, HoldsStep, cellAt, Sums, HoldsMarking, falls, blocks, moved}
+use Rattle.number_lines.specs.Numbers.{Few, Begins}
+use Rattle.steps.specs.Holds.{HoldsStep, cellAt, Sums, HoldsMarking, falls, blocks, moved}
 
 -- ---- a step
 

@@ -5,21 +5,9 @@ use mathlib.Core.Bool.{Bool, _&&_}
 use mathlib.Core.List.{List}
 use lib.ListN.{length, getD, take}
 use lib.Dec.{ltb}
-use Rattle.spec.specs.Lists.{In, any, sumOf, upTo}
+use Rattle.spec.specs.Lists.{any, sumOf, upTo}
 use Rattle.lists.specs.Mapped.{Mapped}
 use Rattle.steps.specs.declared.Marking.{Marking}
-
--- ---- the numbers of a line
-
--- at most so many numbers, each below a bound
-pub record Few (most bound : ℕ) (ns : List ℕ) : Type 0 where
-  pub few : length ns ≤ most
-  pub low : (n : ℕ) → In n ns → n < bound
-
--- an array begins with these numbers
-pub record Begins (xs ns : List ℕ) : Type 0 where
-  pub long : length xs ≡ 128
-  pub numbers : take (length ns) xs ≡ ns
 
 -- ---- a step
 

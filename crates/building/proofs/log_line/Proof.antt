@@ -5,7 +5,7 @@ use Rattle.spec.specs.Text.{mostDigits}
 use Rattle.spec.specs.Forms.{numbersOf}
 use Rattle.text.specs.Agree.{giving, refusing}
 use Rattle.net.specs.Holds.{lineOf}
-use Rattle.steps.proofs.Lines.{few-known}
+use Rattle.number_lines.proofs.Lines.{few-known}
 use Rattle.building.proofs.Reaching.{events-held}
 use Rattle.building.proofs.Lines.{some-number, answers-21, answers-22, answers-23, answers-step, line-known, line-step}
 use Rattle.building.proofs.log_line.Statement.{statement}

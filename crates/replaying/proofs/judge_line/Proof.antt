@@ -3,7 +3,7 @@ use native.Mathlib.Omega.{arith}
 use borrow.Author.Tests.{not-true, not-false}
 use Rattle.spec.specs.Lists.{flat}
 use Rattle.lists.specs.Laws.{all-below}
-use Rattle.steps.proofs.Lines.{few-known}
+use Rattle.number_lines.proofs.Lines.{few-known}
 use Rattle.replaying.proofs.Judging.{lines-few, entered-few, events-low, breaks-events, malformed, unknown, repeated, broken, kept}
 use Rattle.replaying.proofs.judge_line.Statement.{statement}
 use Rattle.replaying.proofs.judge_line.Tie as tie

@@ -1,8 +1,8 @@
 use mathlib.Core.Path.{ap}
 use mathlib.Core.Bool.{_&&_}
 use native.Mathlib.Omega.{arith}
-use Rattle.steps.proofs.is_list_line.Statement.{statement}
-use Rattle.steps.proofs.is_list_line.Tie as tie
+use Rattle.number_lines.proofs.is_list_line.Statement.{statement}
+use Rattle.number_lines.proofs.is_list_line.Tie as tie
 
 pub is-list-line-spec : {M : Type 1} → statement M
 is-list-line-spec = tie.close (tie.spec

@@ -9,8 +9,8 @@ use Rattle.spec.specs.Forms.{numbersOf}
 use Rattle.lists.specs.Along.{any-first, any-next, any-nil}
 use Rattle.text.specs.Scan.{numbersFrom}
 use Rattle.text.proofs.Scans.{numbers-first, numbers-none}
-use Rattle.steps.proofs.any_unknown.Statement.{statement}
-use Rattle.steps.proofs.any_unknown.Tie as tie
+use Rattle.number_lines.proofs.any_unknown.Statement.{statement}
+use Rattle.number_lines.proofs.any_unknown.Tie as tie
 
 abbrev Inv-loop : tie.InvT-loop
 Inv-loop l known at₀ at = (at ≤ length l + 1) × (any (leb known) (numbersFrom 4 l at) ≡ any (leb known) (numbersOf 4 l))

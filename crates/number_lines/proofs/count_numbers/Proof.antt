@@ -5,8 +5,8 @@ use lib.ListN.{length}
 use Rattle.spec.specs.Forms.{numbersOf}
 use Rattle.text.specs.Scan.{numbersFrom}
 use Rattle.text.proofs.Scans.{numbers-first, numbers-none}
-use Rattle.steps.proofs.count_numbers.Statement.{statement}
-use Rattle.steps.proofs.count_numbers.Tie as tie
+use Rattle.number_lines.proofs.count_numbers.Statement.{statement}
+use Rattle.number_lines.proofs.count_numbers.Tie as tie
 
 abbrev Inv-loop : tie.InvT-loop
 Inv-loop l at₀ count₀ at count = (at ≤ length l + 1) × (count ≤ at) × (count + length (numbersFrom 4 l at) ≡ length (numbersOf 4 l))

@@ -1,6 +1,6 @@
 use Rattle.spec.specs.Build.{isStepLine}
-use Rattle.steps.proofs.is_step_line.Statement.{statement}
-use Rattle.steps.proofs.is_step_line.Tie as tie
+use Rattle.number_lines.proofs.is_step_line.Statement.{statement}
+use Rattle.number_lines.proofs.is_step_line.Tie as tie
 
 pub is-step-line-spec : {M : Type 1} → statement M
 unfolding isStepLine

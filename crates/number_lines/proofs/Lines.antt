@@ -11,7 +11,7 @@ use lib.Seq.{take-suc-set, length-take-le}
 use borrow.Author.Tests.{leb-false}
 use Rattle.spec.specs.Lists.{any}
 use Rattle.lists.specs.Laws.{here, any-none}
-use Rattle.steps.specs.Holds.{Few, Begins}
+use Rattle.number_lines.specs.Numbers.{Few, Begins}
 
 -- numbers of which none is unknown are few enough, and low
 pub few-known : {most : ℕ} (bound known : ℕ) (ns : List ℕ) → length ns ≤ most → any (leb known) ns ≡ false → known ≤ bound → Few most bound ns

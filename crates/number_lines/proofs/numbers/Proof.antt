@@ -4,9 +4,9 @@ use lib.ListN.{length}
 use Rattle.spec.specs.Forms.{numbersOf}
 use Rattle.text.specs.Scan.{numbersFrom}
 use Rattle.text.proofs.Scans.{numbers-first, numbers-none}
-use Rattle.steps.proofs.Lines.{Filled, filled-none, filled-room, filled-more, filled-all}
-use Rattle.steps.proofs.numbers.Statement.{statement}
-use Rattle.steps.proofs.numbers.Tie as tie
+use Rattle.number_lines.proofs.Lines.{Filled, filled-none, filled-room, filled-more, filled-all}
+use Rattle.number_lines.proofs.numbers.Statement.{statement}
+use Rattle.number_lines.proofs.numbers.Tie as tie
 
 abbrev Inv-loop : tie.InvT-loop
 Inv-loop l xs₀ count₀ at₀ xs count at = (at ≤ length l + 1) × Filled (numbersOf 4 l) xs count (numbersFrom 4 l at)
