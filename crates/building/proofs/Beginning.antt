@@ -12,7 +12,7 @@ use Rattle.spec.specs.Build.{start, initialOf}
 use Rattle.lists.specs.Arrays.{blank}
 use Rattle.steps.specs.Holds.{HoldsMarking}
 use Rattle.runs.specs.Built.{good-start, start-count, blank as blankCondition}
-use Rattle.playing.specs.Tally.{heldIn, watchedFrom, ownAll, Tallied}
+use Rattle.tallying.specs.Tally.{heldIn, watchedFrom, ownAll, Tallied}
 use Rattle.playing.specs.Holds.{Starts}
 use Rattle.playing.specs.declared.History.{History}
 use Rattle.building.specs.Holds.{HoldsRun}

@@ -13,18 +13,19 @@ use Rattle.spec.specs.Lists.{In, upTo, sumOf, asCount}
 use Rattle.spec.specs.Net.{Net, places, takes, makes, inhibits}
 use Rattle.spec.specs.Step.{EnabledAt, short, inhibited, play}
 use Rattle.spec.specs.Build.{Event, Run as RunD, inStep, takeAll, makeAll, playStep, marksDue}
-use Rattle.steps.specs.Holds.{HoldsStep, HoldsMarking, Sums, cellAt, falls, blocks, Plays}
+use Rattle.steps.specs.Holds.{HoldsStep, HoldsMarking, Sums, Arcs, cellAt, falls, blocks, Plays}
 use Rattle.steps.specs.declared.Marking.{Marking}
 use Rattle.steps.proofs.Held.{step-length, sums-held, short-held, inhibited-held, play-held}
 use Rattle.runs.specs.Flows.{flows}
 use Rattle.runs.specs.Consume.{made-of, makeAll-makings, length-takeAll}
 use Rattle.runs.specs.Steps.{enabled-tests}
 use Rattle.runs.specs.Built.{Good, good-step}
-use Rattle.playing.specs.Tally.{entryAt, timesAt, Tallied, Tallies}
-use Rattle.playing.specs.Holds.{eventsOf, conditionsOf, Arcs, Grown}
-use Rattle.playing.specs.declared.Tally.{Tally}
+use Rattle.tallying.specs.Tally.{entryAt, timesAt, Tallied, Tallies}
+use Rattle.playing.specs.Holds.{eventsOf, conditionsOf, Grown}
+use Rattle.tallying.specs.declared.Tally.{Tally}
 use Rattle.playing.specs.declared.History.{History}
-use Rattle.playing.proofs.Held.{flows-total, events-grown, conditions-grown, tally-grown, marks-tallied}
+use Rattle.tallying.proofs.Held.{tally-grown, marks-tallied}
+use Rattle.playing.proofs.Held.{flows-total, events-grown, conditions-grown}
 use Rattle.building.specs.Holds.{HoldsRun, stepOn}
 use Rattle.building.specs.declared.Run.{Run}
 use Rattle.building.proofs.Reaching.{events-length, events-held, conditions-held}

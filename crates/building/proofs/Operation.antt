@@ -18,7 +18,7 @@ use Rattle.text.specs.Agree.{Agrees, giving, refusing}
 use Rattle.net.specs.Holds.{Holds, Reads, netCounts, answerOf as netAnswer}
 use Rattle.net.specs.declared.NetRead.{NetRead}
 use Rattle.net.specs.declared.NetAnswer.{NetAnswer}
-use Rattle.steps.specs.Holds.{HoldsMarking}
+use Rattle.steps.specs.Holds.{HoldsMarking, Arcs}
 use Rattle.steps.proofs.Held.{initial-held}
 use Rattle.runs.specs.NetLimits.{NetLimits, net-limits}
 use Rattle.runs.specs.ReadRecord.{Fits}
@@ -28,7 +28,6 @@ use Rattle.runs.specs.Marks.{well-formed}
 use Rattle.runs.specs.Sizes.{record-size}
 use Rattle.writing.specs.Written.{Wrote}
 use Rattle.writing.proofs.Laws.{put-over}
-use Rattle.playing.specs.Holds.{Arcs}
 use Rattle.building.specs.Holds.{HoldsRun, HoldsAny, Begun, Begins, logAnswer, given, nothing, buildAnswer, Builds}
 use Rattle.building.specs.declared.Run.{Run}
 use Rattle.building.specs.declared.LogAnswer.{LogAnswer}

@@ -15,11 +15,11 @@ use Rattle.lists.specs.Laws
 use Rattle.lists.specs.Tables.{length-table}
 use Rattle.steps.specs.Holds.{IsStep, Sums, cellAt, falls, Playable}
 use Rattle.playing.specs.Conditions.{conditionIn, conditionsIn}
-use Rattle.playing.specs.Tally.{AtMost, Small, Tallies}
+use Rattle.tallying.specs.Tally.{AtMost, Small, Tallies}
 use Rattle.playing.specs.Holds.{eventIn, eventsIn, eventsOf, conditionsOf}
-use Rattle.playing.specs.declared.Tally.{Tally}
+use Rattle.tallying.specs.declared.Tally.{Tally}
 use Rattle.playing.specs.declared.History.{History}
-use Rattle.playing.proofs.Held.{small}
+use Rattle.tallying.proofs.Held.{small}
 use Rattle.building.specs.Holds.{HoldsRun, Reached}
 use Rattle.building.specs.declared.Run.{Run}
 

@@ -16,10 +16,10 @@ use Rattle.spec.specs.Record.{Condition, Mark, names, due, eventLine, condition
 use Rattle.spec.specs.Build.{Event, noEvent, Run as RunD, earlier, markOf, marksOn, marksFrom, marksDue, recordOf}
 use Rattle.lists.specs.Laws
 use Rattle.lists.specs.Tables.{table-same}
-use Rattle.steps.specs.Holds.{cellAt}
+use Rattle.steps.specs.Holds.{cellAt, Arcs}
 use Rattle.runs.specs.Built.{Sound}
 use Rattle.playing.specs.Conditions.{decoded, conditionIn, conditionsIn}
-use Rattle.playing.specs.Holds.{eventIn, eventsIn, eventsOf, conditionsOf, Arcs}
+use Rattle.playing.specs.Holds.{eventIn, eventsIn, eventsOf, conditionsOf}
 use Rattle.playing.proofs.Coded.{event-coded}
 use Rattle.building.specs.Holds.{HoldsRun}
 use Rattle.recording.specs.Bytes.{joinedTo, eventBytes, codedLine, conditionBytes, dueAt, earlierAt, kindIf, markBytes, marksBytes, historyBytes, Coded, Writable}

@@ -10,7 +10,7 @@ use Rattle.spec.specs.Record.{bench}
 use Rattle.spec.specs.Build.{Run as RunD, start, logLine, playLog}
 use Rattle.text.specs.Agree.{Agrees, giving, refusing}
 use Rattle.text.proofs.ByLines.{line-taken, line-refused, lines-done}
-use Rattle.playing.specs.Holds.{Arcs}
+use Rattle.steps.specs.Holds.{Arcs}
 use Rattle.building.specs.Holds.{HoldsRun, HoldsAny, Reached, Begun, LinesOn, PlaysLog, logAnswer, given, nothing}
 use Rattle.building.specs.declared.Run.{Run}
 use Rattle.building.specs.declared.Played.{Played}

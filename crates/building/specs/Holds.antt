@@ -16,10 +16,10 @@ use Rattle.spec.specs.Buffer.{buildLeaves}
 use Rattle.text.specs.Agree.{Agrees}
 use Rattle.net.specs.Holds.{lineOf, answerOf as netAnswer}
 use Rattle.net.specs.declared.NetAnswer.{NetAnswer}
-use Rattle.steps.specs.Holds.{HoldsStep, HoldsMarking}
+use Rattle.steps.specs.Holds.{HoldsStep, HoldsMarking, Arcs}
 use Rattle.runs.specs.Built.{Good}
-use Rattle.playing.specs.Tally.{Tallied}
-use Rattle.playing.specs.Holds.{eventsOf, conditionsOf, Arcs, Whole}
+use Rattle.tallying.specs.Tally.{Tallied}
+use Rattle.playing.specs.Holds.{eventsOf, conditionsOf, Whole}
 use Rattle.building.specs.declared.Run.{Run}
 use Rattle.building.specs.declared.Played.{Played}
 use Rattle.building.specs.declared.BuildAnswer.{BuildAnswer}

@@ -14,12 +14,8 @@ use number_lines::count_numbers;
 use number_lines::is_step_line;
 use number_lines::numbers;
 use playing::History;
-use playing::Tally;
 use playing::grow;
-use playing::products;
 use playing::start;
-use playing::tally_step;
-use playing::total;
 use recording::put_record;
 use steps::Marking;
 use steps::inhibited;
@@ -27,6 +23,10 @@ use steps::marking_of;
 use steps::play;
 use steps::short;
 use steps::sums;
+use tallying::Tally;
+use tallying::products;
+use tallying::tally_step;
+use tallying::total;
 use text::line_at;
 
 // What a log played so far: the running marking, what is counted, and the history.

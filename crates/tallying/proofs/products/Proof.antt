@@ -3,10 +3,10 @@ use mathlib.Core.Path.{_≡_, refl, sym}
 use native.Mathlib.Omega.{arith}
 use Rattle.spec.specs.Lists.{upTo, sumOf}
 use Rattle.lists.specs.Grouped.{sumOf-next, sumOf-none}
-use Rattle.playing.specs.Tally.{timesAt}
-use Rattle.playing.proofs.Tallying.{times-here, product-fits}
-use Rattle.playing.proofs.products.Statement.{statement}
-use Rattle.playing.proofs.products.Tie as tie
+use Rattle.tallying.specs.Tally.{timesAt}
+use Rattle.tallying.proofs.Tallying.{times-here, product-fits}
+use Rattle.tallying.proofs.products.Statement.{statement}
+use Rattle.tallying.proofs.products.Tie as tie
 
 abbrev Inv-loop : tie.InvT-loop
 Inv-loop xs ys m r₀ p₀ r p = (p ≤ m) × (r ≤ 1000000000000 * p) × (r ≡ sumOf (timesAt xs ys) (upTo p))

@@ -17,7 +17,7 @@ use Rattle.lists.specs.Laws
 use Rattle.lists.specs.Grouped.{sumOf-scaled, count-by}
 use Rattle.runs.specs.Built.{Good}
 use Rattle.runs.specs.Growth.{on-length}
-use Rattle.playing.specs.Tally.{heldIn, watchedFrom, ownOf, ownAll}
+use Rattle.tallying.specs.Tally.{heldIn, watchedFrom, ownOf, ownAll}
 
 -- ---- the marks of one event
 

@@ -3,10 +3,10 @@ use mathlib.Core.Path.{_≡_, sym}
 use native.Mathlib.Omega.{arith}
 use lib.ListN.{take}
 use Rattle.spec.specs.Lists.{sumOf}
-use Rattle.playing.specs.Tally.{bothOf}
-use Rattle.playing.proofs.Tallying.{all-none, all-next}
-use Rattle.playing.proofs.own_all.Statement.{statement}
-use Rattle.playing.proofs.own_all.Tie as tie
+use Rattle.tallying.specs.Tally.{bothOf}
+use Rattle.tallying.proofs.Tallying.{all-none, all-next}
+use Rattle.tallying.proofs.own_all.Statement.{statement}
+use Rattle.tallying.proofs.own_all.Tie as tie
 
 abbrev Inv-loop : tie.InvT-loop
 Inv-loop inhibitors outputs step count m r₀ i₀ r i = (i ≤ count) × (r ≤ 2080800 * i) × (r ≡ sumOf (bothOf inhibitors outputs m) (take i step))

@@ -4,10 +4,10 @@ use native.Mathlib.Nat.{le-refl}
 use native.Mathlib.Omega.{arith}
 use lib.ListN.{length}
 use Rattle.lists.specs.Mapped.{Mapped, mapped-none, mapped-more, mapped-end}
-use Rattle.playing.specs.Tally.{plusAt}
-use Rattle.playing.proofs.Tallying.{plus-here}
-use Rattle.playing.proofs.plus.Statement.{statement}
-use Rattle.playing.proofs.plus.Tie as tie
+use Rattle.tallying.specs.Tally.{plusAt}
+use Rattle.tallying.proofs.Tallying.{plus-here}
+use Rattle.tallying.proofs.plus.Statement.{statement}
+use Rattle.tallying.proofs.plus.Tie as tie
 
 abbrev Inv-loop : tie.InvT-loop
 Inv-loop ys m r₀ p₀ r p = (p ≤ m) × Mapped r₀ p (plusAt r₀ ys) r

@@ -3,9 +3,9 @@ use mathlib.Core.Path.{_≡_, sym}
 use native.Mathlib.Omega.{arith}
 use Rattle.spec.specs.Lists.{upTo, sumOf}
 use Rattle.lists.specs.Grouped.{sumOf-next, sumOf-none}
-use Rattle.playing.specs.Tally.{entryAt}
-use Rattle.playing.proofs.total.Statement.{statement}
-use Rattle.playing.proofs.total.Tie as tie
+use Rattle.tallying.specs.Tally.{entryAt}
+use Rattle.tallying.proofs.total.Statement.{statement}
+use Rattle.tallying.proofs.total.Tie as tie
 
 abbrev Inv-loop : tie.InvT-loop
 Inv-loop xs m r₀ p₀ r p = (p ≤ m) × (r ≤ 4294967295 * p) × (r ≡ sumOf (entryAt xs) (upTo p))

@@ -11,7 +11,7 @@ use Rattle.lists.specs.Along.{sumOf-more}
 use Rattle.lists.specs.Mapped.{Mapped}
 use Rattle.lists.specs.Grouped.{sumOf-next, sumOf-none}
 use Rattle.steps.specs.Holds.{cellAt, IsStep, Sums}
-use Rattle.playing.specs.Tally.{plusAt, timesAt, bothAt, bothOf, AtMost}
+use Rattle.tallying.specs.Tally.{plusAt, timesAt, bothAt, bothOf, AtMost}
 
 -- what the code stores at p
 pub plus-here : {old : List ℕ} (new ys : List ℕ) (p : ℕ) → Mapped old p (plusAt old ys) new → getD new p 0 + getD ys p 0 ≡ plusAt old ys p

@@ -2,9 +2,9 @@ use Prim.Native.Nat.{_+_}
 use mathlib.Core.Path.{_≡_, ap, _∙_}
 use native.Mathlib.Omega.{arith}
 use borrow.Author.Needs.{needs}
-use Rattle.playing.proofs.Tallying.{sums-low, plus-sums}
-use Rattle.playing.proofs.tally_step.Statement.{statement}
-use Rattle.playing.proofs.tally_step.Tie as tie
+use Rattle.tallying.proofs.Tallying.{sums-low, plus-sums}
+use Rattle.tallying.proofs.tally_step.Statement.{statement}
+use Rattle.tallying.proofs.tally_step.Tie as tie
 
 pub tally-step-spec : {M : Type 1} → statement M
 tally-step-spec = tie.close (tie.spec

@@ -10,7 +10,7 @@ use Rattle.spec.specs.Net.{Net, places, makes, inhibits}
 use Rattle.spec.specs.Record.{Condition}
 use Rattle.spec.specs.Build.{Event, Run}
 use Rattle.steps.specs.Holds.{cellAt}
-use Rattle.playing.specs.declared.Tally.{Tally}
+use Rattle.tallying.specs.declared.Tally.{Tally}
 
 -- the condition is one of place p
 unfoldable pub heldIn : ℕ → Condition → Bool

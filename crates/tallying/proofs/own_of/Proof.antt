@@ -1,10 +1,10 @@
 use Prim.Native.Nat.{_-_, _*_, _≤_}
 use mathlib.Core.Path.{_≡_, refl, sym}
 use native.Mathlib.Omega.{arith}
-use Rattle.playing.specs.Tally.{bothOf}
-use Rattle.playing.proofs.Tallying.{both-none, both-next, product-fits}
-use Rattle.playing.proofs.own_of.Statement.{statement}
-use Rattle.playing.proofs.own_of.Tie as tie
+use Rattle.tallying.specs.Tally.{bothOf}
+use Rattle.tallying.proofs.Tallying.{both-none, both-next, product-fits}
+use Rattle.tallying.proofs.own_of.Statement.{statement}
+use Rattle.tallying.proofs.own_of.Tie as tie
 
 abbrev Inv-loop : tie.InvT-loop
 Inv-loop inhibitors outputs t m r₀ p₀ r p = (p ≤ m) × (r ≤ 65025 * p) × (r ≡ bothOf inhibitors outputs p t)
