@@ -28,13 +28,14 @@ use Rattle.runs.specs.Marks.{well-formed}
 use Rattle.runs.specs.Sizes.{record-size}
 use Rattle.writing.specs.Written.{Wrote}
 use Rattle.writing.proofs.Laws.{put-over}
-use Rattle.building.specs.Holds.{HoldsRun, HoldsAny, Begun, Begins, logAnswer, given, nothing, buildAnswer, Builds}
-use Rattle.building.specs.declared.Run.{Run}
-use Rattle.building.specs.declared.LogAnswer.{LogAnswer}
+use Rattle.logs.specs.Holds.{HoldsRun, HoldsAny, Begun, Begins, logAnswer, given, nothing}
+use Rattle.logs.specs.declared.Run.{Run}
+use Rattle.logs.specs.declared.LogAnswer.{LogAnswer}
+use Rattle.logs.proofs.Beginning.{tokens-are}
 use Rattle.recording.specs.Bytes.{historyBytes, Writable}
+use Rattle.building.specs.Holds.{buildAnswer, Builds}
 use Rattle.building.specs.declared.BuildAnswer.{BuildAnswer}
 use Rattle.building.specs.declared.BuildAnswer.the-variants.{Written}
-use Rattle.building.proofs.Beginning.{tokens-are}
 use Rattle.building.proofs.Recorded.{writable, bytes-held}
 
 -- ---- the net, and the log

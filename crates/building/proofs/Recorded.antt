@@ -21,11 +21,11 @@ use Rattle.runs.specs.Built.{Sound}
 use Rattle.playing.specs.Conditions.{decoded, conditionIn, conditionsIn}
 use Rattle.playing.specs.Holds.{eventIn, eventsIn, eventsOf, conditionsOf}
 use Rattle.playing.proofs.Coded.{event-coded}
-use Rattle.building.specs.Holds.{HoldsRun}
 use Rattle.recording.specs.Bytes.{joinedTo, eventBytes, codedLine, conditionBytes, dueAt, earlierAt, kindIf, markBytes, marksBytes, historyBytes, Coded, Writable}
 use Rattle.playing.specs.declared.History.{History}
-use Rattle.building.specs.declared.Run.{Run}
-use Rattle.building.proofs.Reaching.{events-held, conditions-held}
+use Rattle.logs.specs.Holds.{HoldsRun}
+use Rattle.logs.specs.declared.Run.{Run}
+use Rattle.logs.proofs.Reaching.{events-held, conditions-held}
 
 -- ---- marks by tables of events and conditions
 

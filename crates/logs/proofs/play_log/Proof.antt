@@ -3,9 +3,9 @@ use mathlib.Core.Path.{_≡_, sym, _∙_}
 use native.Mathlib.Omega.{arith}
 use lib.ListN.{length}
 use borrow.Author.Tests.{not-true, not-false}
-use Rattle.building.proofs.Running.{Runs, runs-none, runs-next, runs-stop, runs-end, reached}
-use Rattle.building.proofs.play_log.Statement.{statement}
-use Rattle.building.proofs.play_log.Tie as tie
+use Rattle.logs.proofs.Running.{Runs, runs-none, runs-next, runs-stop, runs-end, reached}
+use Rattle.logs.proofs.play_log.Statement.{statement}
+use Rattle.logs.proofs.play_log.Tie as tie
 
 abbrev Inv-loop : tie.InvT-loop
 Inv-loop log inputs outputs inhibitors places transitions run₀ k₀ at₀ run k at = (at ≤ length log + 1) × (k ≤ at + 1) × Runs inputs outputs inhibitors places transitions log k at run₀ run

@@ -1,7 +1,7 @@
 use borrow.Author.Needs.{needs}
-use Rattle.building.proofs.Beginning.{begins}
-use Rattle.building.proofs.begin.Statement.{statement}
-use Rattle.building.proofs.begin.Tie as tie
+use Rattle.logs.proofs.Beginning.{begins}
+use Rattle.logs.proofs.begin.Statement.{statement}
+use Rattle.logs.proofs.begin.Tie as tie
 
 pub begin-spec : {M : Type 1} → statement M
 begin-spec = tie.close (tie.spec

@@ -6,10 +6,10 @@ use Rattle.spec.specs.Forms.{numbersOf}
 use Rattle.text.specs.Agree.{giving, refusing}
 use Rattle.net.specs.Holds.{lineOf}
 use Rattle.number_lines.proofs.Lines.{few-known}
-use Rattle.building.proofs.Reaching.{events-held}
-use Rattle.building.proofs.Lines.{some-number, answers-21, answers-22, answers-23, answers-step, line-known, line-step}
-use Rattle.building.proofs.log_line.Statement.{statement}
-use Rattle.building.proofs.log_line.Tie as tie
+use Rattle.logs.proofs.Reaching.{events-held}
+use Rattle.logs.proofs.Lines.{some-number, answers-21, answers-22, answers-23, answers-step, line-known, line-step}
+use Rattle.logs.proofs.log_line.Statement.{statement}
+use Rattle.logs.proofs.log_line.Tie as tie
 
 pub log-line-spec : {M : Type 1} → statement M
 log-line-spec = tie.close (tie.spec
