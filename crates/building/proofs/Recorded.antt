@@ -18,9 +18,9 @@ use Rattle.lists.specs.Laws
 use Rattle.lists.specs.Tables.{table-same}
 use Rattle.steps.specs.Holds.{cellAt, Arcs}
 use Rattle.runs.specs.Built.{Sound}
-use Rattle.playing.specs.Conditions.{decoded, conditionIn, conditionsIn}
+use Rattle.conditions.specs.Conditions.{decoded, conditionIn, conditionsIn}
 use Rattle.playing.specs.Holds.{eventIn, eventsIn, eventsOf, conditionsOf}
-use Rattle.playing.proofs.Coded.{event-coded}
+use Rattle.conditions.proofs.Coded.{event-coded}
 use Rattle.recording.specs.Bytes.{joinedTo, eventBytes, codedLine, conditionBytes, dueAt, earlierAt, kindIf, markBytes, marksBytes, historyBytes, Coded, Writable}
 use Rattle.playing.specs.declared.History.{History}
 use Rattle.logs.specs.Holds.{HoldsRun}

@@ -14,7 +14,7 @@ use Rattle.spec.specs.Build.{Run as RunD, isFree}
 use Rattle.lists.specs.Laws
 use Rattle.lists.specs.Tables.{length-table}
 use Rattle.steps.specs.Holds.{IsStep, Sums, cellAt, falls, Playable}
-use Rattle.playing.specs.Conditions.{conditionIn, conditionsIn}
+use Rattle.conditions.specs.Conditions.{conditionIn, conditionsIn}
 use Rattle.tallying.specs.Tally.{AtMost, Small, Tallies}
 use Rattle.playing.specs.Holds.{eventIn, eventsIn, eventsOf, conditionsOf}
 use Rattle.tallying.specs.declared.Tally.{Tally}

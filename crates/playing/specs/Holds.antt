@@ -9,7 +9,7 @@ use Rattle.spec.specs.Build.{Event, initialOf, inStep}
 use Rattle.steps.specs.Holds.{cellAt}
 use Rattle.runs.specs.Flows.{flows}
 use Rattle.runs.specs.Consume.{taking, made-of}
-use Rattle.playing.specs.Conditions.{conditionsIn, Sized, Cursors}
+use Rattle.conditions.specs.Conditions.{conditionsIn, Sized, Cursors}
 use Rattle.playing.specs.declared.History.{History}
 
 -- ---- events

@@ -15,7 +15,7 @@ use Rattle.spec.specs.Record.{eventField, conditionLine, markLineOf}
 use Rattle.spec.specs.declared.Field.{Field}
 use Rattle.spec.specs.declared.Field.the-variants.{Number}
 use Rattle.steps.specs.Holds.{cellAt}
-use Rattle.playing.specs.Conditions.{decoded}
+use Rattle.conditions.specs.Conditions.{decoded}
 use Rattle.writing.specs.Written.{Wrote, lineBytes}
 use Rattle.writing.proofs.Laws.{none, after, wrote-length}
 use Rattle.recording.specs.Bytes.{joinedTo, codedLine, kindIf, dueAt, earlierAt, markBytes, eventBytes, conditionBytes, marksBytes, historyBytes}

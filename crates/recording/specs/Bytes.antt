@@ -9,7 +9,7 @@ use Rattle.spec.specs.Record.{eventLine, conditionLine, markLineOf}
 use Rattle.spec.specs.declared.MarkKind.{MarkKind}
 use Rattle.spec.specs.declared.MarkKind.the-variants.{Before, After}
 use Rattle.steps.specs.Holds.{cellAt}
-use Rattle.playing.specs.Conditions.{decoded}
+use Rattle.conditions.specs.Conditions.{decoded}
 use Rattle.playing.specs.declared.History.{History}
 
 -- what f gives for each number below n, one after the other

@@ -4,7 +4,7 @@ ghost use Prim.Native.Nat.{_+_, _≤_, _<_};
 ghost use lib.ListN.{length, getD};
 ghost use Rattle.spec.specs.Record.{eventField, eventLine, markLineOf};
 ghost use Rattle.writing.specs.Written.{Wrote};
-ghost use Rattle.playing.specs.Conditions.{decoded};
+ghost use Rattle.conditions.specs.Conditions.{decoded};
 ghost use Rattle.recording.specs.Bytes.{joinedTo, eventBytes, codedLine, conditionBytes, kindIf, earlierAt, markBytes, marksBytes, historyBytes, Coded, CodedTo, LowTo, Writable};
 use playing::History;
 use spec::Field;

@@ -1,7 +1,7 @@
 use mathlib.Core.Path.{_≡_, refl}
 use borrow.Author.Tests.{eq-eqb, ne-eqb}
 use Rattle.spec.specs.Record.{eventField}
-use Rattle.playing.specs.Conditions.{decoded}
+use Rattle.conditions.specs.Conditions.{decoded}
 use Rattle.recording.proofs.event_field.Statement.{statement}
 use Rattle.recording.proofs.event_field.Tie as tie
 

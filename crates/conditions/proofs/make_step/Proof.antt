@@ -6,11 +6,11 @@ use lib.ListN.{take, length-map}
 use Rattle.steps.specs.Holds.{cellAt}
 use Rattle.runs.specs.Flows.{flows}
 use Rattle.runs.specs.Consume.{made-of}
-use Rattle.playing.specs.Conditions.{Made}
-use Rattle.playing.proofs.Tokens.{flows-none, event-fits}
-use Rattle.playing.proofs.Making.{made-nothing, made-then, made-as, outputs-after}
-use Rattle.playing.proofs.make_step.Statement.{statement}
-use Rattle.playing.proofs.make_step.Tie as tie
+use Rattle.conditions.specs.Conditions.{Made}
+use Rattle.conditions.proofs.Tokens.{flows-none, event-fits}
+use Rattle.conditions.proofs.Making.{made-nothing, made-then, made-as, outputs-after}
+use Rattle.conditions.proofs.make_step.Statement.{statement}
+use Rattle.conditions.proofs.make_step.Tie as tie
 
 abbrev Inv-loop : tie.InvT-loop
 Inv-loop e step count outputs m n places₀ producers₀ consumers₀ r₀ i₀ places producers consumers r i =

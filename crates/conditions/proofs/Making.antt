@@ -13,9 +13,9 @@ use Rattle.steps.specs.Holds.{cellAt}
 use Rattle.lists.specs.Tables.{table-more}
 use Rattle.runs.specs.Flows.{flow, flows}
 use Rattle.runs.specs.Consume.{made-of}
-use Rattle.playing.specs.Conditions.{tokensOf, decoded, conditionIn, conditionsIn, fresh, Sized, Made}
-use Rattle.playing.proofs.Coded.{event-coded}
-use Rattle.playing.proofs.Tokens.{tokens-next, flows-next}
+use Rattle.conditions.specs.Conditions.{tokensOf, decoded, conditionIn, conditionsIn, fresh, Sized, Made}
+use Rattle.conditions.proofs.Coded.{event-coded}
+use Rattle.conditions.proofs.Tokens.{tokens-next, flows-next}
 
 none-there : decoded 128 ≡ none
 unfolding decoded

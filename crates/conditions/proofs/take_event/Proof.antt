@@ -1,11 +1,11 @@
 use Prim.Native.Nat.{_-_, _≤_}
 use mathlib.Core.Path.{_≡_, sym}
 use native.Mathlib.Omega.{arith}
-use Rattle.playing.specs.Conditions.{tokensOf, Took}
-use Rattle.playing.proofs.Tokens.{tokens-none, tokens-next}
-use Rattle.playing.proofs.Taking.{took-nothing, took-then, took-as}
-use Rattle.playing.proofs.take_event.Statement.{statement}
-use Rattle.playing.proofs.take_event.Tie as tie
+use Rattle.conditions.specs.Conditions.{tokensOf, Took}
+use Rattle.conditions.proofs.Tokens.{tokens-none, tokens-next}
+use Rattle.conditions.proofs.Taking.{took-nothing, took-then, took-as}
+use Rattle.conditions.proofs.take_event.Statement.{statement}
+use Rattle.conditions.proofs.take_event.Tie as tie
 
 abbrev Inv-loop : tie.InvT-loop
 Inv-loop e t inputs m n places consumers₀ next₀ p₀ consumers next p = (p ≤ m) × Took (tokensOf inputs p e t) n places consumers₀ next₀ consumers next

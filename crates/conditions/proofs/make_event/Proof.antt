@@ -4,11 +4,11 @@ use mathlib.Core.List.{map}
 use native.Mathlib.Omega.{arith}
 use lib.ListN.{length-map}
 use Rattle.runs.specs.Consume.{made-of}
-use Rattle.playing.specs.Conditions.{tokensOf, Made}
-use Rattle.playing.proofs.Tokens.{tokens-none, place-fits}
-use Rattle.playing.proofs.Making.{made-nothing, made-then, made-as, outputs-next}
-use Rattle.playing.proofs.make_event.Statement.{statement}
-use Rattle.playing.proofs.make_event.Tie as tie
+use Rattle.conditions.specs.Conditions.{tokensOf, Made}
+use Rattle.conditions.proofs.Tokens.{tokens-none, place-fits}
+use Rattle.conditions.proofs.Making.{made-nothing, made-then, made-as, outputs-next}
+use Rattle.conditions.proofs.make_event.Statement.{statement}
+use Rattle.conditions.proofs.make_event.Tie as tie
 
 abbrev Inv-loop : tie.InvT-loop
 Inv-loop e t outputs m n places₀ producers₀ consumers₀ r₀ p₀ places producers consumers r p =

@@ -3,10 +3,10 @@ use mathlib.Core.Path.{_≡_}
 use native.Mathlib.Omega.{arith}
 use lib.ListN.{replicate}
 use Rattle.runs.specs.Flows.{flow}
-use Rattle.playing.specs.Conditions.{Took}
-use Rattle.playing.proofs.Taking.{took-nothing, took-again, took-as}
-use Rattle.playing.proofs.take_times.Statement.{statement}
-use Rattle.playing.proofs.take_times.Tie as tie
+use Rattle.conditions.specs.Conditions.{Took}
+use Rattle.conditions.proofs.Taking.{took-nothing, took-again, took-as}
+use Rattle.conditions.proofs.take_times.Statement.{statement}
+use Rattle.conditions.proofs.take_times.Tie as tie
 
 abbrev Inv-loop : tie.InvT-loop
 Inv-loop e p count n places consumers₀ next₀ k₀ consumers next k = (k ≤ count) × Took (replicate k (flow e p)) n places consumers₀ next₀ consumers next

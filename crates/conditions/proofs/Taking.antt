@@ -15,8 +15,8 @@ use Rattle.spec.specs.Build.{isFree, consumedBy, consume}
 use Rattle.lists.specs.Tables.{table-set}
 use Rattle.runs.specs.Flows.{Flow, flow}
 use Rattle.runs.specs.Consume.{taking}
-use Rattle.playing.proofs.Coded.{length-conditions, condition-at, event-coded, free-is}
-use Rattle.playing.specs.Conditions.{conditionIn, conditionsIn, freeAt, FirstFree, Ready, Took}
+use Rattle.conditions.proofs.Coded.{length-conditions, condition-at, event-coded, free-is}
+use Rattle.conditions.specs.Conditions.{conditionIn, conditionsIn, freeAt, FirstFree, Ready, Took}
 
 -- ---- the test of the code
 

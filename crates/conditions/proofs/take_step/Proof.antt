@@ -4,11 +4,11 @@ use native.Mathlib.Omega.{arith}
 use lib.ListN.{take}
 use Rattle.steps.specs.Holds.{cellAt}
 use Rattle.runs.specs.Flows.{flows}
-use Rattle.playing.specs.Conditions.{Took}
-use Rattle.playing.proofs.Tokens.{flows-none, flows-next}
-use Rattle.playing.proofs.Taking.{took-nothing, took-then, took-as}
-use Rattle.playing.proofs.take_step.Statement.{statement}
-use Rattle.playing.proofs.take_step.Tie as tie
+use Rattle.conditions.specs.Conditions.{Took}
+use Rattle.conditions.proofs.Tokens.{flows-none, flows-next}
+use Rattle.conditions.proofs.Taking.{took-nothing, took-then, took-as}
+use Rattle.conditions.proofs.take_step.Statement.{statement}
+use Rattle.conditions.proofs.take_step.Tie as tie
 
 abbrev Inv-loop : tie.InvT-loop
 Inv-loop e step count inputs m n places consumers₀ next₀ i₀ consumers next i = (i ≤ count) × Took (flows (cellAt inputs) m e (take i step)) n places consumers₀ next₀ consumers next

@@ -11,7 +11,7 @@ use Rattle.spec.specs.Lists.{from, upTo, flat}
 use Rattle.lists.specs.Laws
 use Rattle.steps.specs.Holds.{cellAt}
 use Rattle.runs.specs.Flows.{flow, spread, flows}
-use Rattle.playing.specs.Conditions.{tokensOf}
+use Rattle.conditions.specs.Conditions.{tokensOf}
 
 spread-more : (h : ℕ → ℕ) (p : ℕ) → spread h (p + 1) ≡ spread h p ++ replicate (h p) p
 unfolding spread

@@ -2,10 +2,10 @@ use Prim.Native.Nat.{_+_, _-_, _≤_}
 use mathlib.Core.Path.{_≡_, refl}
 use native.Mathlib.Omega.{arith}
 use lib.ListN.{replicate}
-use Rattle.playing.specs.Conditions.{fresh, Made}
-use Rattle.playing.proofs.Making.{made-nothing, made-one, made-again, made-as}
-use Rattle.playing.proofs.make_times.Statement.{statement}
-use Rattle.playing.proofs.make_times.Tie as tie
+use Rattle.conditions.specs.Conditions.{fresh, Made}
+use Rattle.conditions.proofs.Making.{made-nothing, made-one, made-again, made-as}
+use Rattle.conditions.proofs.make_times.Statement.{statement}
+use Rattle.conditions.proofs.make_times.Tie as tie
 
 abbrev Inv-loop : tie.InvT-loop
 Inv-loop v p count n places₀ producers₀ consumers₀ k₀ places producers consumers k =

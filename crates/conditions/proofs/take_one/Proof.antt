@@ -1,8 +1,8 @@
 use native.Mathlib.Omega.{arith}
 use borrow.Author.Needs.{needs}
-use Rattle.playing.proofs.Taking.{took-none, took-one}
-use Rattle.playing.proofs.take_one.Statement.{statement}
-use Rattle.playing.proofs.take_one.Tie as tie
+use Rattle.conditions.proofs.Taking.{took-none, took-one}
+use Rattle.conditions.proofs.take_one.Statement.{statement}
+use Rattle.conditions.proofs.take_one.Tie as tie
 
 pub take-one-spec : {M : Type 1} → statement M
 take-one-spec = tie.close (tie.spec

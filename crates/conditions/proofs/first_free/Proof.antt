@@ -2,10 +2,10 @@ use Prim.Native.Nat.{ℕ, _-_, _≤_, _<_}
 use mathlib.Core.Path.{_≡_}
 use mathlib.Core.Bool.{false}
 use native.Mathlib.Omega.{arith}
-use Rattle.playing.specs.Conditions.{freeAt}
-use Rattle.playing.proofs.Taking.{free-test, passed-more}
-use Rattle.playing.proofs.first_free.Statement.{statement}
-use Rattle.playing.proofs.first_free.Tie as tie
+use Rattle.conditions.specs.Conditions.{freeAt}
+use Rattle.conditions.proofs.Taking.{free-test, passed-more}
+use Rattle.conditions.proofs.first_free.Statement.{statement}
+use Rattle.conditions.proofs.first_free.Tie as tie
 
 abbrev Inv-loop : tie.InvT-loop
 Inv-loop p start end places consumers i₀ i = (start ≤ i) × (i ≤ end) × ((j : ℕ) → start ≤ j → j < i → freeAt p places consumers j ≡ false)

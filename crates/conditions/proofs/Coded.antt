@@ -12,7 +12,7 @@ use Rattle.spec.specs.Record.{isNone, noCondition}
 use Rattle.spec.specs.Build.{isFree}
 use Rattle.lists.specs.Laws
 use Rattle.lists.specs.Tables.{length-table}
-use Rattle.playing.specs.Conditions.{decoded, conditionIn, conditionsIn, freeAt}
+use Rattle.conditions.specs.Conditions.{decoded, conditionIn, conditionsIn, freeAt}
 
 pub length-conditions : (n : ℕ) (ps gs fs : List ℕ) → length (conditionsIn n ps gs fs) ≡ n
 unfolding conditionsIn
