@@ -28,9 +28,10 @@ use Rattle.runs.specs.Marks.{well-formed}
 use Rattle.runs.specs.Sizes.{record-size}
 use Rattle.writing.specs.Written.{Wrote}
 use Rattle.writing.proofs.Laws.{put-over}
-use Rattle.logs.specs.Holds.{HoldsRun, HoldsAny, Begun, Begins, logAnswer, given, nothing}
-use Rattle.logs.specs.declared.Run.{Run}
-use Rattle.logs.specs.declared.LogAnswer.{LogAnswer}
+use Rattle.judging.specs.Holds.{HoldsRun, logAnswer, nothing}
+use Rattle.logs.specs.Holds.{HoldsAny, Begun, Begins, given}
+use Rattle.judging.specs.declared.Run.{Run}
+use Rattle.judging.specs.declared.LogAnswer.{LogAnswer}
 use Rattle.logs.proofs.Beginning.{tokens-are}
 use Rattle.recording.specs.Bytes.{historyBytes, Writable}
 use Rattle.building.specs.Holds.{buildAnswer, Builds}

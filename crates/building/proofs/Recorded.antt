@@ -23,9 +23,9 @@ use Rattle.playing.specs.Holds.{eventIn, eventsIn, eventsOf, conditionsOf}
 use Rattle.conditions.proofs.Coded.{event-coded}
 use Rattle.recording.specs.Bytes.{joinedTo, eventBytes, codedLine, conditionBytes, dueAt, earlierAt, kindIf, markBytes, marksBytes, historyBytes, Coded, Writable}
 use Rattle.playing.specs.declared.History.{History}
-use Rattle.logs.specs.Holds.{HoldsRun}
-use Rattle.logs.specs.declared.Run.{Run}
-use Rattle.logs.proofs.Reaching.{events-held, conditions-held}
+use Rattle.judging.specs.Holds.{HoldsRun}
+use Rattle.judging.specs.declared.Run.{Run}
+use Rattle.judging.proofs.Reaching.{events-held, conditions-held}
 
 -- ---- marks by tables of events and conditions
 

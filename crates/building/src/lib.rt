@@ -2,9 +2,10 @@
 ghost use mathlib.Core.Path.{_≡_};
 ghost use Rattle.spec.specs.Answer.{returned};
 ghost use Rattle.net.specs.Holds.{answerOf as netAnswer};
-ghost use Rattle.logs.specs.Holds.{given, logAnswer};
+ghost use Rattle.judging.specs.Holds.{logAnswer};
+ghost use Rattle.logs.specs.Holds.{given};
 ghost use Rattle.building.specs.Holds.{buildAnswer, Builds};
-use logs::LogAnswer;
+use judging::LogAnswer;
 use logs::begin;
 use logs::goes;
 use logs::play_log;

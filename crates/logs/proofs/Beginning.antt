@@ -15,7 +15,7 @@ use Rattle.runs.specs.Built.{good-start, start-count, blank as blankCondition}
 use Rattle.tallying.specs.Tally.{heldIn, watchedFrom, ownAll, Tallied}
 use Rattle.playing.specs.Holds.{Starts}
 use Rattle.playing.specs.declared.History.{History}
-use Rattle.logs.specs.Holds.{HoldsRun}
+use Rattle.judging.specs.Holds.{HoldsRun}
 
 module _ {m : ℕ} {tokens : List ℕ} (N : Net) (h : HoldsMarking m tokens (N .tokens)) where
   pub tokens-are : take m tokens ≡ N .tokens

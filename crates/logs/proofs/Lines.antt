@@ -21,7 +21,7 @@ use Rattle.number_lines.specs.Numbers.{Begins}
 use Rattle.steps.specs.Holds.{HoldsStep}
 use Rattle.number_lines.proofs.Lines.{few-known}
 use Rattle.steps.proofs.Held.{step-held}
-use Rattle.logs.specs.Holds.{stepOn}
+use Rattle.judging.specs.Holds.{stepOn}
 
 abbrev numbersIn : Line → List ℕ
 numbersIn l = numbersOf mostDigits (l .bytes)

@@ -11,10 +11,11 @@ use Rattle.spec.specs.Build.{Run as RunD, start, logLine, playLog}
 use Rattle.text.specs.Agree.{Agrees, giving, refusing}
 use Rattle.text.proofs.ByLines.{line-taken, line-refused, lines-done}
 use Rattle.steps.specs.Holds.{Arcs}
-use Rattle.logs.specs.Holds.{HoldsRun, HoldsAny, Reached, Begun, LinesOn, PlaysLog, logAnswer, given, nothing}
-use Rattle.logs.specs.declared.Run.{Run}
-use Rattle.logs.specs.declared.Played.{Played}
-use Rattle.logs.specs.declared.LogAnswer.the-variants.{Goes}
+use Rattle.judging.specs.Holds.{HoldsRun, Reached, logAnswer, nothing}
+use Rattle.logs.specs.Holds.{HoldsAny, Begun, LinesOn, PlaysLog, given}
+use Rattle.judging.specs.declared.Run.{Run}
+use Rattle.judging.specs.declared.Played.{Played}
+use Rattle.judging.specs.declared.LogAnswer.the-variants.{Goes}
 
 -- ---- the lines so far
 

@@ -1,54 +1,24 @@
 // The lines of a log, judged and played one after the other from the initial marking.
 ghost use mathlib.Core.Path.{_≡_};
-ghost use Prim.Native.Nat.{_+_, _≤_, _<_};
+ghost use Prim.Native.Nat.{_≤_};
 ghost use lib.ListN.{length, take};
 ghost use Rattle.spec.specs.Lists.{sum};
 ghost use Rattle.net.specs.Holds.{lineOf};
-ghost use Rattle.steps.specs.Holds.{IsStep};
-ghost use Rattle.logs.specs.Holds.{given, logAnswer, Reached, StepsOn, LinesOn, Begun, PlaysLog, Begins};
+ghost use Rattle.judging.specs.Holds.{logAnswer, Reached};
+ghost use Rattle.logs.specs.Holds.{given, LinesOn, Begun, PlaysLog, Begins};
+use judging::LogAnswer;
+use judging::Played;
+use judging::Run;
+use judging::step_on;
 use number_lines::any_unknown;
 use number_lines::count_numbers;
 use number_lines::is_step_line;
 use number_lines::numbers;
-use playing::History;
-use playing::grow;
 use playing::start;
 use steps::Marking;
-use steps::inhibited;
 use steps::marking_of;
-use steps::play;
-use steps::short;
-use steps::sums;
 use tallying::Tally;
-use tallying::products;
-use tallying::tally_step;
-use tallying::total;
 use text::line_at;
-
-// What a log played so far: the running marking, what is counted, and the history.
-pub struct Run {
-    pub marking: Marking,
-    pub tally: Tally,
-    pub history: History,
-}
-
-// The answer to the lines of a log, a refusal with its line.
-pub enum LogAnswer {
-    Goes,
-    Malformed(usize),
-    UnknownTransition(usize),
-    OverEvents(usize),
-    TooFewTokens(usize),
-    Inhibited(usize),
-    OverConditions(usize),
-    OverMarks(usize),
-}
-
-// The answer, and the run after the line.
-pub struct Played {
-    pub answer: LogAnswer,
-    pub run: Run,
-}
 
 // Whether a log, or a line of it, was played.
 pub fn goes(a: LogAnswer) -> bool
@@ -70,60 +40,6 @@ fn refused(answer: LogAnswer, run: Run) -> Played
     ensures { λ s. ⌜ s ≡ record { answer = answer; run = run } ⌝ }
 {
     Played { answer, run }
-}
-
-// Step k is judged and played.
-fn step_on(
-    k: usize,
-    step: &[u8; 128],
-    count: usize,
-    inputs: &[u8; 1024],
-    outputs: &[u8; 1024],
-    inhibitors: &[u8; 1024],
-    places: usize,
-    r: Run,
-) -> Played
-    requires { ⌜ IsStep (now step) count × (0 < count) × (r .history .events + count ≤ 128) × Reached (now inputs) (now outputs) (now inhibitors) places k r ⌝ }
-    ensures { λ s. ⌜ StepsOn (now (inputs .entry)) (now (outputs .entry)) (now (inhibitors .entry)) places k (now (step .entry)) count r s ⌝ }
-{
-    let marking = r.marking.counts;
-    let tally = r.tally;
-    let history = r.history;
-    let taken = sums(inputs, step, count);
-    if short(&marking, &taken, places) {
-        return refused(LogAnswer::TooFewTokens(k), r);
-    }
-    let guards = sums(inhibitors, step, count);
-    if inhibited(&marking, &guards, places) {
-        return refused(LogAnswer::Inhibited(k), r);
-    }
-    let made = sums(outputs, step, count);
-    if 512 < history.conditions + total(&made, places) {
-        return refused(LogAnswer::OverConditions(k), r);
-    }
-    let t = tally_step(
-        tally,
-        &made,
-        &guards,
-        step,
-        count,
-        inhibitors,
-        outputs,
-        places,
-    );
-    let held = t.held;
-    let watched = t.watched;
-    if 4096 + t.own < products(&held, &watched, places) {
-        return refused(LogAnswer::OverMarks(k), r);
-    }
-    Played {
-        answer: LogAnswer::Goes,
-        run: Run {
-            marking: play(r.marking, &taken, &made, places),
-            tally: t,
-            history: grow(k, step, count, inputs, outputs, places, history),
-        },
-    }
 }
 
 // Line k of a log is judged and played.

@@ -6,7 +6,7 @@ use Rattle.spec.specs.Forms.{numbersOf}
 use Rattle.text.specs.Agree.{giving, refusing}
 use Rattle.net.specs.Holds.{lineOf}
 use Rattle.number_lines.proofs.Lines.{few-known}
-use Rattle.logs.proofs.Reaching.{events-held}
+use Rattle.judging.proofs.Reaching.{events-held}
 use Rattle.logs.proofs.Lines.{some-number, answers-21, answers-22, answers-23, answers-step, line-known, line-step}
 use Rattle.logs.proofs.log_line.Statement.{statement}
 use Rattle.logs.proofs.log_line.Tie as tie

@@ -2,10 +2,10 @@ use mathlib.Core.Path.{_≡_, refl, sym, _∙_}
 use native.Mathlib.Omega.{arith}
 use Rattle.text.specs.Agree.{giving, refusing}
 use Rattle.playing.proofs.Held.{flows-total}
-use Rattle.logs.proofs.Reaching.{tally-small, tally-low, playable}
-use Rattle.logs.proofs.Judging.{answers-24, answers-25, answers-26, answers-27, answers-run, run-after}
-use Rattle.logs.proofs.step_on.Statement.{statement}
-use Rattle.logs.proofs.step_on.Tie as tie
+use Rattle.judging.proofs.Reaching.{tally-small, tally-low, playable}
+use Rattle.judging.proofs.Judging.{answers-24, answers-25, answers-26, answers-27, answers-run, run-after}
+use Rattle.judging.proofs.step_on.Statement.{statement}
+use Rattle.judging.proofs.step_on.Tie as tie
 
 pub step-on-spec : {M : Type 1} → statement M
 step-on-spec = tie.close (tie.spec

@@ -20,8 +20,8 @@ use Rattle.playing.specs.Holds.{eventIn, eventsIn, eventsOf, conditionsOf}
 use Rattle.tallying.specs.declared.Tally.{Tally}
 use Rattle.playing.specs.declared.History.{History}
 use Rattle.tallying.proofs.Held.{small}
-use Rattle.logs.specs.Holds.{HoldsRun, Reached}
-use Rattle.logs.specs.declared.Run.{Run}
+use Rattle.judging.specs.Holds.{HoldsRun, Reached}
+use Rattle.judging.specs.declared.Run.{Run}
 
 pub events-length : (h : History) → length (eventsOf h) ≡ h .events
 unfolding eventsOf eventsIn

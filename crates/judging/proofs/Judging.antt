@@ -26,9 +26,9 @@ use Rattle.tallying.specs.declared.Tally.{Tally}
 use Rattle.playing.specs.declared.History.{History}
 use Rattle.tallying.proofs.Held.{tally-grown, marks-tallied}
 use Rattle.playing.proofs.Held.{flows-total, events-grown, conditions-grown}
-use Rattle.logs.specs.Holds.{HoldsRun, stepOn}
-use Rattle.logs.specs.declared.Run.{Run}
-use Rattle.logs.proofs.Reaching.{events-length, events-held, conditions-held}
+use Rattle.judging.specs.Holds.{HoldsRun, stepOn}
+use Rattle.judging.specs.declared.Run.{Run}
+use Rattle.judging.proofs.Reaching.{events-length, events-held, conditions-held}
 
 module _ {is os hs xs : List ℕ} {size m k : ℕ} {x : Run} (N : Net) (ts : List ℕ) (r : RunD)
     (A : Arcs N is os hs m) (S : HoldsStep xs size ts) (K : (t : ℕ) → In t ts → t < N .transitions) (H : HoldsRun N k x r) where
