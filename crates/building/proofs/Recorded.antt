@@ -21,7 +21,8 @@ use Rattle.runs.specs.Built.{Sound}
 use Rattle.conditions.specs.Conditions.{decoded, conditionIn, conditionsIn}
 use Rattle.playing.specs.Holds.{eventIn, eventsIn, eventsOf, conditionsOf}
 use Rattle.conditions.proofs.Coded.{event-coded}
-use Rattle.recording.specs.Bytes.{joinedTo, eventBytes, codedLine, conditionBytes, dueAt, earlierAt, kindIf, markBytes, marksBytes, historyBytes, Coded, Writable}
+use Rattle.record_lines.specs.Lines.{codedLine, dueAt, earlierAt, kindIf, markBytes, Coded}
+use Rattle.recording.specs.Bytes.{joinedTo, eventBytes, conditionBytes, marksBytes, historyBytes, Writable}
 use Rattle.playing.specs.declared.History.{History}
 use Rattle.judging.specs.Holds.{HoldsRun}
 use Rattle.judging.specs.declared.Run.{Run}
