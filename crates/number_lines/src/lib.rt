@@ -66,14 +66,14 @@ pub fn numbers(l: &[u8]) -> [u8; 128]
     ensures { λ r. ⌜ Begins r (numbersOf mostDigits (now (l .entry))) ⌝ }
 {
     let mut xs = [0u8; 128];
-    let mut count: usize = 0;
+    let mut i: usize = 0;
     let a = letter_at(l);
     let mut at = a.next;
     while at <= l.len() {
         let v = number_at(4, l, at);
         let n = v.value;
-        xs[count] = n as u8;
-        count += 1;
+        xs[i] = n as u8;
+        i += 1;
         at = v.next;
     }
     xs

@@ -13,10 +13,10 @@ fn wide(x: u8) -> usize
     x as usize
 }
 
-fn widest(x: u32) -> usize
-    ensures { λ r. ⌜ (r ≡ x) × (r ≤ 4294967295) ⌝ }
+fn widest(n: u32) -> usize
+    ensures { λ r. ⌜ (r ≡ n) × (r ≤ 4294967295) ⌝ }
 {
-    x as usize
+    n as usize
 }
 
 // Two arrays of counts, added in the first m places.
@@ -86,13 +86,13 @@ pub fn total(xs: &[u32; 32], m: usize) -> usize
     requires { ⌜ m ≤ 32 ⌝ }
     ensures { λ r. ⌜ (r ≡ sumOf (entryAt (now (xs .entry))) (upTo m)) × (r ≤ 4294967295 * m) ⌝ }
 {
-    let mut r: usize = 0;
+    let mut all: usize = 0;
     let mut p: usize = 0;
     while p < m {
-        r += widest(xs[p]);
+        all += widest(xs[p]);
         p += 1;
     }
-    r
+    all
 }
 
 // What is counted of a run: of each place its conditions and the events that it inhibits, and how often an event made a

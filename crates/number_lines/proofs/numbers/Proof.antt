@@ -9,10 +9,10 @@ use Rattle.number_lines.proofs.numbers.Statement.{statement}
 use Rattle.number_lines.proofs.numbers.Tie as tie
 
 abbrev Inv-loop : tie.InvT-loop
-Inv-loop l xs₀ count₀ at₀ xs count at = (at ≤ length l + 1) × Filled (numbersOf 4 l) xs count (numbersFrom 4 l at)
+Inv-loop l xs₀ i₀ at₀ xs i at = (at ≤ length l + 1) × Filled (numbersOf 4 l) xs i (numbersFrom 4 l at)
 
 abbrev μ-loop : tie.MeasureT-loop
-μ-loop l xs₀ count₀ at₀ xs count at = length l + 1 - at
+μ-loop l xs₀ i₀ at₀ xs i at = length l + 1 - at
 
 pub numbers-spec : {M : Type 1} → statement M
 numbers-spec = tie.close (tie.spec Inv-loop μ-loop

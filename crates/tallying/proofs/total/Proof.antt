@@ -8,10 +8,10 @@ use Rattle.tallying.proofs.total.Statement.{statement}
 use Rattle.tallying.proofs.total.Tie as tie
 
 abbrev Inv-loop : tie.InvT-loop
-Inv-loop xs m r₀ p₀ r p = (p ≤ m) × (r ≤ 4294967295 * p) × (r ≡ sumOf (entryAt xs) (upTo p))
+Inv-loop xs m all₀ p₀ all p = (p ≤ m) × (all ≤ 4294967295 * p) × (all ≡ sumOf (entryAt xs) (upTo p))
 
 abbrev μ-loop : tie.MeasureT-loop
-μ-loop xs m r₀ p₀ r p = m - p
+μ-loop xs m all₀ p₀ all p = m - p
 
 pub total-spec : {M : Type 1} → statement M
 total-spec = tie.close (tie.spec Inv-loop μ-loop
