@@ -19,7 +19,6 @@ use Rattle.spec.specs.declared.Class.the-variants.{LetterG}
 use Rattle.lists.specs.Laws.{at-in, and-true, and-three, all-below, flat-snoc}
 use Rattle.lines.specs.Agree.{giving, refusing}
 use Rattle.net.specs.Holds.{lineOf}
-use Rattle.steps.specs.Holds.{Few, Begins}
 use Rattle.arrangements.specs.Lined.{TellsOrder, Stands, Lined, Sound, Enters, breaksIn}
 use Rattle.arrangements.specs.Arrangement.{answerOf, goesOf, Judged}
 use Rattle.arrangements.specs.declared.Group.{Group}
@@ -28,6 +27,7 @@ use Rattle.arrangements.specs.declared.ArrangementAnswer.the-variants.{K
 use Rattle.arrangements.proofs.Distinct.{distinct-few}
 use Rattle.arrangements.proofs.Standing.{stands-next}
 use Rattle.arrangements.proofs.Lateness.{breaks-held}
+use Rattle.number_lines.specs.Numbers.{Few, Begins}
 
 -- ---- what the definitions answer
 

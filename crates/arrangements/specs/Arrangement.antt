@@ -13,11 +13,11 @@ use Rattle.lines.specs.Agree.{Agrees}
 use Rattle.spec.specs.Record.{RunRecord}
 use Rattle.spec.specs.Replay.{groupsLine}
 use Rattle.net.specs.Holds.{lineOf}
-use Rattle.steps.specs.Holds.{Few, Begins}
 use Rattle.arrangements.specs.Lined.{TellsOrder, Lined}
 use Rattle.arrangements.specs.declared.Group.{Group}
 use Rattle.arrangements.specs.declared.ArrangementAnswer.{ArrangementAnswer}
 use Rattle.arrangements.specs.declared.ArrangementAnswer.the-variants.{Keeps, Malformed, Unknown, Repeated, Broken, Missing}
+use Rattle.number_lines.specs.Numbers.{Few, Begins}
 
 -- the paper's number and value of an answer
 abbrev pub answerOf : ArrangementAnswer → Answer ℕ

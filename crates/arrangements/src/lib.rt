@@ -9,11 +9,11 @@ ghost use Rattle.arrangements.specs.Lined.{Sound, Enters, lateIn, lateFo
 ghost use Rattle.arrangements.specs.Arrangement.{answerOf, goesOf, finished, Judges};
 use fields::letter_at;
 use fields::number_at;
+use number_lines::any_unknown;
+use number_lines::count_numbers;
+use number_lines::is_list_line;
+use number_lines::numbers;
 use spec::Class;
-use steps::any_unknown;
-use steps::count_numbers;
-use steps::is_list_line;
-use steps::numbers;
 
 // What is answered to an arrangement: how many lines keep the order, or a refusal with its line or the missing event.
 pub enum ArrangementAnswer {

@@ -1,7 +1,2 @@
-pub mod Reaching
-pub mod Judging
-pub mod Lines
-pub mod Running
-pub mod Beginning
 pub mod Recorded
 pub mod Operation

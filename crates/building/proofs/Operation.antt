@@ -18,7 +18,7 @@ use Rattle.lines.specs.Agree.{Agrees, giving, refusing}
 use Rattle.net.specs.Holds.{Holds, Reads, netCounts, answerOf as netAnswer}
 use Rattle.net.specs.declared.NetRead.{NetRead}
 use Rattle.net.specs.declared.NetAnswer.{NetAnswer}
-use Rattle.steps.specs.Holds.{HoldsMarking}
+use Rattle.steps.specs.Holds.{HoldsMarking, Arcs}
 use Rattle.steps.proofs.Held.{initial-held}
 use Rattle.runs.specs.NetLimits.{NetLimits, net-limits}
 use Rattle.runs.specs.ReadRecord.{Fits}
@@ -28,14 +28,15 @@ use Rattle.runs.specs.Marks.{well-formed}
 use Rattle.runs.specs.Sizes.{record-size}
 use Rattle.writing.specs.Written.{Wrote}
 use Rattle.writing.proofs.Laws.{put-over}
-use Rattle.playing.specs.Holds.{Arcs}
-use Rattle.building.specs.Holds.{HoldsRun, HoldsAny, Begun, Begins, logAnswer, given, nothing, buildAnswer, Builds}
-use Rattle.building.specs.declared.Run.{Run}
-use Rattle.building.specs.declared.LogAnswer.{LogAnswer}
+use Rattle.judging.specs.Holds.{HoldsRun, logAnswer, nothing}
+use Rattle.logs.specs.Holds.{HoldsAny, Begun, Begins, given}
+use Rattle.judging.specs.declared.Run.{Run}
+use Rattle.judging.specs.declared.LogAnswer.{LogAnswer}
+use Rattle.logs.proofs.Beginning.{tokens-are}
 use Rattle.recording.specs.Bytes.{historyBytes, Writable}
+use Rattle.building.specs.Holds.{buildAnswer, Builds}
 use Rattle.building.specs.declared.BuildAnswer.{BuildAnswer}
 use Rattle.building.specs.declared.BuildAnswer.the-variants.{Written}
-use Rattle.building.proofs.Beginning.{tokens-are}
 use Rattle.building.proofs.Recorded.{writable, bytes-held}
 
 -- ---- the net, and the log

@@ -16,16 +16,17 @@ use Rattle.spec.specs.Record.{Condition, Mark, names, due, eventLine, condition
 use Rattle.spec.specs.Build.{Event, noEvent, Run as RunD, earlier, markOf, marksOn, marksFrom, marksDue, recordOf}
 use Rattle.lists.specs.Laws
 use Rattle.lists.specs.Tables.{table-same}
-use Rattle.steps.specs.Holds.{cellAt}
+use Rattle.steps.specs.Holds.{cellAt, Arcs}
 use Rattle.runs.specs.Built.{Sound}
-use Rattle.playing.specs.Conditions.{decoded, conditionIn, conditionsIn}
-use Rattle.playing.specs.Holds.{eventIn, eventsIn, eventsOf, conditionsOf, Arcs}
-use Rattle.playing.proofs.Coded.{event-coded}
-use Rattle.building.specs.Holds.{HoldsRun}
-use Rattle.recording.specs.Bytes.{joinedTo, eventBytes, codedLine, conditionBytes, dueAt, earlierAt, kindIf, markBytes, marksBytes, historyBytes, Coded, Writable}
+use Rattle.conditions.specs.Conditions.{decoded, conditionIn, conditionsIn}
+use Rattle.playing.specs.Holds.{eventIn, eventsIn, eventsOf, conditionsOf}
+use Rattle.conditions.proofs.Coded.{event-coded}
+use Rattle.record_lines.specs.Lines.{codedLine, dueAt, earlierAt, kindIf, markBytes, Coded}
+use Rattle.recording.specs.Bytes.{joinedTo, eventBytes, conditionBytes, marksBytes, historyBytes, Writable}
 use Rattle.playing.specs.declared.History.{History}
-use Rattle.building.specs.declared.Run.{Run}
-use Rattle.building.proofs.Reaching.{events-held, conditions-held}
+use Rattle.judging.specs.Holds.{HoldsRun}
+use Rattle.judging.specs.declared.Run.{Run}
+use Rattle.judging.proofs.Reaching.{events-held, conditions-held}
 
 -- ---- marks by tables of events and conditions
 

@@ -9,10 +9,10 @@ use Rattle.spec.specs.Build.{isFree}
 use Rattle.steps.specs.Holds.{cellAt}
 use Rattle.runs.specs.Flows.{Flow, flows}
 use Rattle.runs.specs.Consume.{taking, made-of}
-use Rattle.playing.specs.Conditions.{conditionIn, conditionsIn, freeAt, Cursors, Sized, Took, Made}
+use Rattle.conditions.specs.Conditions.{conditionIn, conditionsIn, freeAt, Cursors, Sized, Took, Made}
 use Rattle.playing.specs.Holds.{eventsOf, conditionsOf, Added, Whole, Grown}
 use Rattle.playing.specs.declared.History.{History}
-use Rattle.playing.proofs.Coded.{length-conditions, condition-at, free-is}
+use Rattle.conditions.proofs.Coded.{length-conditions, condition-at, free-is}
 
 -- the old conditions are as they were
 module _ {cs : List Condition} {n r : ℕ} {ps gs fs ps′ gs′ fs′ : List ℕ} (M : Made cs n ps gs fs r ps′ gs′ fs′) where

@@ -1,9 +1,3 @@
-pub mod Coded
-pub mod Tokens
-pub mod Taking
-pub mod Making
-pub mod Marks
-pub mod Tallying
 pub mod Adding
 pub mod Growing
 pub mod Starting

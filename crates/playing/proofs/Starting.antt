@@ -13,7 +13,7 @@ use Rattle.lists.specs.Along.{take-more}
 use Rattle.lists.specs.Arrays.{blank}
 use Rattle.lists.specs.Grouped.{sum-append}
 use Rattle.runs.specs.Growth.{initial-length}
-use Rattle.playing.specs.Conditions.{decoded, conditionIn, conditionsIn, fresh, Sized, Made}
+use Rattle.conditions.specs.Conditions.{decoded, conditionIn, conditionsIn, fresh, Sized, Made}
 use Rattle.playing.specs.Holds.{eventIn, eventsIn, eventsOf, conditionsOf, Whole, Starts}
 
 initial-append : (a : ℕ) (xs ys : List ℕ) → initialOf a (xs ++ ys) ≡ initialOf a xs ++ initialOf (a + length xs) ys

@@ -3,15 +3,13 @@ use Prim.Native.Nat.{ℕ, _+_, _≤_, _<_}
 use mathlib.Core.Path.{_≡_}
 use mathlib.Core.List.{List, [], _++_, map}
 use lib.ListN.{length, getD, take}
-use Rattle.spec.specs.Lists.{upTo, asCount}
-use Rattle.spec.specs.Net.{Net, places, takes, makes, inhibits}
+use Rattle.spec.specs.Lists.{upTo}
 use Rattle.spec.specs.Record.{Condition}
 use Rattle.spec.specs.Build.{Event, initialOf, inStep}
-use Rattle.net.specs.Holds.{Cells}
 use Rattle.steps.specs.Holds.{cellAt}
 use Rattle.runs.specs.Flows.{flows}
 use Rattle.runs.specs.Consume.{taking, made-of}
-use Rattle.playing.specs.Conditions.{conditionsIn, Sized, Cursors}
+use Rattle.conditions.specs.Conditions.{conditionsIn, Sized, Cursors}
 use Rattle.playing.specs.declared.History.{History}
 
 -- ---- events
@@ -29,16 +27,6 @@ pub record Added (k : ℕ) (new : List ℕ) (n : ℕ) (ts ks : List ℕ) (r : �
   pub transitions : length ts′ ≡ 128
   pub steps : length ks′ ≡ 128
   pub events : eventsIn r ts′ ks′ ≡ eventsIn n ts ks ++ map (inStep k) new
-
--- ---- nets
-
--- arrays hold the arcs of a net that has m places
-pub record Arcs (N : Net) (is os hs : List ℕ) (m : ℕ) : Type 0 where
-  pub places : m ≡ places N
-  pub few : m ≤ 32
-  pub inputs : Cells is (takes N)
-  pub outputs : Cells os (makes N)
-  pub inhibitors : Cells hs (λ t p. asCount (inhibits N p t))
 
 -- ---- histories
 

@@ -1,25 +1,17 @@
 -- Lines written one after the other.
-use Prim.Native.Nat.{ℕ, zero, suc, _+_, _-_, _*_, _≤_, _<_}
-use mathlib.Core.Path.{_≡_, refl, sym, ap, _∙_}
-use mathlib.Core.Bool.{Bool, true, false, not, _&&_}
+use Prim.Native.Nat.{ℕ, zero, suc, _+_, _-_, _≤_, _<_}
+use mathlib.Core.Path.{_≡_, refl, ap, _∙_}
 use mathlib.Core.List.{List, [], _∷_, _++_, map, map-append, append-nil}
 use native.Mathlib.Nat.{le-trans, le-of-eq}
 use native.Mathlib.Numerals.{add-one}
 use native.Mathlib.Omega.{arith}
-use lib.Dec.{eqb, ltb}
-use lib.ListN.{length, getD, length-append}
+use lib.ListN.{length, length-append}
 use Rattle.spec.specs.Lists.{from, upTo, flat}
 use Rattle.lists.specs.Laws
-use Rattle.spec.specs.Text.{line}
-use Rattle.spec.specs.Record.{eventField, conditionLine, markLineOf}
-use Rattle.spec.specs.declared.Field.{Field}
-use Rattle.spec.specs.declared.Field.the-variants.{Number}
-use Rattle.steps.specs.Holds.{cellAt}
-use Rattle.playing.specs.Conditions.{decoded}
-use Rattle.writing.specs.Written.{Wrote, lineBytes}
+use Rattle.writing.specs.Written.{Wrote}
 use Rattle.writing.proofs.Laws.{none, after, wrote-length}
-use Rattle.recording.specs.Bytes.{joinedTo, codedLine, kindIf, dueAt, earlierAt, markBytes, eventBytes, conditionBytes, marksBytes, historyBytes}
 use Rattle.playing.specs.declared.History.{History}
+use Rattle.recording.specs.Bytes.{joinedTo, eventBytes, conditionBytes, marksBytes, historyBytes}
 
 module _ (f : ℕ → List ℕ) where
   joined-none : joinedTo f 0 ≡ []
@@ -58,33 +50,6 @@ module _ (f : ℕ → List ℕ) where
 
   pub wrote-all : {old new : List ℕ} {at r i n : ℕ} → i ≡ n → Wrote old at (joinedTo f i) r new → Wrote old at (joinedTo f n) r new
   wrote-all e a = rw (← e) a
-
-pub wrote-as : {old new xs ys : List ℕ} {at r : ℕ} → Wrote old at xs r new → xs ≡ ys → Wrote old at ys r new
-wrote-as a e = rw (← e) a
-
--- ---- the lines of conditions and marks
-
-pub coded-fields : (p g f : ℕ) {a b : Field} → a ≡ eventField (decoded g) → b ≡ eventField (decoded f) → lineBytes 67 (Number p ∷ a ∷ b ∷ []) ≡ codedLine p g f
-unfolding codedLine conditionLine line
-coded-fields p g f e h = rw (e, h)
-
-pub mark-before : {after : Bool} (c e : ℕ) → after ≡ false → lineBytes 66 (Number c ∷ Number e ∷ []) ≡ markLineOf (kindIf after) c e
-unfolding markLineOf line
-mark-before c e h = rw h
-
-pub mark-after : {after : Bool} (c e : ℕ) → after ≡ true → lineBytes 65 (Number c ∷ Number e ∷ []) ≡ markLineOf (kindIf after) c e
-unfolding markLineOf line
-mark-after c e h = rw h
-
-module _ (hs ks ps gs fs : List ℕ) (e t c : ℕ) where
-  pub mark-due : {a : Bool} → (ltb 0 (getD hs (32 * t + getD ps c 0) 0) && not (eqb (getD gs c 0) e)) ≡ true → a ≡ earlierAt ks e (getD fs c 0)
-      → markLineOf (kindIf a) c e ≡ markBytes hs ks ps gs fs e t c
-  unfolding markBytes dueAt cellAt
-  mark-due d h = rw (d, h)
-
-  pub mark-none : (ltb 0 (getD hs (32 * t + getD ps c 0) 0) && not (eqb (getD gs c 0) e)) ≡ false → markBytes hs ks ps gs fs e t c ≡ []
-  unfolding markBytes dueAt cellAt
-  mark-none d = rw d
 
 -- ---- the record
 

@@ -16,7 +16,8 @@ use Rattle.lists.specs.Along.{any-agree, some-counted}
 use Rattle.lists.specs.Mapped.{Mapped}
 use Rattle.net.specs.Holds.{Cells, Holds}
 use Rattle.net.specs.declared.Net.{Net}
-use Rattle.steps.specs.Holds.{Few, Begins, HoldsStep, cellAt, Sums, HoldsMarking, falls, blocks, moved}
+use Rattle.number_lines.specs.Numbers.{Few, Begins}
+use Rattle.steps.specs.Holds.{HoldsStep, cellAt, Sums, HoldsMarking, falls, blocks, moved}
 
 -- ---- a step
 
@@ -48,13 +49,21 @@ module _ {xs ts : List ℕ} {count : ℕ} (s : HoldsStep xs count ts) where
       let l : r .0 < count = omega (arith, r .1, step-length) in
       omega (arith, step-at (r .0) l, s .step .known (r .0) l, r .2)
 
+-- what an array of arcs has for its transitions is what it holds
+module _ {cells xs ts : List ℕ} {f : ℕ → ℕ → ℕ} {count : ℕ} (C : Cells cells f) (S : HoldsStep xs count ts) where
+  pub cells-are : (m : ℕ) → m ≤ 32 → (t p : ℕ) → In t ts → p < m → cellAt cells t p ≡ f t p
+  unfolding cellAt
+  cells-are m l t p i h = C .cell t p (step-known S t i) (omega arith)
+
+  pub cells-summed : (m : ℕ) → m ≤ 32 → (p : ℕ) → p < m → sumOf (λ t. cellAt cells t p) (take count xs) ≡ sumOf (λ t. f t p) ts
+  cells-summed m l p h = ap (sumOf (λ t. cellAt cells t p)) (S .events) ∙ sumOf-same _ _ ts (λ t i. cells-are m l t p i h)
+
 -- the sums are those of what the array holds
 pub sums-held : {cells xs ts r : List ℕ} {f : ℕ → ℕ → ℕ} {count : ℕ}
     → Cells cells f → HoldsStep xs count ts → Sums (cellAt cells) (take count xs) r → Sums f ts r
-unfolding cellAt
 sums-held {cells} {xs} {ts} {r} {f} {count} c s u = record {
   long = u .long;
-  sum = λ p l. u .sum p l ∙ ap (sumOf (λ t. getD cells (32 * t + p) 0)) (s .events) ∙ sumOf-same _ _ ts (λ t m. c .cell t p (step-known s t m) l);
+  sum = λ p l. u .sum p l ∙ cells-summed c s 32 (omega arith) p l;
   most = λ p l. subst (λ (zs : List ℕ). getD r p 0 ≤ 255 * length zs) (s .events) (u .most p l);
 }
 

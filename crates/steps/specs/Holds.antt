@@ -5,21 +5,11 @@ use mathlib.Core.Bool.{Bool, _&&_}
 use mathlib.Core.List.{List}
 use lib.ListN.{length, getD, take}
 use lib.Dec.{ltb}
-use Rattle.spec.specs.Lists.{In, any, sumOf, upTo}
+use Rattle.spec.specs.Lists.{any, sumOf, upTo, asCount}
+use Rattle.spec.specs.Net.{Net, places, takes, makes, inhibits}
 use Rattle.lists.specs.Mapped.{Mapped}
+use Rattle.net.specs.Holds.{Cells}
 use Rattle.steps.specs.declared.Marking.{Marking}
-
--- ---- the numbers of a line
-
--- at most so many numbers, each below a bound
-pub record Few (most bound : ℕ) (ns : List ℕ) : Type 0 where
-  pub few : length ns ≤ most
-  pub low : (n : ℕ) → In n ns → n < bound
-
--- an array begins with these numbers
-pub record Begins (xs ns : List ℕ) : Type 0 where
-  pub long : length xs ≡ 128
-  pub numbers : take (length ns) xs ≡ ns
 
 -- ---- a step
 
@@ -52,6 +42,16 @@ pub record Sums (f : ℕ → ℕ → ℕ) (ts xs : List ℕ) : Type 0 where
   pub long : length xs ≡ 32
   pub sum : (p : ℕ) → p < 32 → getD xs p 0 ≡ sumOf (λ t. f t p) ts
   pub most : (p : ℕ) → p < 32 → getD xs p 0 ≤ 255 * length ts
+
+-- ---- a net
+
+-- arrays hold the arcs of a net that has m places
+pub record Arcs (N : Net) (is os hs : List ℕ) (m : ℕ) : Type 0 where
+  pub places : m ≡ places N
+  pub few : m ≤ 32
+  pub inputs : Cells is (takes N)
+  pub outputs : Cells os (makes N)
+  pub inhibitors : Cells hs (λ t p. asCount (inhibits N p t))
 
 -- ---- a marking
 

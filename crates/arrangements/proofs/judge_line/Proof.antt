@@ -3,10 +3,10 @@ use native.Mathlib.Omega.{arith}
 use borrow.Author.Tests.{not-true, not-false}
 use Rattle.spec.specs.Lists.{flat}
 use Rattle.lists.specs.Laws.{all-below}
-use Rattle.steps.proofs.Lines.{few-known}
 use Rattle.arrangements.proofs.Judging.{lines-few, entered-few, events-low, breaks-events, malformed, unknown, repeated, broken, kept}
 use Rattle.arrangements.proofs.judge_line.Statement.{statement}
 use Rattle.arrangements.proofs.judge_line.Tie as tie
+use Rattle.number_lines.proofs.Lines.{few-known}
 
 pub judge-line-spec : {M : Type 1} → statement M
 judge-line-spec = tie.close (tie.spec

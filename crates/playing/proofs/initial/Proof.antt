@@ -3,8 +3,8 @@ use mathlib.Core.Path.{_≡_, refl, sym}
 use native.Mathlib.Omega.{arith}
 use lib.ListN.{take}
 use Rattle.spec.specs.Build.{initialOf}
-use Rattle.playing.specs.Conditions.{Made}
-use Rattle.playing.proofs.Making.{made-nothing, made-then, made-as}
+use Rattle.conditions.specs.Conditions.{Made}
+use Rattle.conditions.proofs.Making.{made-nothing, made-then, made-as}
 use Rattle.playing.proofs.Starting.{initial-none, initial-next, initial-fits}
 use Rattle.playing.proofs.initial.Statement.{statement}
 use Rattle.playing.proofs.initial.Tie as tie

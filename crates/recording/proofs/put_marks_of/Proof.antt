@@ -3,7 +3,8 @@ use mathlib.Core.Path.{_≡_}
 use native.Mathlib.Omega.{arith}
 use Rattle.writing.specs.Written.{Wrote}
 use Rattle.writing.proofs.Laws.{wrote-length}
-use Rattle.recording.specs.Bytes.{joinedTo, markBytes, marksBytes}
+use Rattle.record_lines.specs.Lines.{markBytes}
+use Rattle.recording.specs.Bytes.{joinedTo, marksBytes}
 use Rattle.recording.proofs.Joining.{wrote-none, wrote-room, wrote-next, wrote-all}
 use Rattle.recording.proofs.put_marks_of.Statement.{statement}
 use Rattle.recording.proofs.put_marks_of.Tie as tie

@@ -1,0 +1,4 @@
+pub mod Coded
+pub mod Tokens
+pub mod Taking
+pub mod Making

@@ -1,0 +1,29 @@
+use Prim.Native.Nat.{_+_, _-_, _≤_}
+use mathlib.Core.Path.{_≡_, sym, ap, _∙_}
+use native.Mathlib.Omega.{arith}
+use borrow.Author.Tests.{le-leb, lt-leb}
+use lib.Dec.{leb}
+use lib.ListN.{length}
+use Rattle.spec.specs.Lists.{any}
+use Rattle.spec.specs.Forms.{numbersOf}
+use Rattle.lists.specs.Along.{any-first, any-next, any-nil}
+use Rattle.fields.specs.Fields.{numbersFrom}
+use Rattle.fields.proofs.Fields.{numbers-first, numbers-none}
+use Rattle.number_lines.proofs.any_unknown.Statement.{statement}
+use Rattle.number_lines.proofs.any_unknown.Tie as tie
+
+abbrev Inv-loop : tie.InvT-loop
+Inv-loop l known at₀ at = (at ≤ length l + 1) × (any (leb known) (numbersFrom 4 l at) ≡ any (leb known) (numbersOf 4 l))
+
+abbrev μ-loop : tie.MeasureT-loop
+μ-loop l known at₀ at = length l + 1 - at
+
+pub any-unknown-spec : {M : Type 1} → statement M
+any-unknown-spec = tie.close (tie.spec Inv-loop μ-loop
+    (λ c κs. tt)
+    (λ c. (omega arith, ap (any (leb _)) (numbers-first 4 (c .letter-at .ensures))))
+    (λ c κs. omega arith)
+    (λ c. sym (any-first (leb _) (c .before .before .number-at .ensures .numbers) (le-leb _ _ (c .if1 .taken))) ∙ c .before .before .before .before .loop .inv .1)
+    (λ c. omega arith)
+    (λ c. (omega arith, any-next (leb _) (c .before .before .number-at .ensures .numbers) (lt-leb _ _ (c .if1 .left)) ∙ c .before .before .before .before .loop .inv .1))
+    (λ c. sym (any-nil (leb _) (numbers-none 4 _ _ (c .loop-test .left))) ∙ c .before .loop .inv .1))

@@ -1,0 +1,25 @@
+use Prim.Native.Nat.{_+_, _-_, _≤_}
+use mathlib.Core.Path.{_≡_, ap}
+use native.Mathlib.Omega.{arith}
+use lib.ListN.{length}
+use Rattle.spec.specs.Forms.{numbersOf}
+use Rattle.fields.specs.Fields.{numbersFrom}
+use Rattle.fields.proofs.Fields.{numbers-first, numbers-none}
+use Rattle.number_lines.proofs.count_numbers.Statement.{statement}
+use Rattle.number_lines.proofs.count_numbers.Tie as tie
+
+abbrev Inv-loop : tie.InvT-loop
+Inv-loop l at₀ count₀ at count = (at ≤ length l + 1) × (count ≤ at) × (count + length (numbersFrom 4 l at) ≡ length (numbersOf 4 l))
+
+abbrev μ-loop : tie.MeasureT-loop
+μ-loop l at₀ count₀ at count = length l + 1 - at
+
+pub count-numbers-spec : {M : Type 1} → statement M
+count-numbers-spec = tie.close (tie.spec Inv-loop μ-loop
+    (λ c κs. tt)
+    (λ c. (omega arith, omega arith, omega (arith, ap length (numbers-first 4 (c .letter-at .ensures)))))
+    (λ c κs. omega arith)
+    (λ c. omega arith)
+    (λ c. omega arith)
+    (λ c. (omega arith, omega arith, omega (arith, ap length (c .number-at .ensures .numbers))))
+    (λ c. (omega (arith, ap length (numbers-none 4 (c .before .before .before .before .args .l .now) (c .before .loop .at) (c .loop-test .left))), omega arith)))

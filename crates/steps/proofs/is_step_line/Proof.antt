@@ -1,9 +1,0 @@
-use Rattle.spec.specs.Build.{isStepLine}
-use Rattle.steps.proofs.is_step_line.Statement.{statement}
-use Rattle.steps.proofs.is_step_line.Tie as tie
-
-pub is-step-line-spec : {M : Type 1} → statement M
-unfolding isStepLine
-is-step-line-spec = tie.close (tie.spec
-    (λ c κs. tt)
-    (λ c. c .is-list-line .ensures))
