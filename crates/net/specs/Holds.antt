@@ -3,32 +3,21 @@ use Prim.Native.Nat.{ℕ, _+_, _*_, _≤_, _<_}
 use mathlib.Core.Path.{_≡_}
 use mathlib.Core.Bool.{Bool, true, false, not, _||_}
 use mathlib.Core.List.{List}
-use lib.ListN.{length, getD, set}
+use lib.ListN.{length, getD}
 use lib.Dec.{ltb}
-use Rattle.spec.specs.Answer.{Answer, gives, refuses, returned}
+use Rattle.spec.specs.Answer.{Answer, gives, refuses, _>>=_, returned}
 use Rattle.lines.specs.Agree.{Agrees}
 use Rattle.spec.specs.Lists.{any, upTo, sum, asCount}
-use Rattle.spec.specs.Text.{Line}
-use Rattle.spec.specs.Net.{Net as NetD, places, takes, makes, inhibits, whole, readNet}
+use Rattle.spec.specs.Text.{Line, linesOf, byLines}
+use Rattle.spec.specs.Net.{Net as NetD, takes, makes, inhibits, addLine, emptyNet, whole, readNet}
 use Rattle.net.specs.declared.Net.{Net}
 use Rattle.spec.specs.declared.ArcKind.{ArcKind}
 use Rattle.spec.specs.declared.ArcKind.the-variants.{Input, Output, Inhibitor}
+use Rattle.net.specs.declared.Size.{Size}
 use Rattle.net.specs.declared.Stepped.{Stepped}
 use Rattle.net.specs.declared.NetRead.{NetRead}
 use Rattle.net.specs.declared.NetAnswer.{NetAnswer}
 use Rattle.net.specs.declared.NetAnswer.the-variants.{Accepted, Malformed, LimitPassed, Undeclared, ArcRepeated, Lacking}
-
--- the array of one kind of arc
-abbrev pub cellsOf : ArcKind → Net → List ℕ
-cellsOf Input n = n .inputs
-cellsOf Output n = n .outputs
-cellsOf Inhibitor n = n .inhibitors
-
--- the net with a mark more in that array
-abbrev pub marked : ArcKind → Net → ℕ → Net
-marked Input n i = record { places = n .places; transitions = n .transitions; tokens = n .tokens; inputs = set (n .inputs) i 1; outputs = n .outputs; inhibitors = n .inhibitors }
-marked Output n i = record { places = n .places; transitions = n .transitions; tokens = n .tokens; inputs = n .inputs; outputs = set (n .outputs) i 1; inhibitors = n .inhibitors }
-marked Inhibitor n i = record { places = n .places; transitions = n .transitions; tokens = n .tokens; inputs = n .inputs; outputs = n .outputs; inhibitors = set (n .inhibitors) i 1 }
 
 -- at 32 × t + p an array has what f says of t and p
 pub record Cells (xs : List ℕ) (f : ℕ → ℕ → ℕ) : Type 0 where
@@ -51,10 +40,43 @@ pub record Holds (n : Net) (m : NetD) : Type 0 where
   pub outputs : Cells (n .outputs) (makes m)
   pub inhibitors : Cells (n .inhibitors) (λ t p. asCount (inhibits m p t))
 
--- the same with the sum of the tokens beside it
-pub record Draft (all : ℕ) (n : Net) (m : NetD) : Type 0 where
-  pub holds : Holds n m
-  pub total : all ≡ sum (m .tokens)
+-- ---- the arrays that are lent while the lines are read
+
+pub record Arrays : Type 0 where
+  pub tokens : List ℕ
+  pub inputs : List ℕ
+  pub outputs : List ℕ
+  pub inhibitors : List ℕ
+
+abbrev pub arrays : List ℕ → List ℕ → List ℕ → List ℕ → Arrays
+arrays ts is os hs = record { tokens = ts; inputs = is; outputs = os; inhibitors = hs }
+
+-- the arrays with another in place of the tokens, and below of the arcs of one kind
+abbrev pub withTokens : Arrays → List ℕ → Arrays
+withTokens a xs = arrays xs (a .inputs) (a .outputs) (a .inhibitors)
+
+-- the array of one kind of arc
+abbrev pub cellsOf : ArcKind → Arrays → List ℕ
+cellsOf Input a = a .inputs
+cellsOf Output a = a .outputs
+cellsOf Inhibitor a = a .inhibitors
+
+abbrev pub withCells : ArcKind → Arrays → List ℕ → Arrays
+withCells Input a xs = arrays (a .tokens) xs (a .outputs) (a .inhibitors)
+withCells Output a xs = arrays (a .tokens) (a .inputs) xs (a .inhibitors)
+withCells Inhibitor a xs = arrays (a .tokens) (a .inputs) (a .outputs) xs
+
+-- the net of a size and of arrays
+abbrev pub netWith : Size → Arrays → Net
+netWith s a = record { places = s .places; transitions = s .transitions; tokens = a .tokens; inputs = a .inputs; outputs = a .outputs; inhibitors = a .inhibitors }
+
+-- they hold the net, and the size has the sum of its tokens
+pub record Draft (s : Size) (a : Arrays) (m : NetD) : Type 0 where
+  pub holds : Holds (netWith s a) m
+  pub total : s .total ≡ sum (m .tokens)
+
+abbrev pub noSize : Size
+noSize = record { places = 0; transitions = 0; total = 0 }
 
 -- the paper's number and values of an answer
 abbrev pub answerOf : NetAnswer → Answer (ℕ × ℕ)
@@ -77,29 +99,36 @@ goesOf (Lacking t) = false
 abbrev pub netCounts : NetD → ℕ × ℕ
 netCounts m = (length (m .tokens), m .transitions)
 
--- what a step of the definitions answers, of every net that the arrays hold
-abbrev pub Steps : ℕ → Net → (NetD → Answer NetD) → Stepped → Type 0
-Steps total n f s = (m : NetD) → Draft total n m → Agrees netCounts (answerOf (s .answer)) (Draft (s .total) (s .net)) (f m)
+-- what a step of the definitions answers, of every net that the arrays hold; a′ are the arrays after it
+abbrev pub Steps : Size → Arrays → (NetD → Answer NetD) → Stepped → Arrays → Type 0
+Steps s a f r a′ = (m : NetD) → Draft s a m → Agrees netCounts (answerOf (r .answer)) (Draft (r .size) a′) (f m)
 
 -- the bounds that the code relies on
-pub record Fits (all : ℕ) (n : Net) : Type 0 where
-  pub places : n .places ≤ 32
-  pub transitions : n .transitions ≤ 32
-  pub total : all ≤ 512
+pub record Few (s : Size) : Type 0 where
+  pub places : s .places ≤ 32
+  pub transitions : s .transitions ≤ 32
+
+pub record Fits (s : Size) : Type 0 where
+  pub few : Few s
+  pub total : s .total ≤ 512
 
 -- some place below n has a mark at the transition
 unfoldable pub anyCell : List ℕ → ℕ → ℕ → Bool
 anyCell xs t n = any (λ p. ltb 0 (getD xs (32 * t + p) 0)) (upTo n)
 
-unfoldable pub lacksOf : Net → ℕ → Bool
-lacksOf n t = not (anyCell (n .inputs) t (n .places)) || not (anyCell (n .outputs) t (n .places))
+unfoldable pub lacksOf : List ℕ → List ℕ → ℕ → ℕ → Bool
+lacksOf is os n t = not (anyCell is t n) || not (anyCell os t n)
 
 abbrev pub lineOf : List ℕ → Bool → Line
 lineOf l e = record { bytes = l; ended = e }
 
--- the last rule, of every net that the arrays hold
-abbrev pub Finishes : Net → NetRead → Type 0
-Finishes n r = (m : NetD) → Holds n m → Agrees netCounts (answerOf (r .answer)) (Holds (r .net)) (whole m)
+-- the answer to all lines
+abbrev pub ReadsLines : List ℕ → Stepped → Arrays → Type 0
+ReadsLines text r a = Agrees netCounts (answerOf (r .answer)) (Draft (r .size) a) (byLines addLine 1 (linesOf text) emptyNet)
+
+-- the last rule after an answer that agrees, of every net that the arrays hold
+abbrev pub Finishes : Stepped → List ℕ → List ℕ → NetAnswer → Type 0
+Finishes r is os v = (a : Arrays) → a .inputs ≡ is → a .outputs ≡ os → (x : Answer NetD) → Agrees netCounts (answerOf (r .answer)) (Draft (r .size) a) x → Agrees netCounts (answerOf v) (Holds (netWith (r .size) a)) (x >>= whole)
 
 -- the answer is the paper's, and the net is the one that the text declares
 pub record Reads (text : List ℕ) (r : NetRead) : Type 0 where

@@ -1,17 +1,16 @@
 // The net reader: a text becomes a net of arrays, or a refusal.
 ghost use mathlib.Core.Path.{_≡_};
-ghost use mathlib.Core.Bool.{Bool};
-ghost use Prim.Native.Nat.{ℕ, _≤_, _<_};
-ghost use lib.ListN.{length, getD};
-ghost use Rattle.spec.specs.Net.{addPlace, addTransition, addArc, addRow, addLine, whole, readNet};
-ghost use Rattle.net.specs.Holds.{cellsOf, marked, Holds, Draft, answerOf, goesOf, anyCell, lacksOf, lineOf, Steps, Fits, Finishes, Reads};
+ghost use mathlib.Core.Bool.{true};
+ghost use Prim.Native.Nat.{_≤_, _<_};
+ghost use Rattle.spec.specs.Net.{addPlace, addTransition, addArc, addRow, addLine, emptyNet};
+ghost use Rattle.spec.specs.declared.ArcKind.{ArcKind};
+ghost use Rattle.net.specs.Holds.{goesOf, Arrays, arrays, cellsOf, withTokens, withCells, noSize, Draft, Fits, Few, anyCell, lacksOf, lineOf, Steps, ReadsLines, Finishes, Reads};
 use fields::row_of;
 use forms::is_alone;
 use forms::is_one;
 use forms::is_two;
 use forms::number_in;
 use lines::line_at;
-use spec::ArcKind;
 use spec::Class;
 use spec::Row;
 
@@ -40,17 +39,25 @@ pub struct NetRead {
     pub net: Net,
 }
 
-// The answer to the lines so far, and the net and the sum of its tokens after them.
-pub struct Stepped {
-    pub answer: NetAnswer,
+// How many places and transitions there are so far, and the sum of their tokens.
+pub struct Size {
+    pub places: usize,
+    pub transitions: usize,
     pub total: usize,
-    pub net: Net,
 }
 
-fn goes(a: NetAnswer) -> bool
-    ensures { λ r. ⌜ r ≡ goesOf a ⌝ }
+// The answer to the lines so far, and the size after them.
+pub struct Stepped {
+    pub answer: NetAnswer,
+    pub size: Size,
+}
+
+// Whether the reading goes on.
+fn goes(s: Stepped) -> bool
+    ensures { λ r. ⌜ r ≡ goesOf (s .answer) ⌝ }
 {
-    match a {
+    let answer = s.answer;
+    match answer {
         NetAnswer::Accepted(_, _) => true,
         NetAnswer::Malformed(_) => false,
         NetAnswer::LimitPassed(_) => false,
@@ -60,147 +67,169 @@ fn goes(a: NetAnswer) -> bool
     }
 }
 
-fn refused(answer: NetAnswer, total: usize, n: Net) -> Stepped
-    ensures { λ s. ⌜ s ≡ record { answer = answer; total = total; net = n } ⌝ }
+// The net so far has this size.
+fn added(places: usize, transitions: usize, total: usize) -> Stepped
+    ensures { λ r. ⌜ r ≡ record { answer = NetAnswer.Accepted places transitions; size = record { places = places; transitions = transitions; total = total } } ⌝ }
 {
     Stepped {
-        answer,
-        total,
-        net: n,
+        answer: NetAnswer::Accepted(places, transitions),
+        size: Size {
+            places,
+            transitions,
+            total,
+        },
     }
+}
+
+// The line is refused.
+fn refused(answer: NetAnswer, s: Size) -> Stepped
+    ensures { λ r. ⌜ r ≡ record { answer = answer; size = s } ⌝ }
+{
+    Stepped { answer, size: s }
 }
 
 // One more place with v tokens.
-fn add_place(k: usize, v: usize, total: usize, n: Net) -> Stepped
-    requires { ⌜ Fits total n ⌝ }
-    ensures { λ s. ⌜ Steps total n (addPlace k v) s ⌝ }
+fn add_place(k: usize, v: usize, s: Size, tokens: &mut [u16; 32]) -> Stepped
+    requires { ⌜ Fits s ⌝ }
+    ensures { λ r. ⌜ ((a : Arrays) → a .tokens ≡ now (tokens .entry) → Steps s a (addPlace k v) r (withTokens a (now (tokens .exit)))) ⌝ }
 {
-    let at = n.places;
+    let at = s.places;
     if 32 <= at {
-        return refused(NetAnswer::LimitPassed(k), total, n);
+        return refused(NetAnswer::LimitPassed(k), s);
     }
     if 512 < v {
-        return refused(NetAnswer::LimitPassed(k), total, n);
+        return refused(NetAnswer::LimitPassed(k), s);
     }
-    if 512 < total + v {
-        return refused(NetAnswer::LimitPassed(k), total, n);
+    if 512 < s.total + v {
+        return refused(NetAnswer::LimitPassed(k), s);
     }
-    let mut m = n;
-    m.tokens[at] = v as u16;
-    m.places = at + 1;
-    Stepped {
-        answer: NetAnswer::Accepted(at + 1, m.transitions),
-        total: total + v,
-        net: m,
-    }
+    tokens[at] = v as u16;
+    added(at + 1, s.transitions, s.total + v)
 }
 
-fn add_transition(k: usize, total: usize, n: Net) -> Stepped
-    ensures { λ s. ⌜ Steps total n (addTransition k) s ⌝ }
+// One more transition.
+fn add_transition(k: usize, s: Size) -> Stepped
+    ensures { λ r. ⌜ ((a : Arrays) → Steps s a (addTransition k) r a) ⌝ }
 {
-    let at = n.transitions;
-    if 32 <= at {
-        return refused(NetAnswer::LimitPassed(k), total, n);
+    if 32 <= s.transitions {
+        return refused(NetAnswer::LimitPassed(k), s);
     }
-    let mut m = n;
-    m.transitions = at + 1;
-    Stepped {
-        answer: NetAnswer::Accepted(m.places, at + 1),
-        total,
-        net: m,
-    }
+    added(s.places, s.transitions + 1, s.total)
 }
 
-// The mark of one kind of arc.
-fn mark(x: ArcKind, n: Net, at: usize) -> u8
-    requires { ⌜ at < 1024 ⌝ }
-    ensures { λ r. ⌜ r ≡ getD (cellsOf x n) at 0 ⌝ }
+// One more arc of the kind whose array is lent.
+fn add_arc(k: usize, p: usize, t: usize, s: Size, cells: &mut [u8; 1024]) -> Stepped
+    requires { ⌜ Fits s ⌝ }
+    ensures { λ r. ⌜ ((x : ArcKind) (a : Arrays) → cellsOf x a ≡ now (cells .entry) → Steps s a (addArc x k p t) r (withCells x a (now (cells .exit)))) ⌝ }
 {
-    match x {
-        ArcKind::Input => n.inputs[at],
-        ArcKind::Output => n.outputs[at],
-        ArcKind::Inhibitor => n.inhibitors[at],
+    if s.places <= p {
+        return refused(NetAnswer::Undeclared(k), s);
     }
-}
-
-// The net with one mark more.
-fn with_mark(x: ArcKind, n: Net, at: usize) -> Net
-    requires { ⌜ at < 1024 ⌝ }
-    ensures { λ r. ⌜ r ≡ marked x n at ⌝ }
-{
-    let mut m = n;
-    match x {
-        ArcKind::Input => {
-            m.inputs[at] = 1;
-            m
-        }
-        ArcKind::Output => {
-            m.outputs[at] = 1;
-            m
-        }
-        ArcKind::Inhibitor => {
-            m.inhibitors[at] = 1;
-            m
-        }
-    }
-}
-
-fn add_arc(x: ArcKind, k: usize, p: usize, t: usize, total: usize, n: Net) -> Stepped
-    requires { ⌜ Fits total n ⌝ }
-    ensures { λ s. ⌜ Steps total n (addArc x k p t) s ⌝ }
-{
-    if n.places <= p {
-        return refused(NetAnswer::Undeclared(k), total, n);
-    }
-    if n.transitions <= t {
-        return refused(NetAnswer::Undeclared(k), total, n);
+    if s.transitions <= t {
+        return refused(NetAnswer::Undeclared(k), s);
     }
     let at = 32 * t + p;
-    if 0 < mark(x, n, at) {
-        return refused(NetAnswer::ArcRepeated(k), total, n);
+    if 0 < cells[at] {
+        return refused(NetAnswer::ArcRepeated(k), s);
     }
-    Stepped {
-        answer: NetAnswer::Accepted(n.places, n.transitions),
-        total,
-        net: with_mark(x, n, at),
-    }
+    cells[at] = 1;
+    added(s.places, s.transitions, s.total)
 }
 
 // What a line declares is added.
-fn add_row(k: usize, r: Row, total: usize, n: Net) -> Stepped
-    requires { ⌜ Fits total n ⌝ }
-    ensures { λ s. ⌜ Steps total n (addRow k r) s ⌝ }
+fn add_row(
+    k: usize,
+    r: Row,
+    s: Size,
+    tokens: &mut [u16; 32],
+    inputs: &mut [u8; 1024],
+    outputs: &mut [u8; 1024],
+    inhibitors: &mut [u8; 1024],
+) -> Stepped
+    requires { ⌜ Fits s ⌝ }
+    ensures { λ q. ⌜ Steps s (arrays (now (tokens .entry)) (now (inputs .entry)) (now (outputs .entry)) (now (inhibitors .entry))) (addRow k r) q (arrays (now (tokens .exit)) (now (inputs .exit)) (now (outputs .exit)) (now (inhibitors .exit))) ⌝ }
 {
     let first = r.first;
     let second = r.second;
     let a = number_in(first);
     let b = number_in(second);
     if is_one(Class::LetterP, r) {
-        return add_place(k, a, total, n);
+        return add_place(k, a, s, tokens);
     }
     if is_alone(Class::LetterT, r) {
-        return add_transition(k, total, n);
+        return add_transition(k, s);
     }
     if is_two(Class::LetterI, r) {
-        return add_arc(ArcKind::Input, k, a, b, total, n);
+        return add_arc(k, a, b, s, inputs);
     }
     if is_two(Class::LetterO, r) {
-        return add_arc(ArcKind::Output, k, b, a, total, n);
+        return add_arc(k, b, a, s, outputs);
     }
     if is_two(Class::LetterH, r) {
-        return add_arc(ArcKind::Inhibitor, k, a, b, total, n);
+        return add_arc(k, a, b, s, inhibitors);
     }
-    refused(NetAnswer::Malformed(k), total, n)
+    refused(NetAnswer::Malformed(k), s)
 }
 
-fn add_line(k: usize, l: &[u8], ended: bool, total: usize, n: Net) -> Stepped
-    requires { ⌜ Fits total n ⌝ }
-    ensures { λ s. ⌜ Steps total n (addLine k (lineOf (now (l .entry)) ended)) s ⌝ }
+// A line is added, if it is ended.
+fn add_line(
+    k: usize,
+    l: &[u8],
+    ended: bool,
+    s: Size,
+    tokens: &mut [u16; 32],
+    inputs: &mut [u8; 1024],
+    outputs: &mut [u8; 1024],
+    inhibitors: &mut [u8; 1024],
+) -> Stepped
+    requires { ⌜ Fits s ⌝ }
+    ensures { λ q. ⌜ Steps s (arrays (now (tokens .entry)) (now (inputs .entry)) (now (outputs .entry)) (now (inhibitors .entry))) (addLine k (lineOf (now (l .entry)) ended)) q (arrays (now (tokens .exit)) (now (inputs .exit)) (now (outputs .exit)) (now (inhibitors .exit))) ⌝ }
 {
     if !ended {
-        return refused(NetAnswer::Malformed(k), total, n);
+        return refused(NetAnswer::Malformed(k), s);
     }
-    add_row(k, row_of(4, l), total, n)
+    add_row(k, row_of(4, l), s, tokens, inputs, outputs, inhibitors)
+}
+
+// The lines are added, one after the other, to arrays that hold no net yet.
+fn add_lines(
+    text: &[u8],
+    tokens: &mut [u16; 32],
+    inputs: &mut [u8; 1024],
+    outputs: &mut [u8; 1024],
+    inhibitors: &mut [u8; 1024],
+) -> Stepped
+    requires { ⌜ Draft noSize (arrays (now tokens) (now inputs) (now outputs) (now inhibitors)) emptyNet ⌝ }
+    ensures { λ q. ⌜ ReadsLines (now (text .entry)) q (arrays (now (tokens .exit)) (now (inputs .exit)) (now (outputs .exit)) (now (inhibitors .exit))) ⌝ }
+{
+    let mut s = Size {
+        places: 0,
+        transitions: 0,
+        total: 0,
+    };
+    let mut k: usize = 1;
+    let mut at: usize = 0;
+    while at < text.len() {
+        let line = line_at(text, at);
+        let end = line.end;
+        let step = add_line(
+            k,
+            &text[at..end],
+            line.ended,
+            s,
+            tokens,
+            inputs,
+            outputs,
+            inhibitors,
+        );
+        if !goes(step) {
+            return step;
+        }
+        s = step.size;
+        k += 1;
+        at = line.next;
+    }
+    added(s.places, s.transitions, s.total)
 }
 
 // Whether some place is joined to the transition.
@@ -219,65 +248,55 @@ fn any_cell(cells: &[u8; 1024], t: usize, places: usize) -> bool
 }
 
 // Whether the transition lacks an input or an output.
-fn lacks(n: Net, t: usize) -> bool
-    requires { ⌜ (t < 32) × (n .places ≤ 32) ⌝ }
-    ensures { λ r. ⌜ r ≡ lacksOf n t ⌝ }
+fn lacks(inputs: &[u8; 1024], outputs: &[u8; 1024], t: usize, places: usize) -> bool
+    requires { ⌜ (t < 32) × (places ≤ 32) ⌝ }
+    ensures { λ r. ⌜ r ≡ lacksOf (now (inputs .entry)) (now (outputs .entry)) places t ⌝ }
 {
-    let inputs = n.inputs;
-    let outputs = n.outputs;
-    let places = n.places;
-    !any_cell(&inputs, t, places) | !any_cell(&outputs, t, places)
+    !any_cell(inputs, t, places) | !any_cell(outputs, t, places)
 }
 
-// The rule that is judged after all lines.
-fn finish(n: Net) -> NetRead
-    requires { ⌜ (n .places ≤ 32) × (n .transitions ≤ 32) ⌝ }
-    ensures { λ r. ⌜ Finishes n r ⌝ }
+// The answer to all lines, and then to the rule that is judged after them.
+fn finish(read: Stepped, inputs: &[u8; 1024], outputs: &[u8; 1024]) -> NetAnswer
+    requires { ⌜ (goesOf (read .answer) ≡ true → Few (read .size)) ⌝ }
+    ensures { λ r. ⌜ Finishes read (now (inputs .entry)) (now (outputs .entry)) r ⌝ }
 {
-    let end = n.transitions;
+    let answer = read.answer;
+    if !goes(read) {
+        return answer;
+    }
+    let size = read.size;
+    let places = size.places;
+    let end = size.transitions;
     let mut t: usize = 0;
     while t < end {
-        if lacks(n, t) {
-            return NetRead {
-                answer: NetAnswer::Lacking(t),
-                net: n,
-            };
+        if lacks(inputs, outputs, t, places) {
+            return NetAnswer::Lacking(t);
         }
         t += 1;
     }
-    NetRead {
-        answer: NetAnswer::Accepted(n.places, end),
-        net: n,
-    }
+    answer
 }
 
 // The net that a text declares.
 pub fn read_net(net: &[u8]) -> NetRead
     ensures { λ r. ⌜ Reads (now (net .entry)) r ⌝ }
 {
-    let mut n = Net {
-        places: 0,
-        transitions: 0,
-        tokens: [0u16; 32],
-        inputs: [0u8; 1024],
-        outputs: [0u8; 1024],
-        inhibitors: [0u8; 1024],
-    };
-    let mut total: usize = 0;
-    let mut k: usize = 1;
-    let mut at: usize = 0;
-    while at < net.len() {
-        let line = line_at(net, at);
-        let end = line.end;
-        let step = add_line(k, &net[at..end], line.ended, total, n);
-        let answer = step.answer;
-        n = step.net;
-        if !goes(answer) {
-            return NetRead { answer, net: n };
-        }
-        total = step.total;
-        k += 1;
-        at = line.next;
+    let mut tokens = [0u16; 32];
+    let mut inputs = [0u8; 1024];
+    let mut outputs = [0u8; 1024];
+    let mut inhibitors = [0u8; 1024];
+    let read = add_lines(net, &mut tokens, &mut inputs, &mut outputs, &mut inhibitors);
+    let answer = finish(read, &inputs, &outputs);
+    let size = read.size;
+    NetRead {
+        answer,
+        net: Net {
+            places: size.places,
+            transitions: size.transitions,
+            tokens,
+            inputs,
+            outputs,
+            inhibitors,
+        },
     }
-    finish(n)
 }

@@ -1,4 +1,4 @@
-use mathlib.Core.Path.{_≡_, refl}
+use mathlib.Core.Path.{refl}
 use borrow.Author.Needs.{needs}
 use Rattle.spec.specs.Answer.{_>>_, refuse_at_when_}
 use Rattle.spec.specs.Net.{addLine}
@@ -13,4 +13,5 @@ add-line-spec = tie.close (tie.spec
     (λ c m d. rw (c .refused .ensures, c .before .if1 .taken) (refusing 11 _ refl refl))
     (λ c κs. search needs)
     (λ c κs. search needs)
-    (λ c m d. rw (c .before .before .if1 .left, ← c .before .row-of .ensures) (c .add-row .ensures m d)))
+    (λ c m d. let r = c .before .before .before .before .before in
+    rw (r .before .if1 .left, ← r .row-of .ensures) (c .add-row .ensures m d)))
