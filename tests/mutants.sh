@@ -34,6 +34,8 @@ try() { # EDIT
   log=$dir/log
   (cd "$dir" && RT_JOBS=1 rt check runs > "$log" 2>&1) && { echo "mutant $name: NOT REFUSED"; return 1; }
   grep -q '^rt: spec proved' "$log" || { echo "mutant $name: the edit is no definition"; return 1; }
+  # refused by the prover, and not stopped for another reason
+  grep -qE '^rt: (lists|order|runs) NOT PROVED \(exit 1,' "$log" || { echo "mutant $name: the theorems were not tried"; tail -n 3 "$log"; return 1; }
   echo "mutant $name: refused, as it must be"
 }
 export -f copy try

@@ -18,7 +18,7 @@ use Rattle.spec.specs.Replay.{isGroupLine, repeats, breaks, groupsLine}
 use Rattle.spec.specs.declared.Class.the-variants.{LetterG}
 use Rattle.lists.specs.Laws.{at-in, and-true, and-three, all-below, flat-snoc}
 use Rattle.lines.specs.Agree.{giving, refusing}
-use Rattle.net.specs.Holds.{lineOf}
+use Rattle.lines.specs.Lines.{lineOf}
 use Rattle.arrangements.specs.Lined.{TellsOrder, Stands, Lined, Sound, Enters, breaksIn}
 use Rattle.arrangements.specs.Arrangement.{answerOf, goesOf, Judged}
 use Rattle.arrangements.specs.declared.Group.{Group}

@@ -12,7 +12,7 @@ use Rattle.spec.specs.Forms.{numbersOf}
 use Rattle.lines.specs.Agree.{Agrees}
 use Rattle.spec.specs.Record.{RunRecord}
 use Rattle.spec.specs.Replay.{groupsLine}
-use Rattle.net.specs.Holds.{lineOf}
+use Rattle.lines.specs.Lines.{lineOf}
 use Rattle.arrangements.specs.Lined.{TellsOrder, Lined}
 use Rattle.arrangements.specs.declared.Group.{Group}
 use Rattle.arrangements.specs.declared.ArrangementAnswer.{ArrangementAnswer}

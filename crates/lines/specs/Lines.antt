@@ -1,11 +1,11 @@
 -- The line at a position of a text, and what the function that finds it promises.
 use Prim.Native.Nat.{ℕ, _+_, _-_, _≤_, _<_}
 use mathlib.Core.Path.{_≡_}
-use mathlib.Core.Bool.{true, false}
+use mathlib.Core.Bool.{Bool, true, false}
 use mathlib.Core.List.{List, _∷_, _++_}
 use lib.ListN.{length, drop, take}
 use lib.Dec.{ltb}
-use Rattle.spec.specs.Text.{linesOf}
+use Rattle.spec.specs.Text.{Line, linesOf}
 use Rattle.spec.specs.Line.{startAfter}
 use Rattle.spec.specs.declared.Class.the-variants.{LineEnd}
 use Rattle.classes.specs.Scan.{before}
@@ -19,14 +19,18 @@ endFrom s at = at + before LineEnd (drop at s)
 abbrev pub spanTo : List ℕ → ℕ → ℕ → Span
 spanTo s end next = record { end = end; next = next; ended = ltb end (length s) }
 
+-- a line of these bytes
+abbrev pub lineOf : List ℕ → Bool → Line
+lineOf l e = record { bytes = l; ended = e }
+
 -- the line that starts at a position, and where the next one starts
 pub record LineAt (s : List ℕ) (at : ℕ) (r : Span) : Type 0 where
   pub start : at ≤ r .end
   pub end : r .end ≤ length s
   pub on : r .end < r .next
   pub next : r .next ≤ length s + 1
-  pub lines : linesOf (drop at s) ≡ record { bytes = take (r .end - at) (drop at s); ended = r .ended } ∷ linesOf (drop (r .next) s)
+  pub lines : linesOf (drop at s) ≡ lineOf (take (r .end - at) (drop at s)) (r .ended) ∷ linesOf (drop (r .next) s)
   pub last : r .ended ≡ false → length s < r .next
   pub within : r .ended ≡ true → r .next ≤ length s
-  pub closes : r .ended ≡ true → (rest : List ℕ) → linesOf (take (r .next - at) (drop at s) ++ rest) ≡ record { bytes = take (r .end - at) (drop at s); ended = r .ended } ∷ linesOf rest
+  pub closes : r .ended ≡ true → (rest : List ℕ) → linesOf (take (r .next - at) (drop at s) ++ rest) ≡ lineOf (take (r .end - at) (drop at s)) (r .ended) ∷ linesOf rest
   pub skips : r .ended ≡ true → r .next ≡ at + startAfter 1 (drop at s)

@@ -3,7 +3,7 @@ ghost use mathlib.Core.Path.{_≡_};
 ghost use Prim.Native.Nat.{_≤_};
 ghost use lib.ListN.{length, take};
 ghost use Rattle.spec.specs.Lists.{sum};
-ghost use Rattle.net.specs.Holds.{lineOf};
+ghost use Rattle.lines.specs.Lines.{lineOf};
 ghost use Rattle.judging.specs.Holds.{logAnswer, Reached};
 ghost use Rattle.logs.specs.Holds.{given, LinesOn, Begun, PlaysLog, Begins};
 use judging::LogAnswer;

@@ -8,7 +8,7 @@ use lib.Dec.{ltb}
 use Rattle.spec.specs.Answer.{Answer, gives, refuses, _>>=_, returned}
 use Rattle.lines.specs.Agree.{Agrees}
 use Rattle.spec.specs.Lists.{any, upTo, sum, asCount}
-use Rattle.spec.specs.Text.{Line, linesOf, byLines}
+use Rattle.spec.specs.Text.{linesOf, byLines}
 use Rattle.spec.specs.Net.{Net as NetD, takes, makes, inhibits, addLine, emptyNet, whole, readNet}
 use Rattle.net.specs.declared.Net.{Net}
 use Rattle.spec.specs.declared.ArcKind.{ArcKind}
@@ -118,9 +118,6 @@ anyCell xs t n = any (λ p. ltb 0 (getD xs (32 * t + p) 0)) (upTo n)
 
 unfoldable pub lacksOf : List ℕ → List ℕ → ℕ → ℕ → Bool
 lacksOf is os n t = not (anyCell is t n) || not (anyCell os t n)
-
-abbrev pub lineOf : List ℕ → Bool → Line
-lineOf l e = record { bytes = l; ended = e }
 
 -- the answer to all lines
 abbrev pub ReadsLines : List ℕ → Stepped → Arrays → Type 0

@@ -8,7 +8,7 @@ ghost use Rattle.spec.specs.Lists.{any};
 ghost use Rattle.spec.specs.Text.{mostDigits};
 ghost use Rattle.spec.specs.Forms.{isList, numbersOf};
 ghost use Rattle.spec.specs.Build.{isStepLine};
-ghost use Rattle.net.specs.Holds.{lineOf};
+ghost use Rattle.lines.specs.Lines.{lineOf};
 ghost use Rattle.number_lines.specs.Numbers.{Few, Begins};
 use fields::is_list;
 use fields::letter_at;

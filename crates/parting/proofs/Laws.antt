@@ -12,9 +12,9 @@ use lib.Dec.{eqb}
 use borrow.Author.Tests.{eq-eqb, ne-eqb}
 use Rattle.spec.specs.Text.{Line, linesOf}
 use Rattle.spec.specs.Program.{Input, isParting, withNetLine, parted}
-use Rattle.lines.specs.Lines.{LineAt}
+use Rattle.lines.specs.Lines.{lineOf, LineAt}
 use Rattle.lines.specs.declared.Span.{Span}
-use Rattle.parting.specs.Parts.{lineOf, PartedAt}
+use Rattle.parting.specs.Parts.{PartedAt}
 
 -- ---- lines put in front of what was parted
 

@@ -5,13 +5,10 @@ use mathlib.Core.Bool.{Bool}
 use mathlib.Core.Option.{Option, none, some}
 use mathlib.Core.List.{List}
 use lib.ListN.{length, take, drop}
-use Rattle.spec.specs.Text.{Line, linesOf}
+use Rattle.spec.specs.Text.{linesOf}
 use Rattle.spec.specs.Program.{Input, parted}
 use Rattle.parting.specs.declared.Parting.{Parting}
 use Rattle.parting.specs.declared.Parting.the-variants.{At, Nothing}
-
-abbrev pub lineOf : List ℕ → Bool → Line
-lineOf l e = record { bytes = l; ended = e }
 
 -- the net is the text up to a, the log the text from b on
 pub record PartedAt (input : List ℕ) (a b : ℕ) : Type 0 where

@@ -1,7 +1,8 @@
 // The program's input: a net, a line `=`, a log.
 ghost use mathlib.Core.Path.{_≡_};
 ghost use Rattle.spec.specs.Program.{isParting};
-ghost use Rattle.parting.specs.Parts.{Parts, lineOf};
+ghost use Rattle.lines.specs.Lines.{lineOf};
+ghost use Rattle.parting.specs.Parts.{Parts};
 use lines::line_at;
 
 // Where the net ends and where the log starts, or that no line is `=`.

@@ -19,7 +19,7 @@ use Rattle.lists.specs.Stretch.{MappedFrom}
 use Rattle.lines.specs.Agree.{Agrees, giving, refusing}
 use Rattle.lines.proofs.Answers.{isGiven}
 use Rattle.lines.proofs.ByLines.{line-taken, line-refused, lines-done}
-use Rattle.net.specs.Holds.{lineOf}
+use Rattle.lines.specs.Lines.{lineOf}
 use Rattle.net.specs.declared.Net.{Net}
 use Rattle.steps.specs.Holds.{HoldsStep, IsStep, cellAt, Sums}
 use Rattle.steps.proofs.Rows.{sums-none}

@@ -5,7 +5,7 @@ use mathlib.Core.Bool.{Bool, true, false}
 use mathlib.Core.List.{List}
 use lib.ListN.{length, getD}
 use Rattle.spec.specs.Answer.{Answer, gives, refuses}
-use Rattle.spec.specs.Text.{Line, linesOf, byLines}
+use Rattle.spec.specs.Text.{linesOf, byLines}
 use Rattle.spec.specs.Net.{Net, places}
 use Rattle.spec.specs.Record.{RunRecord, Condition, Mark}
 use Rattle.spec.specs.Check.{eventOf, enterLine, emptyRecord}
@@ -77,9 +77,6 @@ conditionIn p x y = record { place = p; producer = eventOf x; consumer = eventOf
 
 abbrev pub markOf : MarkKind → ℕ → ℕ → Mark
 markOf x c e = record { kind = x; condition = c; event = e }
-
-abbrev pub lineOf : List ℕ → Bool → Line
-lineOf l e = record { bytes = l; ended = e }
 
 -- the answer is the paper's, and where it is a record the bytes hold it
 abbrev pub ReadsRecord : Limits → ℕ → ℕ → List ℕ → RecordRead → List ℕ → Type 0

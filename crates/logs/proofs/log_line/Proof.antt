@@ -4,7 +4,7 @@ use borrow.Author.Tests.{not-true, not-false}
 use Rattle.spec.specs.Text.{mostDigits}
 use Rattle.spec.specs.Forms.{numbersOf}
 use Rattle.lines.specs.Agree.{giving, refusing}
-use Rattle.net.specs.Holds.{lineOf}
+use Rattle.lines.specs.Lines.{lineOf}
 use Rattle.number_lines.proofs.Lines.{few-known}
 use Rattle.judging.proofs.Reaching.{events-held}
 use Rattle.logs.proofs.Lines.{some-number, answers-21, answers-22, answers-23, answers-step, line-known, line-step}
