@@ -8,8 +8,8 @@ use native.Mathlib.Nat.{add-zero, le-of-eq}
 use native.Mathlib.Omega.{arith}
 use lib.Dec.{ltb}
 use lib.ListN.{length, set, take, drop, getD, length-set, length-append}
-use lib.Seq.{sets, sets-eq, take-suc}
-use borrow.Author.Tests.{lt-ltb, le-ltb}
+use lib.Seq.{sets, sets-eq, take-suc, set-comm}
+use borrow.Author.Tests.{lt-ltb, le-ltb, ltb-true, ltb-false}
 use Rattle.spec.specs.Text.{digit, digits, fieldsBytes, fieldBytes}
 use Rattle.spec.specs.Buffer.{over}
 use Rattle.spec.specs.declared.Field.{Field}
@@ -62,9 +62,6 @@ after {old} {at} {xs} {ys} a b = record {
 
 -- ---- numbers
 
-pub positive : {n : ℕ} → (n ≡ 0 → ⊥) → 0 < n
-positive h = omega arith
-
 pub digits-low : (most n : ℕ) → 0 < most → n < 10 → digits most n ≡ (48 + n) ∷ []
 unfolding digits digit
 digits-low zero n h l = absurd (omega arith)
@@ -78,6 +75,84 @@ digits-high (suc most) n h l = let e : suc most - 1 ≡ most = omega arith in rw
 pub digits-none : (most n : ℕ) → most ≡ 0 → digits most n ≡ []
 unfolding digits
 digits-none most n e = rw e
+
+-- how many digits are written, one after the other
+pub count-one : (most n count : ℕ) → count < most → n < 10 → length (digits (most - count) n) ≡ 1
+count-one most n count h l = ap length (digits-low (most - count) n (omega arith) l)
+
+pub count-more : (most n count : ℕ) → count < most → 10 ≤ n → length (digits (most - count) n) ≡ length (digits (most - (count + 1)) (n / 10)) + 1
+count-more most n count h l =
+    let e : most - count - 1 ≡ most - (count + 1) = omega arith in
+    ap length (digits-high (most - count) n (omega arith) l) ∙ length-append (digits (most - count - 1) (n / 10)) ((48 + n % 10) ∷ []) ∙ rw e
+
+pub count-none : (most n count : ℕ) → most ≤ count → length (digits (most - count) n) ≡ 0
+count-none most n count h = let e : most - count ≡ 0 = omega arith in ap length (digits-none (most - count) n e)
+
+-- a value put behind a write, before or after it
+behind : (old : List ℕ) (at j d : ℕ) (xs : List ℕ) → at + length xs ≤ j → putAt (set old j d) at xs ≡ set (putAt old at xs) j d
+unfolding putAt
+behind old at j d [] h = refl
+behind old at j d (x ∷ xs) h =
+    ap (λ (s : List ℕ). putAt s (at + 1) xs) (set-comm old j at d x (λ e. absurd (omega (arith, e)))) ∙ behind (set old at x) (at + 1) j d xs (omega arith)
+
+put-snoc : (old : List ℕ) (at d : ℕ) (xs : List ℕ) → putAt (set old (at + length xs) d) at xs ≡ putAt old at (xs ++ d ∷ [])
+unfolding putAt
+put-snoc old at d xs = behind old at (at + length xs) d xs (omega arith) ∙ put-put old at xs (d ∷ [])
+
+-- The digits written from their end on: what is left to write is the digits of the rest, before position i.
+pub record Left (old : List ℕ) (at most n : ℕ) (i rest : ℕ) (now : List ℕ) : Type 0 where
+  pub least : ℕ
+  pub size : i ≡ at + length (digits least rest)
+  pub bytes : putAt now at (digits least rest) ≡ putAt old at (digits most n)
+
+module _ {old : List ℕ} {at most n : ℕ} where
+  pub left-all : (i : ℕ) → i ≡ length (digits most n) → Left old at most n (at + i) n old
+  left-all i e = record { least = most; size = ap (λ (z : ℕ). at + z) e; bytes = refl }
+
+  pub left-none : {rest : ℕ} {now : List ℕ} {i : ℕ} → i ≤ at → Left old at most n i rest now → now ≡ putAt old at (digits most n)
+  left-none {rest} {now} h l = go (digits (l .least) rest) (omega (arith, l .size)) (l .bytes)
+    where
+      go : (xs : List ℕ) → length xs ≡ 0 → putAt now at xs ≡ putAt old at (digits most n) → now ≡ putAt old at (digits most n)
+      go [] e b = unfold putAt in b
+      go (x ∷ xs) e b = absurd (omega (arith, e))
+
+  module _ {i rest : ℕ} (now : List ℕ) (h : at < i) where
+    -- the last digit of the rest is written, and the others are left
+    left-low : (m : ℕ) → rest < 10 → i ≡ at + length (digits (suc m) rest) → putAt now at (digits (suc m) rest) ≡ putAt old at (digits most n)
+        → Left old at most n (i - 1) (rest / 10) (set now (i - 1) (48 + rest % 10))
+    unfolding putAt
+    left-low m l e b =
+        let d = digits-low (suc m) rest (omega arith) l in
+        let k : i - 1 ≡ at = omega (arith, e, ap length d) in
+        let z : rest % 10 ≡ rest = omega arith in
+        record {
+          least = 0;
+          size = rw (digits-none 0 (rest / 10) refl, k) (omega arith);
+          bytes = rw (digits-none 0 (rest / 10) refl, k, z) (ap (putAt now at) (sym d) ∙ b);
+        }
+
+    left-high : (m : ℕ) → 10 ≤ rest → i ≡ at + length (digits (suc m) rest) → putAt now at (digits (suc m) rest) ≡ putAt old at (digits most n)
+        → Left old at most n (i - 1) (rest / 10) (set now (i - 1) (48 + rest % 10))
+    left-high m l e b =
+        let d = digits-high (suc m) rest (omega arith) l in
+        let p : suc m - 1 ≡ m = omega arith in
+        let xs = digits m (rest / 10) in
+        let f : digits (suc m) rest ≡ xs ++ (48 + rest % 10) ∷ [] = d ∙ ap (λ (k : ℕ). digits k (rest / 10) ++ (48 + rest % 10) ∷ []) p in
+        let k : i - 1 ≡ at + length xs = omega (arith, e, ap length f, length-append xs ((48 + rest % 10) ∷ [])) in
+        record { least = m; size = k; bytes = rw k (put-snoc now at (48 + rest % 10) xs ∙ ap (putAt now at) (sym f) ∙ b) }
+
+    pub left-on : Left old at most n i rest now → Left old at most n (i - 1) (rest / 10) (set now (i - 1) (48 + rest % 10))
+    left-on l = go (l .least) (l .size) (l .bytes)
+      where
+        by-size : (m : ℕ) (t : Bool) → ltb rest 10 ≡ t → i ≡ at + length (digits (suc m) rest) → putAt now at (digits (suc m) rest) ≡ putAt old at (digits most n)
+            → Left old at most n (i - 1) (rest / 10) (set now (i - 1) (48 + rest % 10))
+        by-size m true t e b = left-low m (ltb-true rest 10 t) e b
+        by-size m false t e b = left-high m (ltb-false rest 10 t) e b
+
+        go : (m : ℕ) → i ≡ at + length (digits m rest) → putAt now at (digits m rest) ≡ putAt old at (digits most n)
+            → Left old at most n (i - 1) (rest / 10) (set now (i - 1) (48 + rest % 10))
+        go zero e b = absurd (omega (arith, e, ap length (digits-none 0 rest refl)))
+        go (suc m) e b = by-size m (ltb rest 10) refl e b
 
 -- ---- fields
 

@@ -15,20 +15,36 @@ pub fn put_byte(out: &mut [u8], at: usize, b: u8) -> usize
     at + 1
 }
 
-// The last `most` digits of a number in base ten, without leading zeros.
+// How many digits a number is written with, where only the last `most` of them are written.
+fn digit_count(most: usize, n: usize) -> usize
+    ensures { λ r. ⌜ (r ≡ length (digits most n)) × (r ≤ most) ⌝ }
+{
+    let mut count: usize = 0;
+    let mut rest = n;
+    while count < most {
+        count += 1;
+        if rest < 10 {
+            return count;
+        }
+        rest = rest / 10;
+    }
+    count
+}
+
+// The last `most` digits of a number in base ten, without leading zeros: the last one first, from their end on.
 pub fn put_digits(out: &mut [u8], at: usize, most: usize, n: usize) -> usize
     requires { ⌜ at + length (digits most n) ≤ length (now out) ⌝ }
     ensures { λ r. ⌜ Wrote (now (out .entry)) at (digits most n) r (now (out .exit)) ⌝ }
 {
-    if most == 0 {
-        return at;
+    let end = at + digit_count(most, n);
+    let mut i = end;
+    let mut rest = n;
+    while at < i {
+        i -= 1;
+        out[i] = (48 + rest % 10) as u8;
+        rest = rest / 10;
     }
-    if n < 10 {
-        put_byte(out, at, (48 + n) as u8)
-    } else {
-        let next = put_digits(out, at, most - 1, n / 10);
-        put_byte(out, next, (48 + n % 10) as u8)
-    }
+    end
 }
 
 // The bytes of a field.
