@@ -65,5 +65,5 @@ module _ (n : ℕ) (t : List ℕ) {blank a : List ℕ} (l : n ≤ length blank) 
       → lines ≡ lineCount (take (n - 0) a) → Wrote old 0 (arrangementBytes (arrangedLines (take (n - 0) a))) bytes new → WritesLines (levelsIn n t) old (Arranged bytes lines) new
   lines-written {old} room c w = rw (← levels-stand) (record {
     answer = ap₂ Arranged (omega (arith, w .next)) c;
-    leaves = w .bytes ∙ put-over old (arrangementBytes (arrangedLines (take (n - 0) a))) (lines-room room);
+    buffer = w .bytes ∙ put-over old (arrangementBytes (arrangedLines (take (n - 0) a))) (lines-room room);
   })

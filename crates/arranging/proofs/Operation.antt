@@ -26,7 +26,7 @@ use Rattle.arranging.proofs.Levels.{order-held, levels-held, lines-held
 module _ (net text old : List ℕ) where
   -- the answer and the buffer, once the definition's answer is known
   arrange-is : (x : Answer ArrangedD) {r : ArrangeAnswer} {new : List ℕ} → arrange net text (length old) ≡ x → answerOf r ≡ returned arrangedCounts x → new ≡ arrangeLeaves x old → Arranges net text old r new
-  arrange-is x e y z = record { answer = y ∙ sym (ap (returned arrangedCounts) e); leaves = z ∙ sym (ap (λ a. arrangeLeaves a old) e) }
+  arrange-is x e y z = record { answer = y ∙ sym (ap (returned arrangedCounts) e); buffer = z ∙ sym (ap (λ a. arrangeLeaves a old) e) }
 
   -- a refusal leaves the buffer as it was
   refuses-all : {n s : ℕ} (r : ArrangeAnswer) → arrange net text (length old) ≡ refuses n s → answerOf r ≡ refuses n s → Arranges net text old r old
@@ -68,4 +68,4 @@ module _ (net text old : List ℕ) where
           let w = accepted-process bench net text b e in
           let z = levels-held (b .net) (b .run) (w .0) (w .1) (a .events) t (H .bytes .events) (H .bytes .order) in
           let X : WritesLines (levels (b .run)) old r new = rw (← z) W in
-          arrange-is (gives (arranged (b .run))) (rw (le-ltb (length old) 768 room, e)) (ap answerOf (X .answer)) (X .leaves)
+          arrange-is (gives (arranged (b .run))) (rw (le-ltb (length old) 768 room, e)) (ap answerOf (X .answer)) (X .buffer)

@@ -20,7 +20,7 @@ levelsIn n t = map (lev n (cellAt 128 t)) (upTo n)
 -- the lines of the levels are written from the start of the buffer, and their bytes and their number are answered
 pub record WritesLines (levels old : List ℕ) (r : ArrangeAnswer) (new : List ℕ) : Type 0 where
   pub answer : r ≡ Arranged (length (arrangementBytes (arrangedLines levels))) (lineCount levels)
-  pub leaves : new ≡ over (arrangementBytes (arrangedLines levels)) old
+  pub buffer : new ≡ over (arrangementBytes (arrangedLines levels)) old
 
 -- ---- the operation
 
@@ -37,4 +37,4 @@ arrangedCounts a = (length (a .bytes), a .lines)
 -- the answer is the paper's, and the buffer is left as the paper says
 pub record Arranges (net text old : List ℕ) (r : ArrangeAnswer) (new : List ℕ) : Type 0 where
   pub answer : answerOf r ≡ returned arrangedCounts (arrange net text (length old))
-  pub leaves : new ≡ arrangeLeaves (arrange net text (length old)) old
+  pub buffer : new ≡ arrangeLeaves (arrange net text (length old)) old

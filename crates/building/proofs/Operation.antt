@@ -156,14 +156,14 @@ module _ {net log old : List ℕ} where
   -- a refusal leaves the buffer as it was
   pub refuses-all : (b : BuildAnswer) {n s : ℕ} → build net log (length old) ≡ refuses n s → buildAnswer b ≡ refuses n s → Builds net log old b old
   unfolding returned leaves buildLeaves
-  refuses-all b e y = record { answer = y ∙ sym (ap (returned length) e); leaves = sym (ap (λ a. buildLeaves a old) e) }
+  refuses-all b e y = record { answer = y ∙ sym (ap (returned length) e); buffer = sym (ap (λ a. buildLeaves a old) e) }
 
   -- a record is written from the start of the buffer
   pub writes : {bytes new : List ℕ} {w : ℕ} → build net log (length old) ≡ gives bytes → length bytes ≤ length old → Wrote old 0 bytes w new → Builds net log old (Written w) new
   unfolding returned leaves buildLeaves
   writes {bytes} {w = w} e l W = record {
     answer = let q : w ≡ length bytes = omega (arith, W .next) in ap gives q ∙ sym (ap (returned length) e);
-    leaves = W .bytes ∙ put-over old bytes l ∙ sym (ap (λ a. buildLeaves a old) e);
+    buffer = W .bytes ∙ put-over old bytes l ∙ sym (ap (λ a. buildLeaves a old) e);
   }
 
   pub refuses-net : (a : NetAnswer) {b : BuildAnswer} → 48256 ≤ length old → Refused (readNet net) (netAnswer a) → buildAnswer b ≡ returned (λ v. 0) (netAnswer a) → Builds net log old b old

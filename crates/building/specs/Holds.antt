@@ -29,4 +29,4 @@ buildAnswer (OverMarks k) = refuses 27 k
 -- the answer is the paper's, and the buffer is left as the paper says
 pub record Builds (net log old : List ℕ) (r : BuildAnswer) (new : List ℕ) : Type 0 where
   pub answer : buildAnswer r ≡ returned length (build net log (length old))
-  pub leaves : new ≡ buildLeaves (build net log (length old)) old
+  pub buffer : new ≡ buildLeaves (build net log (length old)) old

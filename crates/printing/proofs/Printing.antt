@@ -78,7 +78,7 @@ module _ (net log old : List ℕ) (room : 48275 ≤ length old) (x : BuildAnswer
   says = B .answer ∙ ap (returned length) (build-ran net log (length old) (omega (arith, room)))
 
   stands : mid ≡ buildLeaves (returned recordBytes (ran net log)) old
-  stands = B .leaves ∙ ap (λ a. buildLeaves a old) (build-ran net log (length old) (omega (arith, room)))
+  stands = B .buffer ∙ ap (λ a. buildLeaves a old) (build-ran net log (length old) (omega (arith, room)))
 
   built : {n : ℕ} → x ≡ Written n → Built net log old n mid
   unfolding returned buildLeaves leaves
@@ -151,7 +151,7 @@ module _ (net log old : List ℕ) (room : 48275 ≤ length old) (x : BuildAnswer
 module _ (input old : List ℕ) where
   pub short-prints : length old < 48275 → Prints input old BufferShort old
   unfolding programInto refuse_at_when_ _>>_ returned buildLeaves leaves
-  short-prints h = let e = lt-ltb (length old) 48275 h in record { answer = rw e; leaves = rw e }
+  short-prints h = let e = lt-ltb (length old) 48275 h in record { answer = rw e; buffer = rw e }
 
   module _ (h : 48275 ≤ length old) where
     into : programInto input (length old) ≡ gives (program input)
@@ -162,7 +162,7 @@ module _ (input old : List ℕ) where
     unfolding returned buildLeaves leaves
     prints {bytes} {new} {r} e P =
         let z = into ∙ ap gives e in
-        record { answer = ap gives (P .count) ∙ sym (ap (returned length) z); leaves = P .buffer ∙ sym (ap (λ a. buildLeaves a old) z) }
+        record { answer = ap gives (P .count) ∙ sym (ap (returned length) z); buffer = P .buffer ∙ sym (ap (λ a. buildLeaves a old) z) }
 
 -- ---- where the input is parted
 
@@ -183,7 +183,7 @@ program-parted input h {a} {b} P =
 -- what is printed stands in the buffer
 pub printed-within : (input old : List ℕ) {m : ℕ} {new : List ℕ} → Prints input old (Bytes m) new → m ≤ length new
 unfolding returned buildLeaves leaves over
-printed-within input old {m} {new} P = go (programInto input (length old)) (P .answer) (P .leaves)
+printed-within input old {m} {new} P = go (programInto input (length old)) (P .answer) (P .buffer)
   where
     go : (a : Answer (List ℕ)) → gives m ≡ returned length a → new ≡ buildLeaves a old → m ≤ length new
     go (gives bytes) e b = omega (arith, of-gives e, ap length b, length-append bytes (drop (length bytes) old))

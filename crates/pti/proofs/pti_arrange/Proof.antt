@@ -10,4 +10,4 @@ pti-arrange-spec = tie.close (tie.spec
     (λ c κs. search needs)
     (λ c κs. search needs)
     (λ c. search needs)
-    (λ c. record { answer = numbered two arrangedCounts _ (c .of-arrange .ensures) (c .before .before .before .arrange .ensures .answer); buffer = c .before .before .before .arrange .ensures .leaves }))
+    (λ c. record { answer = numbered two arrangedCounts _ (c .of-arrange .ensures) (c .before .before .before .arrange .ensures .answer); buffer = c .before .before .before .arrange .ensures .buffer }))

@@ -10,4 +10,4 @@ pti-build-spec = tie.close (tie.spec
     (λ c κs. search needs)
     (λ c κs. search needs)
     (λ c. search needs)
-    (λ c. record { answer = numbered one length _ (c .of-build .ensures) (c .before .before .before .build .ensures .answer); buffer = c .before .before .before .build .ensures .leaves }))
+    (λ c. record { answer = numbered one length _ (c .of-build .ensures) (c .before .before .before .build .ensures .answer); buffer = c .before .before .before .build .ensures .buffer }))

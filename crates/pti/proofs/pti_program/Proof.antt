@@ -10,4 +10,4 @@ pti-program-spec = tie.close (tie.spec
     (λ c κs. search needs)
     (λ c κs. search needs)
     (λ c. search needs)
-    (λ c. record { answer = numbered one length _ (c .of-program .ensures) (c .before .before .before .program .ensures .answer); buffer = c .before .before .before .program .ensures .leaves }))
+    (λ c. record { answer = numbered one length _ (c .of-program .ensures) (c .before .before .before .program .ensures .answer); buffer = c .before .before .before .program .ensures .buffer }))
