@@ -13,18 +13,18 @@ use Rattle.spec.specs.Lists.{In}
 use Rattle.spec.specs.Net.{Net as NetD}
 use Rattle.spec.specs.Record.{RunRecord, Condition, Mark, noCondition, conditionAt}
 use Rattle.spec.specs.Order.{Pair, pairs, isPair}
+use Rattle.spec.specs.declared.MarkKind.{MarkKind}
 use Rattle.spec.specs.declared.MarkKind.the-variants.{Before, After}
 use Rattle.lists.specs.Laws
 use Rattle.order.specs.Below.{maxBelow, max-above, max-least}
 use Rattle.runs.specs.Sources.{between, condition-pair, before-pair, after-pair, each-pair}
 use Rattle.runs.specs.Values.{weight, valueAt, pairAt, pair-above}
 use Rattle.net.specs.declared.Net.{Net}
-use Rattle.record.specs.Holds.{eventCode, kindCode}
+use Rattle.record.specs.Holds.{eventCode, kindCode, noMark, markAt, conditionOf}
 use Rattle.record.specs.declared.Counts.{Counts}
 use Rattle.held.specs.Held.{Held}
-use Rattle.pairs.specs.Relation.{pairIn, conditionPairIn, markPairIn, overall, eventPairsIn, relationIn}
-use Rattle.held.proofs.Codes.{in-record}
-use Rattle.held.proofs.Marks.{mark-found, mark-held}
+use Rattle.row_pairs.specs.Relation.{pairIn, conditionPairIn, markPairIn, overall, relationIn}
+use Rattle.held.proofs.Codes.{in-record, mark-in, mark-condition, small-condition}
 
 -- ---- a pair
 
@@ -46,6 +46,14 @@ event-of : (o : Option ℕ) (i : ℕ) → eventCode o ≡ i → i < 128 → o �
 event-of none i h l = absurd (omega arith)
 event-of (some e) i h l = ap some h
 
+is-before : (x : MarkKind) → kindCode x ≡ 1 → x ≡ Before
+is-before Before h = refl
+is-before After h = absurd (omega arith)
+
+is-after : (x : MarkKind) → kindCode x ≡ 2 → x ≡ After
+is-after Before h = absurd (omega arith)
+is-after After h = refl
+
 module _ (net : Net) (s : Counts) (rec : List ℕ) (N : NetD) (R : RunRecord) (h : Held net s rec N R) where
   -- ---- each byte's pair is a pair of the record
 
@@ -58,36 +66,36 @@ module _ (net : Net) (s : Counts) (rec : List ℕ) (N : NetD) (R : RunRecord) (h
     condition-says c l = pair-says _ _ 2 _ i j (λ p q. pair-above (pairs R) (between i j true)
         (condition-pair R (in-record net s rec N R h c l) (event-of _ i (sym (h .bytes .producer c l) ∙ p) hi) (event-of _ j (sym (h .bytes .consumer c l) ∙ q) hj)))
 
-    before-says : (e c : ℕ) → e < 128 → c < s .conditions → getD rec (1664 + 512 * e + c) 0 ≡ 1 → pairIn e (getD rec (640 + c) 0) 1 i j ≤ most
+    before-says : (k : ℕ) → k < s .marks → getD rec (1664 + k) 0 ≡ 1 → pairIn (getD rec (5760 + k) 0) (getD rec (640 + conditionOf rec k) 0) 1 i j ≤ most
     unfolding weight
-    before-says e c k l b = pair-says _ _ 1 _ i j (λ p q.
-        let w = mark-found net s rec N R h c e Before (omega (arith, h .bytes .fewConditions)) k b in
-        rw (← p, ← w .4) (pair-above (pairs R) (between (w .0 .event) j false) (before-pair R (w .1) (w .2)
-        (ap (λ (c : ℕ). conditionAt R c .producer) (w .3) ∙ event-of _ j (sym (h .bytes .producer c l) ∙ q) hj))))
+    before-says k l b = pair-says _ _ 1 _ i j (λ p q.
+        let e : markAt R k .event ≡ i = sym (h .bytes .event k l) ∙ p in
+        rw (← e) (pair-above (pairs R) (between (markAt R k .event) j false) (before-pair R (mark-in net s rec N R h k l) (is-before _ (sym (h .bytes .kind k l) ∙ b))
+        (ap (λ (c : ℕ). conditionAt R c .producer) (sym (mark-condition net s rec N R h k l)) ∙ event-of _ j (sym (h .bytes .producer (conditionOf rec k) (small-condition net s rec N R h k l)) ∙ q) hj))))
 
-    after-says : (e c : ℕ) → e < 128 → c < s .conditions → getD rec (1664 + 512 * e + c) 0 ≡ 2 → pairIn (getD rec (1152 + c) 0) e 2 i j ≤ most
+    after-says : (k : ℕ) → k < s .marks → getD rec (1664 + k) 0 ≡ 2 → pairIn (getD rec (1152 + conditionOf rec k) 0) (getD rec (5760 + k) 0) 2 i j ≤ most
     unfolding weight
-    after-says e c k l b = pair-says _ _ 2 _ i j (λ p q.
-        let w = mark-found net s rec N R h c e After (omega (arith, h .bytes .fewConditions)) k b in
-        rw (← q, ← w .4) (pair-above (pairs R) (between i (w .0 .event) true) (after-pair R (w .1) (w .2)
-        (ap (λ (c : ℕ). conditionAt R c .consumer) (w .3) ∙ event-of _ i (sym (h .bytes .consumer c l) ∙ p) hi))))
+    after-says k l b = pair-says _ _ 2 _ i j (λ p q.
+        let e : markAt R k .event ≡ j = sym (h .bytes .event k l) ∙ q in
+        rw (← e) (pair-above (pairs R) (between i (markAt R k .event) true) (after-pair R (mark-in net s rec N R h k l) (is-after _ (sym (h .bytes .kind k l) ∙ b))
+        (ap (λ (c : ℕ). conditionAt R c .consumer) (sym (mark-condition net s rec N R h k l)) ∙ event-of _ i (sym (h .bytes .consumer (conditionOf rec k) (small-condition net s rec N R h k l)) ∙ p) hi))))
 
-    mark-says : (e c : ℕ) → e < 128 → c < s .conditions → markPairIn rec e c i j ≤ most
+    mark-says : (k : ℕ) → k < s .marks → markPairIn rec k i j ≤ most
     unfolding markPairIn
-    mark-says e c k l = go (eqb (getD rec (1664 + 512 * e + c) 0) 1) (eqb (getD rec (1664 + 512 * e + c) 0) 2) refl refl
+    mark-says k l = go (eqb (getD rec (1664 + k) 0) 1) (eqb (getD rec (1664 + k) 0) 2) refl refl
       where
-        go : (a b : Bool) → eqb (getD rec (1664 + 512 * e + c) 0) 1 ≡ a → eqb (getD rec (1664 + 512 * e + c) 0) 2 ≡ b
-            → cond a (pairIn e (getD rec (640 + c) 0) 1 i j) (cond b (pairIn (getD rec (1152 + c) 0) e 2 i j) 0) ≤ most
-        go true b p q = before-says e c k l (eqb-true _ _ p)
-        go false true p q = after-says e c k l (eqb-true _ _ q)
+        go : (a b : Bool) → eqb (getD rec (1664 + k) 0) 1 ≡ a → eqb (getD rec (1664 + k) 0) 2 ≡ b
+            → cond a (pairIn (getD rec (5760 + k) 0) (getD rec (640 + conditionOf rec k) 0) 1 i j) (cond b (pairIn (getD rec (1152 + conditionOf rec k) 0) (getD rec (5760 + k) 0) 2 i j) 0) ≤ most
+        go true b p q = before-says k l (eqb-true _ _ p)
+        go false true p q = after-says k l (eqb-true _ _ q)
         go false false p q = zero-le
 
     bytes-say : relationIn s rec i j ≤ most
-    unfolding relationIn overall eventPairsIn
+    unfolding relationIn overall
     bytes-say = omega (
       arith,
       max-least (s .conditions) (λ c. conditionPairIn rec c i j) most condition-says,
-      max-least (s .events) (λ e. maxBelow (s .conditions) (λ c. markPairIn rec e c i j)) most (λ e k. max-least (s .conditions) (λ c. markPairIn rec e c i j) most (λ c l. mark-says e c (omega (arith, h .bytes .fewEvents)) l)),
+      max-least (s .marks) (λ k. markPairIn rec k i j) most mark-says,
     )
 
   -- ---- and each pair of the record is a byte's
@@ -96,13 +104,9 @@ module _ (net : Net) (s : Counts) (rec : List ℕ) (N : NetD) (R : RunRecord) (h
   unfolding relationIn overall
   condition-above c i j l = omega (arith, max-above (s .conditions) (λ c. conditionPairIn rec c i j) c l)
 
-  mark-above : (e c i j : ℕ) → e < s .events → c < s .conditions → markPairIn rec e c i j ≤ relationIn s rec i j
-  unfolding relationIn overall eventPairsIn
-  mark-above e c i j k l = omega (
-    arith,
-    max-above (s .conditions) (λ c. markPairIn rec e c i j) c l,
-    max-above (s .events) (λ e. maxBelow (s .conditions) (λ c. markPairIn rec e c i j)) e k,
-  )
+  mark-above : (k i j : ℕ) → k < s .marks → markPairIn rec k i j ≤ relationIn s rec i j
+  unfolding relationIn overall
+  mark-above k i j l = omega (arith, max-above (s .marks) (λ k. markPairIn rec k i j) k l)
 
   abbrev Said : ℕ → ℕ → Pair → Type 0
   Said i j q = valueAt i j q ≤ relationIn s rec i j
@@ -117,8 +121,21 @@ module _ (net : Net) (s : Counts) (rec : List ℕ) (N : NetD) (R : RunRecord) (h
       le-trans (le-of-eq (value-is e f i j true ∙ rw (x, y) refl)) (condition-above (r .0) i j l)
 
   module _ (i j : ℕ) (w : Mark) (m : In w (R .marks)) where
-    event-low : w .event < s .events
-    event-low = omega (arith, h .wellFormed .events w m, h .bytes .events)
+    -- the mark's place in the text
+    which : (k : ℕ) × (k < length (R .marks)) × (markAt R k ≡ w)
+    which = Laws.in-at noMark w (R .marks) m
+
+    which-low : which .0 < s .marks
+    which-low = omega (arith, which .1, h .bytes .marks)
+
+    kind-byte : getD rec (1664 + which .0) 0 ≡ kindCode (w .kind)
+    kind-byte = h .bytes .kind (which .0) which-low ∙ ap (λ (w : Mark). kindCode (w .kind)) (which .2)
+
+    event-byte : getD rec (5760 + which .0) 0 ≡ w .event
+    event-byte = h .bytes .event (which .0) which-low ∙ ap (λ (w : Mark). w .event) (which .2)
+
+    condition-bytes : conditionOf rec (which .0) ≡ w .condition
+    condition-bytes = mark-condition net s rec N R h (which .0) which-low ∙ ap (λ (w : Mark). w .condition) (which .2)
 
     condition-low : w .condition < s .conditions
     condition-low = omega (arith, h .wellFormed .conditions w m, h .bytes .conditions)
@@ -126,16 +143,16 @@ module _ (net : Net) (s : Counts) (rec : List ℕ) (N : NetD) (R : RunRecord) (h
     before-said : w .kind ≡ Before → (g : ℕ) → conditionAt R (w .condition) .producer ≡ some g → Said i j (between (w .event) g false)
     unfolding markPairIn weight
     before-said k g p =
-        let b : getD rec (1664 + 512 * (w .event) + w .condition) 0 ≡ 1 = mark-held net s rec N R h w m ∙ ap kindCode k in
-        let x : getD rec (640 + w .condition) 0 ≡ g = h .bytes .producer (w .condition) condition-low ∙ ap eventCode p in
-        le-trans (le-of-eq (value-is (w .event) g i j false ∙ rw (b, x) refl)) (mark-above (w .event) (w .condition) i j event-low condition-low)
+        let b : getD rec (1664 + which .0) 0 ≡ 1 = kind-byte ∙ ap kindCode k in
+        let x : getD rec (640 + conditionOf rec (which .0)) 0 ≡ g = ap (λ (c : ℕ). getD rec (640 + c) 0) condition-bytes ∙ h .bytes .producer (w .condition) condition-low ∙ ap eventCode p in
+        le-trans (le-of-eq (value-is (w .event) g i j false ∙ rw (b, x, event-byte) refl)) (mark-above (which .0) i j which-low)
 
     after-said : w .kind ≡ After → (f : ℕ) → conditionAt R (w .condition) .consumer ≡ some f → Said i j (between f (w .event) true)
     unfolding markPairIn weight
     after-said k f p =
-        let b : getD rec (1664 + 512 * (w .event) + w .condition) 0 ≡ 2 = mark-held net s rec N R h w m ∙ ap kindCode k in
-        let x : getD rec (1152 + w .condition) 0 ≡ f = h .bytes .consumer (w .condition) condition-low ∙ ap eventCode p in
-        le-trans (le-of-eq (value-is f (w .event) i j true ∙ rw (b, x) refl)) (mark-above (w .event) (w .condition) i j event-low condition-low)
+        let b : getD rec (1664 + which .0) 0 ≡ 2 = kind-byte ∙ ap kindCode k in
+        let x : getD rec (1152 + conditionOf rec (which .0)) 0 ≡ f = ap (λ (c : ℕ). getD rec (1152 + c) 0) condition-bytes ∙ h .bytes .consumer (w .condition) condition-low ∙ ap eventCode p in
+        le-trans (le-of-eq (value-is f (w .event) i j true ∙ rw (b, x, event-byte) refl)) (mark-above (which .0) i j which-low)
 
   pairs-say : (i j : ℕ) → pairAt (pairs R) i j ≤ relationIn s rec i j
   unfolding pairAt

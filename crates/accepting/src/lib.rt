@@ -9,23 +9,23 @@ ghost use Rattle.net.specs.Holds.{answerOf as netAnswerOf};
 ghost use Rattle.net.specs.declared.Net.{Net as NetA};
 ghost use Rattle.record.specs.Reads.{answerOf as recordAnswerOf};
 ghost use Rattle.held.specs.Held.{Held, Sound};
-ghost use Rattle.accepting.specs.Relation.{Ordered};
+ghost use Rattle.accepting.specs.Relation.{Blank, Ordered};
 ghost use Rattle.accepting.specs.Accepting.{verdictOf, isGiven, nothing, Within, Found, Judges, AcceptsRecord, Accepts};
 use arc_rules::wrong_arcs;
 use arc_rules::wrong_initial;
-use closure::bytes_at;
-use closure::close;
+use bytes::bytes_at;
 use mark_rules::wrong_kinds;
 use mark_rules::wrong_marks;
 use net::Net;
 use net::NetAnswer;
 use net::read_net;
-use pairs::fill;
+use reach::close;
 use record::Counts;
 use record::RecordAnswer;
 use record::read_record;
+use row_facts::first_loop;
+use row_pairs::fill;
 use spec::Limits;
-use strictness::first_loop;
 
 // Why a net and a record are not accepted, with the spot: a line, or the lowest transition, place or event.
 pub enum Refusal {
@@ -50,7 +50,7 @@ pub enum Verdict {
     Refused(Refusal),
 }
 
-// A net and a record that are accepted: the net, the events' transitions and the counts. The closed order is in the table.
+// A net and a record that are accepted: the net, the events' transitions and the counts. The closed order is in the rows.
 pub struct Accepted {
     pub verdict: Verdict,
     pub net: Net,
@@ -72,14 +72,14 @@ pub fn bench() -> Limits
 
 // ---- the rules 35 to 39
 
-// 39: the closed order in the table, and the lowest event that is strictly before itself, or the number of events.
-fn order(s: Counts, rec: &[u8], t: &mut [u8]) -> usize
-    requires { ⌜ Sound s (now rec) × (16384 ≤ length (now t)) ⌝ }
-    ensures { λ r. ⌜ (length (now (t .exit)) ≡ length (now (t .entry))) × ((net : NetA) (N : NetD) (R : RunRecord) → Held net s (now (rec .entry)) N R → Ordered R (now (t .exit)) r) ⌝ }
+// 39: the closed order in the rows, and the lowest event that is strictly before itself, or the number of events.
+pub fn order(s: Counts, rec: &[u8], w: &mut [u64; 512]) -> usize
+    requires { ⌜ Sound s (now rec) × Blank (now w) ⌝ }
+    ensures { λ r. ⌜ (length (now (w .exit)) ≡ length (now (w .entry))) × ((net : NetA) (N : NetD) (R : RunRecord) → Held net s (now (rec .entry)) N R → Ordered R (now (w .exit)) r) ⌝ }
 {
-    fill(s, rec, t);
-    close(t, s.events);
-    first_loop(t, s.events)
+    fill(s, rec, w);
+    close(w, s.events);
+    first_loop(w, s.events)
 }
 
 // ---- accepting
@@ -93,10 +93,10 @@ fn given(v: Verdict) -> bool
     }
 }
 
-// The rules 35 to 39, each over the whole record before the next. Where none is broken the closed order is in the table.
-fn judge(net: Net, s: Counts, rec: &[u8], t: &mut [u8]) -> Verdict
-    requires { ⌜ (net .places ≤ 32) × Sound s (now rec) × (16384 ≤ length (now t)) ⌝ }
-    ensures { λ r. ⌜ (length (now (t .exit)) ≡ length (now (t .entry))) × Judges net s (now (rec .entry)) r (now (t .exit)) ⌝ }
+// The rules 35 to 39, each over the whole record before the next. Where none is broken the closed order is in the rows.
+fn judge(net: Net, s: Counts, rec: &[u8], w: &mut [u64; 512]) -> Verdict
+    requires { ⌜ (net .places ≤ 32) × (net .transitions ≤ 32) × Sound s (now rec) × Blank (now w) ⌝ }
+    ensures { λ r. ⌜ (length (now (w .exit)) ≡ length (now (w .entry))) × Judges net s (now (rec .entry)) r (now (w .exit)) ⌝ }
 {
     let p = wrong_initial(net, s, rec);
     if p < net.places {
@@ -114,7 +114,7 @@ fn judge(net: Net, s: Counts, rec: &[u8], t: &mut [u8]) -> Verdict
     if f < s.events {
         return Verdict::Refused(Refusal::WrongKind(f));
     }
-    let g = order(s, rec, t);
+    let g = order(s, rec, w);
     if g < s.events {
         return Verdict::Refused(Refusal::BeforeItself(g));
     }
@@ -161,11 +161,11 @@ fn refused(verdict: Verdict, net: Net) -> Accepted
 }
 
 // The record of a text, once the net is read.
-fn accept_record(lim: Limits, net: Net, text: &[u8], t: &mut [u8]) -> Accepted
-    requires { ⌜ Within lim × Found net × (16384 ≤ length (now t)) ⌝ }
-    ensures { λ r. ⌜ (length (now (t .exit)) ≡ length (now (t .entry))) × (r .net ≡ net) × AcceptsRecord lim net (now (text .entry)) r (now (t .exit)) ⌝ }
+fn accept_record(lim: Limits, net: Net, text: &[u8], w: &mut [u64; 512]) -> Accepted
+    requires { ⌜ Within lim × Found net × Blank (now w) ⌝ }
+    ensures { λ r. ⌜ (length (now (w .exit)) ≡ length (now (w .entry))) × (r .net ≡ net) × AcceptsRecord lim net (now (text .entry)) r (now (w .exit)) ⌝ }
 {
-    let mut rec = [0u8; 67200];
+    let mut rec = [0u8; 26240];
     let read = read_record(lim, net.places, net.transitions, text, &mut rec);
     let answer = read.answer;
     let verdict = of_record(answer);
@@ -174,7 +174,7 @@ fn accept_record(lim: Limits, net: Net, text: &[u8], t: &mut [u8]) -> Accepted
     }
     let s = read.counts;
     Accepted {
-        verdict: judge(net, s, &rec, t),
+        verdict: judge(net, s, &rec, w),
         net,
         transitions: bytes_at(&rec, 0),
         events: s.events,
@@ -182,10 +182,10 @@ fn accept_record(lim: Limits, net: Net, text: &[u8], t: &mut [u8]) -> Accepted
     }
 }
 
-// "net's; check's but 30": a net and a record, the closed order in the table, or the first refusal.
-pub fn accept(net: &[u8], text: &[u8], lim: Limits, table: &mut [u8]) -> Accepted
-    requires { ⌜ Within lim × (16384 ≤ length (now table)) ⌝ }
-    ensures { λ r. ⌜ (length (now (table .exit)) ≡ length (now (table .entry))) × Accepts lim (now (net .entry)) (now (text .entry)) r (now (table .exit)) ⌝ }
+// "net's; check's but 30": a net and a record, the closed order in the rows, or the first refusal.
+pub fn accept(net: &[u8], text: &[u8], lim: Limits, w: &mut [u64; 512]) -> Accepted
+    requires { ⌜ Within lim × Blank (now w) ⌝ }
+    ensures { λ r. ⌜ (length (now (w .exit)) ≡ length (now (w .entry))) × Accepts lim (now (net .entry)) (now (text .entry)) r (now (w .exit)) ⌝ }
 {
     let read = read_net(net);
     let answer = read.answer;
@@ -194,5 +194,5 @@ pub fn accept(net: &[u8], text: &[u8], lim: Limits, table: &mut [u8]) -> Accepte
     if !given(verdict) {
         return refused(verdict, found);
     }
-    accept_record(lim, found, text, table)
+    accept_record(lim, found, text, w)
 }

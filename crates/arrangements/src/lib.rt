@@ -2,17 +2,26 @@
 ghost use mathlib.Core.Path.{_≡_};
 ghost use Prim.Native.Nat.{ℕ, _<_, _≤_};
 ghost use lib.ListN.{length, getD, take};
+ghost use mathlib.Core.List.{List};
 ghost use Rattle.spec.specs.Lists.{In};
 ghost use Rattle.spec.specs.Text.{mostDigits};
 ghost use Rattle.spec.specs.Forms.{numbersOf};
-ghost use Rattle.arrangements.specs.Lined.{Sound, Enters, lateIn, lateFor, breaksIn};
+ghost use Rattle.reach.specs.Rows.{Good};
+ghost use Rattle.arrangements.specs.Lined.{Sound, Enters, IsSet, Meets, lateFor, breaksIn};
 ghost use Rattle.arrangements.specs.Arrangement.{answerOf, goesOf, finished, Judges};
+use bit_sets::Set;
+use bit_sets::first;
+use bit_sets::meet;
+use bit_sets::none;
+use bit_sets::one;
+use bit_sets::union;
 use fields::letter_at;
 use fields::number_at;
 use number_lines::any_unknown;
 use number_lines::count_numbers;
 use number_lines::is_list_line;
 use number_lines::numbers;
+use reach::row_at;
 use spec::Class;
 
 // What is answered to an arrangement: how many lines keep the order, or a refusal with its line or the missing event.
@@ -71,42 +80,56 @@ fn enter_events(stands: &mut [u8; 128], l: &[u8], k: u8) -> bool
     false
 }
 
-// Whether an event that stands in line x, with this entry to an event of line k, is late for it: strictly before it and in no
-// earlier line, or not later and in no line up to this one.
-fn is_late(entry: u8, x: u8, k: u8) -> bool
-    ensures { λ r. ⌜ r ≡ lateIn entry x k ⌝ }
+// The set of a line's events.
+fn set_of(events: &[u8; 128], count: usize) -> Set
+    requires { ⌜ (length (now events) ≡ 128) × (count ≤ 128) × ((i : ℕ) → i < count → getD (now events) i 0 < 128) ⌝ }
+    ensures { λ r. ⌜ IsSet (take count (now (events .entry))) r ⌝ }
 {
-    let come = 0 < x;
-    let earlier = come & (x < k);
-    ((2 <= entry) & !earlier) | ((0 < entry) & !come)
+    let mut r = none();
+    let mut i: usize = 0;
+    while i < count {
+        r = union(r, one(wide(events[i])));
+        i += 1;
+    }
+    r
 }
 
-// Whether some event is late for event e of line k.
-fn late_for(t: &[u8], stands: &[u8; 128], n: usize, k: u8, e: usize) -> bool
-    requires { ⌜ (n ≤ 128) × (e < 128) × (16384 ≤ length (now t)) ⌝ }
-    ensures { λ r. ⌜ r ≡ lateFor (now (t .entry)) (now (stands .entry)) n k e ⌝ }
+// Whether a number is in both sets.
+fn meets(a: Set, b: Set) -> bool
+    ensures { λ r. ⌜ Meets a b r ⌝ }
 {
-    let mut d: usize = 0;
-    while d < n {
-        if is_late(t[128 * d + e], stands[d], k) {
-            return true;
-        }
-        d += 1;
+    first(meet(a, b)) < 128
+}
+
+// Whether event d, which stands in line x, is late for an event of line k: not later than it and in no line so far, or strictly
+// before it and in no earlier line.
+fn is_late(w: &[u64; 512], d: usize, x: u8, k: u8, line: Set) -> bool
+    requires { ⌜ (d < 128) × Good (now w) ⌝ }
+    ensures { λ r. ⌜ ((es : List ℕ) → IsSet es line → r ≡ lateFor (now (w .entry)) x k es d) ⌝ }
+{
+    if x == 0 {
+        let row = row_at(w, d);
+        return meets(row.path, line);
     }
-    false
+    if x < k {
+        return false;
+    }
+    let row = row_at(w, d);
+    meets(row.strict, line)
 }
 
 // 44: whether some event is late for one of line k.
-fn breaks(t: &[u8], stands: &[u8; 128], n: usize, k: u8, events: &[u8; 128], count: usize) -> bool
-    requires { ⌜ (n ≤ 128) × (16384 ≤ length (now t)) × (length (now events) ≡ 128) × (count ≤ 128) × ((i : ℕ) → i < count → getD (now events) i 0 < 128) ⌝ }
-    ensures { λ r. ⌜ r ≡ breaksIn (now (t .entry)) (now (stands .entry)) n k (take count (now (events .entry))) ⌝ }
+fn breaks(w: &[u64; 512], stands: &[u8; 128], n: usize, k: u8, events: &[u8; 128], count: usize) -> bool
+    requires { ⌜ (n ≤ 128) × Good (now w) × (length (now events) ≡ 128) × (count ≤ 128) × ((i : ℕ) → i < count → getD (now events) i 0 < 128) ⌝ }
+    ensures { λ r. ⌜ r ≡ breaksIn (now (w .entry)) (now (stands .entry)) n k (take count (now (events .entry))) ⌝ }
 {
-    let mut i: usize = 0;
-    while i < count {
-        if late_for(t, stands, n, k, wide(events[i])) {
+    let line = set_of(events, count);
+    let mut d: usize = 0;
+    while d < n {
+        if is_late(w, d, stands[d], k, line) {
             return true;
         }
-        i += 1;
+        d += 1;
     }
     false
 }
@@ -127,11 +150,11 @@ pub fn judge_line(
     l: &[u8],
     ended: bool,
     n: usize,
-    t: &[u8],
+    w: &[u64; 512],
     stands: &mut [u8; 128],
 ) -> Group
-    requires { ⌜ Sound n k (now t) (now stands) ⌝ }
-    ensures { λ g. ⌜ Judges n k (now (t .entry)) (now (stands .entry)) (now (l .entry)) ended g (now (stands .exit)) ⌝ }
+    requires { ⌜ Sound n k (now w) (now stands) ⌝ }
+    ensures { λ g. ⌜ Judges n k (now (w .entry)) (now (stands .entry)) (now (l .entry)) ended g (now (stands .exit)) ⌝ }
 {
     if !is_list_line(Class::LetterG, l, ended) {
         return refused(ArrangementAnswer::Malformed(k));
@@ -145,7 +168,7 @@ pub fn judge_line(
     }
     let events = numbers(l);
     let count = count_numbers(l);
-    if breaks(t, stands, n, line, &events, count) {
+    if breaks(w, stands, n, line, &events, count) {
         return refused(ArrangementAnswer::Broken(k));
     }
     Group {

@@ -1,4 +1,4 @@
--- The levels of a record's events in a table and in an array, and the room that its arrangement takes.
+-- The levels of a record's events in rows and in an array, and the room that its arrangement takes.
 use Prim.Native.Nat.{ℕ, _-_, _≤_}
 use mathlib.Core.Path.{_≡_, sym, ap₂, _∙_}
 use mathlib.Core.List.{List}
@@ -13,7 +13,7 @@ use Rattle.lists.specs.Mapped.{Mapped}
 use Rattle.lists.specs.Tables.{length-table, table-is}
 use Rattle.order.specs.Level.{lev, lev-same}
 use Rattle.order.specs.Order.{Order, order-same}
-use Rattle.order.specs.Table.{cellAt}
+use Rattle.reach.specs.Rows.{cellOf}
 use Rattle.runs.specs.Values.{orderOf, order}
 use Rattle.runs.specs.Levels.{level-at, arranged-keeps}
 use Rattle.runs.specs.Sizes.{arrangement-size}
@@ -23,7 +23,7 @@ use Rattle.accepting.specs.Relation.{HoldsOrder}
 use Rattle.arranging.specs.Answers.{levelsIn, WritesLines}
 use Rattle.arranging.specs.declared.ArrangeAnswer.the-variants.{Arranged}
 
--- ---- a table that has the closed order of a record
+-- ---- rows that have the closed order of a record
 
 levels-length : (R : RunRecord) → length (levels R) ≡ length (R .events)
 unfolding levels
@@ -35,15 +35,15 @@ module _ (N : Net) (R : RunRecord) (W : WellFormed N R) (P : Process N R) where
   lines-fit h = arrangement-size (length (R .events)) (arrangedLines (levels R)) (arranged-keeps N R W P .arranged) h
 
   module _ (n : ℕ) (t : List ℕ) (q : n ≡ length (R .events)) (o : HoldsOrder R t) where
-    -- it is a closed order,
-    pub order-held : Order n (cellAt 128 t)
-    order-held = rw q (order-same (length (R .events)) (cellAt 128 t) (orderOf R) (o .cell) (order N R W P))
+    -- they are a closed order,
+    pub order-held : Order n (cellOf t)
+    order-held = rw q (order-same (length (R .events)) (cellOf t) (orderOf R) (o .cell) (order N R W P))
 
-    -- its levels are those of the record's events,
+    -- their levels are those of the record's events,
     pub levels-held : levelsIn n t ≡ levels R
     unfolding levelsIn
-    levels-held = rw q (table-is 0 (lev (length (R .events)) (cellAt 128 t)) (length (R .events)) (levels R) (levels-length R) (λ e m.
-        lev-same (length (R .events)) (cellAt 128 t) (orderOf R) (o .cell) e m ∙ sym (level-at N R W P e m)))
+    levels-held = rw q (table-is 0 (lev (length (R .events)) (cellOf t)) (length (R .events)) (levels R) (levels-length R) (λ e m.
+        lev-same (length (R .events)) (cellOf t) (orderOf R) (o .cell) e m ∙ sym (level-at N R W P e m)))
 
     -- and their lines fit the buffer
     pub lines-held : n ≤ 128 → length (arrangementBytes (arrangedLines (levelsIn n t))) ≤ 768
@@ -51,12 +51,12 @@ module _ (N : Net) (R : RunRecord) (W : WellFormed N R) (P : Process N R) where
 
 -- ---- an array whose first n entries are the levels, and its lines written
 
-module _ (n : ℕ) (t : List ℕ) {blank a : List ℕ} (l : n ≤ length blank) (m : Mapped blank n (lev n (cellAt 128 t)) a) where
+module _ (n : ℕ) (t : List ℕ) {blank a : List ℕ} (l : n ≤ length blank) (m : Mapped blank n (lev n (cellOf t)) a) where
   pub levels-stand : take (n - 0) a ≡ levelsIn n t
   unfolding levelsIn
   levels-stand =
       let e : n - 0 ≡ n = omega arith in
-      rw e (sym (table-is 0 (lev n (cellAt 128 t)) n (take n a) (length-take-le n a (omega (arith, m .long))) (λ e h. sym (getD-take n a e 0 h ∙ m .here e h))))
+      rw e (sym (table-is 0 (lev n (cellOf t)) n (take n a) (length-take-le n a (omega (arith, m .long))) (λ e h. sym (getD-take n a e 0 h ∙ m .here e h))))
 
   pub lines-room : {k : ℕ} → length (arrangementBytes (arrangedLines (levelsIn n t))) ≤ k → length (arrangementBytes (arrangedLines (take (n - 0) a))) ≤ k
   lines-room room = rw levels-stand room

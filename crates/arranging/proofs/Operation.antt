@@ -1,6 +1,6 @@
 -- Arranging, from its buffer to its answer.
 use Prim.Native.Nat.{ℕ, _≤_, _<_}
-use mathlib.Core.Path.{_≡_, refl, sym, ap, _∙_}
+use mathlib.Core.Path.{_≡_, refl, sym, ap, _∙_, subst}
 use mathlib.Core.List.{List}
 use native.Mathlib.Nat.{le-trans}
 use lib.ListN.{length}
@@ -10,7 +10,8 @@ use Rattle.spec.specs.Record.{bench}
 use Rattle.spec.specs.Arrange.{Arranged as ArrangedD, levels, arrangedLines, arrangementBytes, arranged, arrange}
 use Rattle.spec.specs.Buffer.{leaves, arrangeLeaves}
 use Rattle.order.specs.Order.{Order}
-use Rattle.order.specs.Table.{cellAt}
+use Rattle.reach.specs.Rows.{cellOf}
+use Rattle.row_facts.specs.Counts.{Ready}
 use Rattle.runs.specs.Answers.{not-refused}
 use Rattle.lines.specs.Agree.{giving, refusing}
 use Rattle.accepting.specs.Accepting.{verdictOf, Accepts}
@@ -47,15 +48,13 @@ module _ (net text old : List ℕ) where
         refuses-all (Refused x) (rw (le-ltb (length old) 768 room, e)) (ap (returned (λ (u : Unit {0}). (0, 0))) (sym (ap verdictOf q) ∙ y))
 
     module _ (q : a .verdict ≡ Given) where
-      -- an accepted record: its order is in the table, and its lines fit the buffer
-      pub given-ready : 16384 ≤ length t → Accepts bench net text a t
-          → (a .events ≤ 128) × (16384 ≤ length t) × Order (a .events) (cellAt 128 t) × (length (arrangementBytes (arrangedLines (levelsIn (a .events) t))) ≤ length old)
-      given-ready long (refusing n s e y) = not-refused (sym y ∙ ap verdictOf q)
-      given-ready long (giving b e y H) =
+      -- an accepted record: its order is in the rows, and its lines fit the buffer
+      pub given-ready : Accepts bench net text a t → Ready (a .events) t × Order (a .events) (cellOf t) × (length (arrangementBytes (arrangedLines (levelsIn (a .events) t))) ≤ length old)
+      given-ready (refusing n s e y) = not-refused (sym y ∙ ap verdictOf q)
+      given-ready (giving b e y H) =
           let w = accepted-process bench net text b e in
           let B = H .bytes in (
-            B .few,
-            long,
+            subst (λ (n : ℕ). Ready n t) (sym (B .events)) (B .order .ready),
             order-held (b .net) (b .run) (w .0) (w .1) (a .events) t (B .events) (B .order),
             le-trans (lines-held (b .net) (b .run) (w .0) (w .1) (a .events) t (B .events) (B .order) (B .few)) room,
           )

@@ -8,14 +8,14 @@ use Rattle.spec.specs.Lists.{upTo}
 use Rattle.spec.specs.Arrange.{Arranged as ArrangedD, lineCount, arrangedLines, arrangementBytes, arrange}
 use Rattle.spec.specs.Buffer.{over, arrangeLeaves}
 use Rattle.order.specs.Level.{lev}
-use Rattle.order.specs.Table.{cellAt}
+use Rattle.reach.specs.Rows.{cellOf}
 use Rattle.accepting.specs.Accepting.{refusedBy}
 use Rattle.arranging.specs.declared.ArrangeAnswer.{ArrangeAnswer}
 use Rattle.arranging.specs.declared.ArrangeAnswer.the-variants.{Arranged, BufferShort, Refused}
 
--- the levels of n events whose closed order a table has
+-- the levels of n events whose closed order rows have
 unfoldable pub levelsIn : ℕ → List ℕ → List ℕ
-levelsIn n t = map (lev n (cellAt 128 t)) (upTo n)
+levelsIn n t = map (lev n (cellOf t)) (upTo n)
 
 -- the lines of the levels are written from the start of the buffer, and their bytes and their number are answered
 pub record WritesLines (levels old : List ℕ) (r : ArrangeAnswer) (new : List ℕ) : Type 0 where

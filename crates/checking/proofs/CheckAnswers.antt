@@ -1,5 +1,5 @@
 -- The check's answers, and what it leaves in the buffer.
-use mathlib.Core.Path.{_≡_, refl, sym, ap, _∙_}
+use mathlib.Core.Path.{_≡_, refl, sym, ap, _∙_, subst}
 use Prim.Native.Nat.{ℕ, _≤_, _<_}
 use mathlib.Core.List.{List}
 use lib.ListN.{length}
@@ -9,20 +9,31 @@ use Rattle.spec.specs.Check.{accepts, Accepted as AcceptedD, checked, checkWith
 use Rattle.spec.specs.Buffer.{leaves, checkLeaves}
 use Rattle.spec.specs.declared.Limits.{Limits}
 use Rattle.lists.specs.Mapped.{Mapped}
-use Rattle.order.specs.Table.{cellAt}
+use Rattle.reach.specs.Rows.{cellOf}
+use Rattle.order.specs.Order.{Order, order-same}
+use Rattle.row_facts.specs.Counts.{Ready}
+use Rattle.row_table.specs.Table.{byteIn}
+use Rattle.runs.specs.Values.{orderOf, order}
 use Rattle.runs.specs.Answers.{not-refused}
 use Rattle.lines.specs.Agree.{giving, refusing}
-use Rattle.strictness.specs.Pairs.{independentPairs}
+use Rattle.row_facts.specs.Pairs.{independentPairs}
 use Rattle.accepting.specs.Accepting.{refusedBy, verdictOf, Accepts}
 use Rattle.accepting.specs.declared.Refusal.{Refusal}
 use Rattle.accepting.specs.declared.Verdict.the-variants.{Given, Refused}
 use Rattle.accepting.specs.declared.Accepted.{Accepted}
 use Rattle.accepting.proofs.Accepting.{accepted-process}
-use Rattle.checking.specs.Checking.{byteIn, checkCounts, Checks}
+use Rattle.checking.specs.Checking.{checkCounts, Checks}
 use Rattle.checking.specs.declared.CheckAnswer.the-variants.{Checked, BufferShort, Refused as CheckRefused}
 use Rattle.checking.proofs.CheckTable.{table-written, pairs-counted}
 
 module _ (lim : Limits) (net text : List ℕ) where
+  -- what is accepted has a closed order in its rows
+  pub order-given : (a : Accepted) (t : List ℕ) → a .verdict ≡ Given → Accepts lim net text a t → Ready (a .events) t × Order (a .events) (cellOf t)
+  order-given a t q (giving b e y k) =
+      let w = accepted-process lim net text b e in
+      subst (λ (n : ℕ). Ready n t × Order n (cellOf t)) (sym (k .bytes .events)) (k .bytes .order .ready, order-same _ (cellOf t) (orderOf (b .run)) (k .bytes .order .cell) (order (b .net) (b .run) (w .0) (w .1)))
+  order-given a t q (refusing n p e y) = not-refused (sym y ∙ ap verdictOf q)
+
   pub few-events : (a : Accepted) (t : List ℕ) → a .verdict ≡ Given → Accepts lim net text a t → a .events ≤ 128
   few-events a t q (giving b e y k) = k .bytes .few
   few-events a t q (refusing n p e y) = not-refused (sym y ∙ ap verdictOf q)
@@ -57,8 +68,8 @@ module _ (lim : Limits) (net text : List ℕ) where
     unfolding checkWithin refuse_at_when_ _>>_ _>>=_
     given b e = rw (le-ltb (length out) 16384 h, e)
 
-    pub given-checks : (a : Accepted) (t new : List ℕ) (k : ℕ) → a .verdict ≡ Given → Accepts lim net text a t → k ≡ independentPairs (a .events) (cellAt 128 t)
-        → Mapped out 16384 (byteIn t (a .events)) new → Checks (checkWithin lim net text (length out)) out (Checked (a .events) (a .conditions) k) new
+    pub given-checks : (a : Accepted) (t new : List ℕ) (k : ℕ) → a .verdict ≡ Given → Accepts lim net text a t → k ≡ independentPairs (a .events) (cellOf t)
+        → Mapped out 16384 (byteIn (cellOf t) (a .events)) new → Checks (checkWithin lim net text (length out)) out (Checked (a .events) (a .conditions) k) new
     unfolding returned checkLeaves leaves checked
     given-checks a t new k q (refusing n p e y) c m = not-refused (sym y ∙ ap verdictOf q)
     given-checks a t new k q (giving b e y z) c m =

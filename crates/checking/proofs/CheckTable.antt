@@ -19,14 +19,13 @@ use Rattle.spec.specs.Check.{related, tableAt, tableBytes, independent, indepen
 use Rattle.spec.specs.Buffer.{over}
 use Rattle.lists.specs.Laws.{and-true, and-false, length-map, length-upTo, upTo-snoc, in-upTo, flat-map-snoc, getD-table, getD-table-rows, map-same, count-same}
 use Rattle.lists.specs.Mapped.{Mapped}
-use Rattle.order.specs.Table.{cellAt}
+use Rattle.reach.specs.Rows.{cellOf}
 use Rattle.order.specs.Diamond.{entry}
 use Rattle.runs.specs.Values.{orderOf}
 use Rattle.runs.specs.Closure.{related-is}
-use Rattle.closure.specs.Changes.{zeros}
-use Rattle.strictness.specs.Pairs.{independentIn, independentsBelow, independentPairs}
+use Rattle.row_facts.specs.Pairs.{independentIn, independentsBelow, independentPairs}
 use Rattle.accepting.specs.Relation.{HoldsOrder}
-use Rattle.checking.specs.Checking.{entryIn, byteIn}
+use Rattle.row_table.specs.Table.{entryIn, byteIn}
 use Rattle.accepting.proofs.RecordOrder.{strict-in}
 
 -- ---- rows of one width, and a list at the start of a buffer
@@ -69,61 +68,31 @@ table-byte R i l =
 
 module _ (N : NetD) (R : RunRecord) (t : List ℕ) (n : ℕ) (W : WellFormed N R) (o : HoldsOrder R t) (hn : n ≡ length (R .events)) where
   -- where both are events, the table's entry
-  entry-is : Process N R → (e f : ℕ) → entryIn (cellAt 128 t) n e f ≡ tableAt R e f
+  entry-is : Process N R → (e f : ℕ) → entryIn (cellOf t) n e f ≡ tableAt R e f
   unfolding entryIn tableAt entry
   entry-is P e f = rw hn (go (ltb e (length (R .events))) (ltb f (length (R .events))) refl refl)
     where
-      at : (q : Bool) → eqb e f ≡ q → e < length (R .events) → f < length (R .events) → cond (not q) (cellAt 128 t e f) 0 ≡ related R e f
+      at : (q : Bool) → eqb e f ≡ q → e < length (R .events) → f < length (R .events) → cond (not q) (cellOf t e f) 0 ≡ related R e f
       at true h l m = sym (related-is N R W P e f l m ∙ rw h refl)
       at false h l m = o .cell e f l m ∙ sym (related-is N R W P e f l m ∙ rw h refl)
 
-      go : (a b : Bool) → ltb e (length (R .events)) ≡ a → ltb f (length (R .events)) ≡ b → cond (a && b && not (eqb e f)) (cellAt 128 t e f) 0 ≡ cond (a && b) (related R e f) 0
+      go : (a b : Bool) → ltb e (length (R .events)) ≡ a → ltb f (length (R .events)) ≡ b → cond (a && b && not (eqb e f)) (cellOf t e f) 0 ≡ cond (a && b) (related R e f) 0
       go true true p q = at (eqb e f) refl (ltb-true _ _ p) (ltb-true _ _ q)
       go true false p q = refl
       go false b p q = refl
 
-  pub table-written : Process N R → (old new : List ℕ) → 16384 ≤ length old → Mapped old 16384 (byteIn t n) new → new ≡ over (tableBytes R) old
+  pub table-written : Process N R → (old new : List ℕ) → 16384 ≤ length old → Mapped old 16384 (byteIn (cellOf t) n) new → new ≡ over (tableBytes R) old
   unfolding byteIn
   table-written P old new l m = mapped-over (tableBytes R) old new 16384 (table-length R) l (λ i k. m .here i k ∙ entry-is P (i / 128) (i % 128) ∙ sym (table-byte R i k)) (m .beyond) (m .long)
 
   -- ---- independent pairs
 
-  independent-is : (e f : ℕ) → e < n → f < n → independentIn (cellAt 128 t) e f ≡ independent R e f
+  independent-is : (e f : ℕ) → e < n → f < n → independentIn (cellOf t) e f ≡ independent R e f
   unfolding independentIn independent
   independent-is e f l m = ap₂ (λ (x y : Bool). not (eqb e f) && not x && not y) (strict-in N R t W o e f (omega arith) (omega arith)) (strict-in N R t W o f e (omega arith) (omega arith))
 
-  pub pairs-counted : independentPairs n (cellAt 128 t) ≡ pairsD R
+  pub pairs-counted : independentPairs n (cellOf t) ≡ pairsD R
   unfolding independentPairs independentsBelow pairsD
   pairs-counted =
       ap sum (map-same _ _ (upTo n) (λ e m. count-same _ _ (upTo e) (λ f k. independent-is e f (in-upTo n m) (omega (arith, in-upTo n m, in-upTo e k)))))
       ∙ ap (λ (k : ℕ). sum (map (λ e. count (independent R e) (upTo e)) (upTo k))) hn
-
--- what is written at i
-pub byte-is : (t : List ℕ) (n i : ℕ) {v : ℕ} → v ≡ entryIn (cellAt 128 t) n (i / 128) (i % 128) → v ≡ byteIn t n i
-unfolding byteIn
-byte-is t n i h = h
-
-pub row-below : (n i : ℕ) → (ltb i 16384 && ltb (i / 128) n) ≡ true → i < 16384
-row-below n i e = ltb-true i 16384 (and-true (ltb i 16384) (ltb (i / 128) n) e .0)
-
--- beyond the rows of the n events there is nothing
-rest-is : (t : List ℕ) (n i j : ℕ) → (ltb i 16384 && ltb (i / 128) n) ≡ false → i ≤ j → j < 16384 → byteIn t n j ≡ 0
-unfolding byteIn entryIn
-rest-is t n i j e l h = go (and-false (ltb i 16384) (ltb (i / 128) n) e)
-  where
-    go : (ltb i 16384 ≡ false) ⊎ (ltb (i / 128) n ≡ false) → cond (ltb (j / 128) n && ltb (j % 128) n && not (eqb (j / 128) (j % 128))) (cellAt 128 t (j / 128) (j % 128)) 0 ≡ 0
-    go (inl f) = absurd (omega (arith, ltb-false i 16384 f))
-    go (inr f) =
-        let p : 0 < 128 = omega arith in
-        rw (le-ltb (j / 128) n (omega (arith, ltb-false (i / 128) n f, div-add-mod i 128, div-add-mod j 128, mod-lt i p, mod-lt j p)))
-
-pub rows-written : (t : List ℕ) (n i : ℕ) {old mid new : List ℕ} → i ≤ 16384 → (ltb i 16384 && ltb (i / 128) n) ≡ false → Mapped old 16384 zeros mid → Mapped mid i (byteIn t n) new → Mapped old 16384 (byteIn t n) new
-unfolding zeros
-rows-written t n i l e z m = record {
-  long = m .long ∙ z .long;
-  here = λ j h. elim (decLe i j) [
-    | yes k ↦ m .beyond j k ∙ z .here j h ∙ sym (rest-is t n i j e k h)
-    | no k ↦ m .here j (omega arith)
-  ];
-  beyond = λ j h. m .beyond j (omega arith) ∙ z .beyond j h;
-}

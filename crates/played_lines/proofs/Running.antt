@@ -120,7 +120,7 @@ lowest-held {n} gs R few o s =
 
 module _ {n places : ℕ} {tokens inputs outputs trans t text : List ℕ} {k at : ℕ} {stands md tk rs : List ℕ} (g : Running n places tokens inputs outputs trans t text k at stands md tk rs) where
   pub sound : Sound n k t stands
-  sound = record { few = g .ready .few; long = g .ready .table; groups = g .groups; lined = g .reading .lined }
+  sound = record { few = g .ready .few; good = g .ready .rows; groups = g .groups; lined = g .reading .lined }
 
   -- a line, judged
   module _ {l : List ℕ} {ended : Bool} (next : ℕ) (ls : linesOf (drop at text) ≡ lineOf l ended ∷ linesOf (drop next text)) {v : Group} {stands′ : List ℕ} (j : Judges n k t stands l ended v stands′) where

@@ -7,17 +7,18 @@ use Rattle.spec.specs.Net.{Net as NetD}
 use Rattle.spec.specs.Record.{RunRecord, transitionOf}
 use Rattle.spec.specs.Replay.{readArrangement, replayed}
 use Rattle.lines.specs.Agree.{Agrees}
+use Rattle.reach.specs.Rows.{Good}
 use Rattle.net.specs.Holds.{Holds}
 use Rattle.net.specs.declared.Net.{Net}
 use Rattle.arrangements.specs.Lined.{TellsOrder}
 use Rattle.arrangements.specs.Arrangement.{answerOf}
 use Rattle.arrangements.specs.declared.ArrangementAnswer.{ArrangementAnswer}
 
--- what the code relies on: n events, whose transitions are rows of the arrays of arcs, and a table for them
+-- what the code relies on: n events, whose transitions are rows of the arrays of arcs, and rows of bits for them
 pub record Ready (n ps : ℕ) (ks trans t : List ℕ) : Type 0 where
   pub few : n ≤ 128
   pub known : (e : ℕ) → e < n → getD trans e 0 < 32
-  pub table : 16384 ≤ length t
+  pub rows : Good t
   pub places : ps ≤ 32
   pub tokens : (p : ℕ) → getD ks p 0 ≤ 512
 

@@ -12,18 +12,18 @@ use rows::add_step;
 use rows::put_row;
 use rows::transitions_of;
 
-// The lines of a text, of the n events with these transitions, whose closed order is in the table t. Row 0 is the initial
+// The lines of a text, of the n events with these transitions, whose closed order is in the rows of bits w. Row 0 is the initial
 // marking, and row k the one after line k.
 pub fn replay_lines(
     net: Net,
     n: usize,
     trans: &[u8; 128],
-    t: &[u8],
+    w: &[u64; 512],
     text: &[u8],
     rows: &mut [u16; 4128],
 ) -> ArrangementAnswer
-    requires { ⌜ Ready n (net .places) (net .tokens) (now trans) (now t) × Blank (now rows) ⌝ }
-    ensures { λ r. ⌜ (length (now (rows .exit)) ≡ 4128) × ReplaysLines net n (now (trans .entry)) (now (t .entry)) (now (text .entry)) r (now (rows .exit)) ⌝ }
+    requires { ⌜ Ready n (net .places) (net .tokens) (now trans) (now w) × Blank (now rows) ⌝ }
+    ensures { λ r. ⌜ (length (now (rows .exit)) ≡ 4128) × ReplaysLines net n (now (trans .entry)) (now (w .entry)) (now (text .entry)) r (now (rows .exit)) ⌝ }
 {
     let places = net.places;
     let tokens = net.tokens;
@@ -38,7 +38,7 @@ pub fn replay_lines(
     while at < text.len() {
         let line = line_at(text, at);
         let end = line.end;
-        let group = judge_line(k, &text[at..end], line.ended, n, t, &mut stands);
+        let group = judge_line(k, &text[at..end], line.ended, n, w, &mut stands);
         let answer = group.answer;
         if !goes(answer) {
             return answer;

@@ -1,11 +1,11 @@
 -- What the functions of the reader promise.
-use Prim.Native.Nat.{ℕ, _≤_}
+use Prim.Native.Nat.{ℕ, _+_, _≤_, _<_}
 use mathlib.Core.Path.{_≡_}
 use mathlib.Core.Bool.{Bool, true, false}
-use mathlib.Core.List.{List}
-use lib.ListN.{length, getD}
+use mathlib.Core.List.{List, _∷_}
+use lib.ListN.{length, getD, drop}
 use Rattle.spec.specs.Answer.{Answer, gives, refuses}
-use Rattle.spec.specs.Text.{linesOf, byLines}
+use Rattle.spec.specs.Text.{Line, linesOf, byLines}
 use Rattle.spec.specs.Net.{Net, places}
 use Rattle.spec.specs.Record.{RunRecord, Condition, Mark}
 use Rattle.spec.specs.Check.{eventOf, enterLine, emptyRecord}
@@ -13,9 +13,10 @@ use Rattle.spec.specs.declared.Field.{Field}
 use Rattle.spec.specs.declared.MarkKind.{MarkKind}
 use Rattle.spec.specs.declared.Limits.{Limits}
 use Rattle.lines.specs.Agree.{Agrees}
-use Rattle.record.specs.Holds.{HoldsRecord}
+use Rattle.record.specs.Holds.{HoldsRecord, HoldsBits}
 use Rattle.record.specs.declared.Counts.{Counts}
 use Rattle.record.specs.declared.RecordRead.{RecordRead}
+use Rattle.record.specs.declared.Took.{Took}
 use Rattle.record.specs.declared.RecordAnswer.{RecordAnswer}
 use Rattle.record.specs.declared.RecordAnswer.the-variants.{Read, Malformed, LimitPassed, Undeclared, MarkedAlready}
 
@@ -40,8 +41,13 @@ abbrev pub noValues : RunRecord → Unit {0}
 noValues R = tt
 
 -- the bytes hold a record with these counts
-abbrev pub Holds : Counts → List ℕ → RunRecord → Type 0
-Holds s b R = HoldsRecord (s .events) (s .conditions) (s .marks) b R
+abbrev pub Keeps : Counts → List ℕ → RunRecord → Type 0
+Keeps s b R = HoldsRecord (s .events) (s .conditions) (s .marks) b R
+
+-- and bits that tell where it has marks
+pub record Holds (s : Counts) (b : List ℕ) (R : RunRecord) : Type 0 where
+  pub columns : Keeps s b R
+  pub bits : HoldsBits b R
 
 -- limits, places and transitions whose numbers the bytes have room for
 pub record Room (lim : Limits) (ps ts : ℕ) : Type 0 where
@@ -53,14 +59,14 @@ pub record Room (lim : Limits) (ps ts : ℕ) : Type 0 where
 
 -- bytes that hold nothing yet
 pub record Blank (b : List ℕ) : Type 0 where
-  pub long : 67200 ≤ length b
+  pub long : 26240 ≤ length b
   pub zero : (i : ℕ) → getD b i 0 ≡ 0
 
 -- what the code relies on while it reads
 pub record Fits (s : Counts) (b : List ℕ) : Type 0 where
   pub events : s .events ≤ 128
   pub conditions : s .conditions ≤ 512
-  pub long : 67200 ≤ length b
+  pub long : 26240 ≤ length b
 
 -- the net has so many places and transitions
 pub record Declares (ps ts : ℕ) (N : Net) : Type 0 where
@@ -70,6 +76,14 @@ pub record Declares (ps ts : ℕ) (N : Net) : Type 0 where
 -- what a step of the definitions answers, of every record that the bytes hold
 abbrev pub Enters : Counts → List ℕ → (RunRecord → Answer RunRecord) → RecordRead → List ℕ → Type 0
 Enters s b f r b′ = (R : RunRecord) → Holds s b R → Agrees noValues (answerOf (r .answer)) (Holds (r .counts) b′) (f R)
+
+-- the line that starts at a position is entered as the definitions enter line k, and the next one starts at `next`
+pub record Takes (lim : Limits) (ps ts : ℕ) (text : List ℕ) (at k : ℕ) (s : Counts) (b : List ℕ) (r : Took) (b′ : List ℕ) : Type 0 where
+  pub line : Line
+  pub lines : linesOf (drop at text) ≡ line ∷ linesOf (drop (r .next) text)
+  pub on : at < r .next
+  pub next : r .next ≤ length text + 1
+  pub enters : (N : Net) → Declares ps ts N → Enters s b (enterLine lim N k line) (r .step) b′
 
 -- the condition and the mark that a line names
 abbrev pub conditionIn : ℕ → Field → Field → Condition

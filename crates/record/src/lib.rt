@@ -1,33 +1,49 @@
 // The record reader: a text becomes a record of bytes, or a refusal.
 ghost use mathlib.Core.Path.{_≡_};
-ghost use Prim.Native.Nat.{_≤_};
+ghost use mathlib.Core.Bool.{true, false};
+ghost use Prim.Native.Nat.{_+_, _^_, _≤_, _<_};
 ghost use Rattle.spec.specs.Net.{Net, places as placesOf};
 ghost use Rattle.spec.specs.Process.{below};
 ghost use Rattle.spec.specs.Check.{eventOf, enterEvent, enterCondition, enterMark, enterRow, enterLine};
 ghost use Rattle.lines.specs.Lines.{lineOf};
-ghost use Rattle.record.specs.Holds.{eventCode, kindCode};
-ghost use Rattle.record.specs.Reads.{goesOf, Room, Blank, Fits, Declares, Enters, conditionIn, markOf, ReadsRecord};
+ghost use Rattle.plain.specs.Plain.{Opens};
+ghost use Rattle.record.specs.Holds.{eventCode, kindCode, conditionOf, bitOf};
+ghost use lib.ListN.{length};
+ghost use Rattle.record.specs.Reads.{goesOf, Room, Blank, Fits, Declares, Enters, Takes, conditionIn, markOf, ReadsRecord};
 use fields::row_of;
 use forms::is_one;
 use forms::is_three;
 use forms::is_two;
 use forms::number_in;
 use lines::line_at;
+use plain::one_at;
+use plain::three_at;
+use plain::two_at;
 use spec::Class;
 use spec::Field;
 use spec::Limits;
 use spec::MarkKind;
 use spec::Row;
 
-// Where the bytes of a record stand: from here on the places of the conditions, their producers, their consumers, and
-// the marks, 512 for each event. Before them stand the transitions of the events.
+// Where the bytes of a record stand. Before PLACES stand the transitions of the events; then from each number on the places
+// of the conditions, their producers, their consumers; of the marks, in the order of the text, their kinds, their events, and
+// their conditions less the multiples of 256, and these; and a bit for each event and condition, 512 for each event, that is
+// set where they are marked.
 pub const PLACES: usize = 128;
 
 pub const PRODUCERS: usize = 640;
 
 pub const CONSUMERS: usize = 1152;
 
-pub const MARKS: usize = 1664;
+pub const KINDS: usize = 1664;
+
+pub const EVENTS: usize = 5760;
+
+pub const LOWS: usize = 9856;
+
+pub const HIGHS: usize = 13952;
+
+pub const MARKED: usize = 18048;
 
 // How many events, conditions and marks a record has.
 pub struct Counts {
@@ -176,6 +192,22 @@ fn enter_condition(
     entered(n, c + 1, s.marks)
 }
 
+// Whether bit i of a byte is set.
+fn is_set(b: u8, i: usize) -> bool
+    requires { ⌜ i < 8 ⌝ }
+    ensures { λ r. ⌜ r ≡ bitOf b i ⌝ }
+{
+    (b >> i) % 2 == 1
+}
+
+// A byte with bit i, which was not set.
+fn with_bit(b: u8, i: usize) -> u8
+    requires { ⌜ (i < 8) × (bitOf b i ≡ false) ⌝ }
+    ensures { λ r. ⌜ r ≡ b + 2 ^ i ⌝ }
+{
+    b + (1u8 << i)
+}
+
 // One more mark.
 fn enter_mark(
     lim: Limits,
@@ -198,12 +230,19 @@ fn enter_mark(
     if s.events <= e {
         return refused(RecordAnswer::Undeclared(k), s);
     }
-    let at = MARKS + 512 * e + c;
-    if 0 < rec[at] {
+    let at = MARKED + 64 * e + c / 8;
+    let i = c % 8;
+    let b = rec[at];
+    if is_set(b, i) {
         return refused(RecordAnswer::MarkedAlready(k), s);
     }
-    rec[at] = kind_code(x);
-    entered(s.events, s.conditions, s.marks + 1)
+    let q = s.marks;
+    rec[at] = with_bit(b, i);
+    rec[KINDS + q] = kind_code(x);
+    rec[EVENTS + q] = e as u8;
+    rec[LOWS + q] = (c % 256) as u8;
+    rec[HIGHS + q] = (c / 256) as u8;
+    entered(s.events, s.conditions, q + 1)
 }
 
 // What a line says is entered.
@@ -259,6 +298,85 @@ fn enter_line(
     enter_row(lim, places, transitions, k, row_of(4, l), s, rec)
 }
 
+// A line that was entered, and where the next one starts.
+pub struct Took {
+    pub step: RecordRead,
+    pub next: usize,
+}
+
+// Whether the letter is one of the two kinds of marks.
+fn mark_letter(b: u8) -> bool
+    ensures { λ r. ⌜ (r ≡ true → Opens b) ⌝ }
+{
+    if b == b'B' {
+        return true;
+    }
+    b == b'A'
+}
+
+// The line that starts at a position is entered. A plain line is read in one walk; any other goes to the readers of lines and
+// fields, and so does every malformed one.
+fn enter_at(
+    lim: Limits,
+    places: usize,
+    transitions: usize,
+    k: usize,
+    text: &[u8],
+    at: usize,
+    s: Counts,
+    rec: &mut [u8],
+) -> Took
+    requires { ⌜ (at < length (now text)) × Room lim places transitions × Fits s (now rec) ⌝ }
+    ensures { λ r. ⌜ Takes lim places transitions (now (text .entry)) at k s (now (rec .entry)) r (now (rec .exit)) ⌝ }
+{
+    let letter = text[at];
+    if mark_letter(letter) {
+        let f = two_at(4, text, at);
+        if at < f.next {
+            if letter == b'B' {
+                let step = enter_mark(lim, MarkKind::Before, k, f.a, f.b, s, rec);
+                return Took { step, next: f.next };
+            }
+            if letter == b'A' {
+                let step = enter_mark(lim, MarkKind::After, k, f.a, f.b, s, rec);
+                return Took { step, next: f.next };
+            }
+        }
+    }
+    if letter == b'C' {
+        let f = three_at(4, text, at);
+        if at < f.next {
+            let producer = f.b;
+            let consumer = f.c;
+            let step = enter_condition(lim, places, k, f.a, producer, consumer, s, rec);
+            return Took { step, next: f.next };
+        }
+    }
+    if letter == b'E' {
+        let f = one_at(4, text, at);
+        if at < f.next {
+            let step = enter_event(lim, transitions, k, f.a, s, rec);
+            return Took { step, next: f.next };
+        }
+    }
+    let line = line_at(text, at);
+    let end = line.end;
+    let step = enter_line(
+        lim,
+        places,
+        transitions,
+        k,
+        &text[at..end],
+        line.ended,
+        s,
+        rec,
+    );
+    Took {
+        step,
+        next: line.next,
+    }
+}
+
 // The record that a text declares, in bytes that are all zero before.
 pub fn read_record(
     lim: Limits,
@@ -278,25 +396,30 @@ pub fn read_record(
     let mut k: usize = 1;
     let mut at: usize = 0;
     while at < text.len() {
-        let line = line_at(text, at);
-        let end = line.end;
-        let step = enter_line(
-            lim,
-            places,
-            transitions,
-            k,
-            &text[at..end],
-            line.ended,
-            s,
-            rec,
-        );
+        let took = enter_at(lim, places, transitions, k, text, at, s, rec);
+        let step = took.step;
         let answer = step.answer;
         s = step.counts;
         if !goes(answer) {
             return refused(answer, s);
         }
         k += 1;
-        at = line.next;
+        at = took.next;
     }
     entered(s.events, s.conditions, s.marks)
+}
+
+fn wide(b: u8) -> usize
+    ensures { λ r. ⌜ (r ≡ b) × (r < 256) ⌝ }
+{
+    b as usize
+}
+
+// The condition of mark i.
+pub fn condition_of(rec: &[u8], i: usize) -> usize
+    requires { ⌜ (i < 4096) × (18048 ≤ length (now rec)) ⌝ }
+    ensures { λ r. ⌜ r ≡ conditionOf (now (rec .entry)) i ⌝ }
+{
+    let low = wide(rec[LOWS + i]);
+    low + 256 * wide(rec[HIGHS + i])
 }

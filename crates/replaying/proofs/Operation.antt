@@ -83,11 +83,11 @@ module _ {net text : List ℕ} {r : Accepted} {t : List ℕ} where
       transition = k .bytes .transitions;
     }
 
-    pub ready : 16384 ≤ length t → Ready (r .events) (r .net .places) (r .net .tokens) (r .transitions) t
-    ready l = let k = A .holds in let n = k .arrays .counts in record {
+    pub ready : Ready (r .events) (r .net .places) (r .net .tokens) (r .transitions) t
+    ready = let k = A .holds in let n = k .arrays .counts in record {
       few = k .bytes .few;
       known = λ e u. omega (arith, k .bytes .transitions e u, well .known _ (at-in 0 (A .accepted .run .events) e (omega (arith, k .bytes .events))), n .transitions, n .fewTransitions);
-      table = l;
+      rows = k .bytes .order .ready .good;
       places = n .fewPlaces;
       tokens = λ p. omega (arith, n .tokens p, one-most (A .accepted .net .tokens) p, n .most);
     }

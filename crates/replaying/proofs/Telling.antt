@@ -1,4 +1,4 @@
--- A table with the values of a record's closed order tells the order.
+-- Rows with the values of a record's closed order tell the order.
 use Prim.Native.Nat.{ℕ, _≤_, _<_}
 use mathlib.Core.Path.{_≡_}
 use mathlib.Core.List.{List}
@@ -8,14 +8,14 @@ use borrow.Author.Tests.{leb-true, le-leb, ltb-true, lt-ltb}
 use Rattle.spec.specs.Net.{Net}
 use Rattle.spec.specs.Record.{RunRecord}
 use Rattle.spec.specs.Process.{WellFormed}
-use Rattle.order.specs.Table.{cellAt}
+use Rattle.reach.specs.Rows.{cellOf}
 use Rattle.lists.specs.Laws.{same-tests}
 use Rattle.runs.specs.Values.{orderOf, strict-order, weak-order}
 use Rattle.runs.specs.Closure.{strict-is, weak-is}
 use Rattle.arrangements.specs.Lined.{TellsOrder}
 
 pub tells-order : (N : Net) (R : RunRecord) → WellFormed N R → {n : ℕ} {t : List ℕ} → n ≡ length (R .events)
-    → ((d e : ℕ) → d < length (R .events) → e < length (R .events) → cellAt 128 t d e ≡ orderOf R d e) → TellsOrder n t R
+    → ((d e : ℕ) → d < length (R .events) → e < length (R .events) → cellOf t d e ≡ orderOf R d e) → TellsOrder n t R
 tells-order N R W q cell = record {
   events = q;
   strict = λ d e l m. let i : d < length (R .events) = omega arith in let j : e < length (R .events) = omega arith in

@@ -40,8 +40,8 @@ pub fn replay(net: &[u8], text: &[u8], arrangement: &[u8], out: &mut [u16]) -> R
     if out.len() < 4128 {
         return ReplayAnswer::BufferShort;
     }
-    let mut table = [0u8; 16384];
-    let accepted = accept(net, text, bench(), &mut table);
+    let mut w = [0u64; 512];
+    let accepted = accept(net, text, bench(), &mut w);
     let verdict = accepted.verdict;
     if let Verdict::Refused(why) = verdict {
         return ReplayAnswer::Refused(why);
@@ -52,7 +52,7 @@ pub fn replay(net: &[u8], text: &[u8], arrangement: &[u8], out: &mut [u16]) -> R
         accepted.net,
         accepted.events,
         &transitions,
-        &table,
+        &w,
         arrangement,
         &mut rows,
     );

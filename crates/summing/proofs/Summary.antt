@@ -1,9 +1,9 @@
 -- The summary of a record that is accepted, by what the code has counted of it.
 use mathlib.Core.Path.{_≡_, sym, ap, _∙_, subst}
-use Prim.Native.Nat.{ℕ, _+_, _-_, _≤_}
+use Prim.Native.Nat.{ℕ, _+_, _≤_}
 use native.Mathlib.Omega.{arith}
 use mathlib.Core.List.{List, [], _∷_}
-use lib.ListN.{length, take}
+use lib.ListN.{length}
 use Rattle.spec.specs.Answer.{gives}
 use Rattle.spec.specs.Net.{readNet}
 use Rattle.spec.specs.Text.{line}
@@ -13,20 +13,20 @@ use Rattle.spec.specs.Arrange.{levels, lineCount}
 use Rattle.spec.specs.Program.{summary}
 use Rattle.spec.specs.declared.Field.the-variants.{Number}
 use Rattle.order.specs.Order.{Order}
-use Rattle.order.specs.Table.{cellAt}
-use Rattle.strictness.specs.Pairs.{independentPairs}
-use Rattle.runs.specs.Answers.{of-gives, of-bind, not-refused}
+use Rattle.reach.specs.Rows.{cellOf}
+use Rattle.row_facts.specs.Counts.{Ready}
+use Rattle.row_facts.specs.Pairs.{independentPairs}
+use Rattle.runs.specs.Answers.{of-gives, of-bind}
 use Rattle.runs.specs.Accepted.{accepted-record}
 use Rattle.runs.specs.ReadRecord.{Fits}
-use Rattle.lines.specs.Agree.{giving, refusing}
 use Rattle.writing.specs.Written.{Wrote, lineBytes}
-use Rattle.accepting.specs.Accepting.{HoldsAccepted, Accepts}
-use Rattle.accepting.specs.declared.Accepted.{Accepted}
+use Rattle.record.specs.declared.Counts.{Counts}
+use Rattle.held.specs.Noted.{Noted}
+use Rattle.accepting.specs.Relation.{Ordered}
 use Rattle.accepting.proofs.Accepting.{accepted-process}
 use Rattle.checking.proofs.CheckTable.{pairs-counted}
 use Rattle.arranging.specs.Answers.{levelsIn}
 use Rattle.arranging.proofs.Levels.{order-held, levels-held}
-use Rattle.summing.specs.Summaries.{Recorded, Summarizes}
 use Rattle.summing.proofs.Sizes.{summary-size}
 
 -- ---- an accepted record
@@ -43,46 +43,23 @@ module _ (net text : List ℕ) where
   pub summary-fits : (a : AcceptedD) → accepts bench net text ≡ gives a → length (summary (a .run)) ≤ 19
   summary-fits a e = let w = accepted-process bench net text a e in summary-size (a .net) (a .run) (w .0) (w .1) (record-fits a e)
 
-  module _ {A : Accepted} {t : List ℕ} where
-    -- the code holds the record that the definitions accept
-    holds-it : (a : AcceptedD) → accepts bench net text ≡ gives a → Accepts bench net text A t → HoldsAccepted A t a
-    holds-it a e (giving b f y H) = subst (HoldsAccepted A t) (of-gives (sym f ∙ e)) H
-    holds-it a e (refusing n s f y) = not-refused (sym f ∙ e)
+-- ---- a record that is held by bytes
 
-    module _ (R : Recorded net text) (H : Accepts bench net text A t) where
-      pub few-events : A .events ≤ 128
-      few-events = holds-it (R .accepted) (R .is) H .bytes .few
+module _ {s : Counts} {rec t : List ℕ} {g : ℕ} (K : Noted s rec) (O : Ordered (K .run) t g) where
+  pub noted-order : Ready (s .events) t × Order (s .events) (cellOf t)
+  noted-order = (subst (λ (n : ℕ). Ready n t) (sym (K .held .bytes .events)) (O .order .ready), order-held (K .net) (K .run) (K .held .wellFormed) (K .process) (s .events) t (K .held .bytes .events) (O .order))
 
-      pub table-order : Order (A .events) (cellAt 128 t)
-      table-order =
-          let w = accepted-process bench net text (R .accepted) (R .is) in
-          let B = holds-it (R .accepted) (R .is) H .bytes in
-          order-held (R .accepted .net) (R .accepted .run) (w .0) (w .1) (A .events) t (B .events) (B .order)
+  noted-line : {k m : ℕ} → k ≡ independentPairs (s .events) (cellOf t) → m ≡ lineCount (levelsIn (s .events) t)
+      → lineBytes 90 (Number (s .events) ∷ Number (s .conditions) ∷ Number k ∷ Number m ∷ []) ≡ summary (K .run)
+  unfolding summary line
+  noted-line p q =
+      let l : lineCount (levelsIn (s .events) t) ≡ lineCount (levels (K .run)) = ap lineCount (levels-held (K .net) (K .run) (K .held .wellFormed) (K .process) (s .events) t (K .held .bytes .events) (O .order)) in
+      rw (p ∙ pairs-counted (K .net) (K .run) t (s .events) (K .held .wellFormed) (O .order) (K .held .bytes .events), q ∙ l, K .held .bytes .events, K .held .bytes .conditions)
 
-      -- the line that the code writes is the summary
-      pub summarized : {k m : ℕ} → k ≡ independentPairs (A .events) (cellAt 128 t) → m ≡ lineCount (levelsIn (A .events) t) → (a : AcceptedD) → accepts bench net text ≡ gives a
-          → lineBytes 90 (Number (A .events) ∷ Number (A .conditions) ∷ Number k ∷ Number m ∷ []) ≡ summary (a .run)
-      unfolding summary line
-      summarized p q a e =
-          let w = accepted-process bench net text a e in
-          let B = holds-it a e H .bytes in
-          let l : lineCount (levelsIn (A .events) t) ≡ lineCount (levels (a .run)) = ap lineCount (levels-held (a .net) (a .run) (w .0) (w .1) (A .events) t (B .events) (B .order)) in
-          rw (p ∙ pairs-counted (a .net) (a .run) t (A .events) (w .0) (B .order) (B .events), q ∙ l, B .events, B .conditions)
+  pub noted-room : (n : ℕ) {k m room : ℕ} → k ≡ independentPairs (s .events) (cellOf t) → m ≡ lineCount (levelsIn (s .events) t) → n + 19 ≤ room
+      → n + length (lineBytes 90 (Number (s .events) ∷ Number (s .conditions) ∷ Number k ∷ Number m ∷ [])) ≤ room
+  noted-room n p q h = omega (arith, ap length (noted-line p q), summary-size (K .net) (K .run) (K .held .wellFormed) (K .process) (K .fits))
 
-      pub summary-room : (n : ℕ) {k m room : ℕ} → k ≡ independentPairs (A .events) (cellAt 128 t) → m ≡ lineCount (levelsIn (A .events) t) → n + 19 ≤ room
-          → n + length (lineBytes 90 (Number (A .events) ∷ Number (A .conditions) ∷ Number k ∷ Number m ∷ [])) ≤ room
-      summary-room n p q h = omega (arith, ap length (summarized p q (R .accepted) (R .is)), summary-fits (R .accepted) (R .is))
-
--- ---- behind the record in the buffer
-
--- the part of a buffer up to n
-pub to-part : {net : List ℕ} (n : ℕ) (old : List ℕ) → Recorded net (take n old) → Recorded net (take (n - 0) old)
-to-part n old R = let e : n - 0 ≡ n = omega arith in rw e R
-
--- the summary behind the record, by what was counted
-pub summary-wrote : {net : List ℕ} (n : ℕ) {old new : List ℕ} {A : Accepted} {t : List ℕ} {k m r : ℕ} → Recorded net (take n old) → Accepts bench net (take (n - 0) old) A t
-    → k ≡ independentPairs (A .events) (cellAt 128 t) → m ≡ lineCount (levelsIn (A .events) t)
-    → Wrote old n (lineBytes 90 (Number (A .events) ∷ Number (A .conditions) ∷ Number k ∷ Number m ∷ [])) r new → Summarizes net n old r new
-summary-wrote {net} n {old} {new} {r = r} R H p q w a e =
-    let z : n - 0 ≡ n = omega arith in
-    subst (λ (bs : List ℕ). Wrote old n bs r new) (summarized net (take (n - 0) old) (to-part n old R) H p q a (rw z e)) w
+  pub noted-wrote : (n : ℕ) {old new : List ℕ} {k m r : ℕ} → k ≡ independentPairs (s .events) (cellOf t) → m ≡ lineCount (levelsIn (s .events) t)
+      → Wrote old n (lineBytes 90 (Number (s .events) ∷ Number (s .conditions) ∷ Number k ∷ Number m ∷ [])) r new → Wrote old n (summary (K .run)) r new
+  noted-wrote n {old} {new} {r = r} p q w = subst (λ (bs : List ℕ). Wrote old n bs r new) (noted-line p q) w

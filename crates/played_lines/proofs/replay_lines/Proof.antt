@@ -18,9 +18,9 @@ abbrev μ-loop : tie.MeasureT-loop
 
 pub replay-lines-spec : {M : Type 1} → statement M
 replay-lines-spec = tie.close (tie.spec Inv-loop μ-loop
-    (λ c κs. let p = c .before .before .before .before .before .before .before .before .before .pre in
+    (λ c κs. let p = c .before .before .before .before .before .before .before .before .pre in
     (p .1 .long, omega arith, p .0 .places, λ i l. omega (arith, p .0 .tokens i, blank 32 i)))
-    (λ c. let p = c .before .before .before .before .before .before .before .before .before .before .pre in
+    (λ c. let p = c .before .before .before .before .before .before .before .before .before .pre in
     (omega arith, begun (p .0) (p .1) (c .put-row .ensures)))
     (λ c κs. omega arith)
     (λ c. omega arith)

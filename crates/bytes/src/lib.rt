@@ -1,0 +1,32 @@
+// Bytes cleared, and 128 of them copied.
+ghost use mathlib.Core.Path.{_≡_};
+ghost use Prim.Native.Nat.{ℕ, _+_, _<_, _≤_};
+ghost use lib.ListN.{length, getD};
+ghost use Rattle.lists.specs.Mapped.{Mapped};
+ghost use Rattle.bytes.specs.Changes.{zeros};
+
+// The first n entries at 0.
+pub fn clear(a: &mut [u8], n: usize)
+    requires { ⌜ n ≤ length (now a) ⌝ }
+    ensures { λ _. ⌜ Mapped (now (a .entry)) n zeros (now (a .exit)) ⌝ }
+{
+    let mut f: usize = 0;
+    while f < n {
+        a[f] = 0;
+        f += 1;
+    }
+}
+
+// A copy of the 128 bytes from a position on, so that no store changes what is read of them.
+pub fn bytes_at(t: &[u8], at: usize) -> [u8; 128]
+    requires { ⌜ at + 128 ≤ length (now t) ⌝ }
+    ensures { λ r. ⌜ ((f : ℕ) → f < 128 → getD r f 0 ≡ getD (now (t .entry)) (at + f) 0) ⌝ }
+{
+    let mut r = [0u8; 128];
+    let mut f: usize = 0;
+    while f < 128 {
+        r[f] = t[at + f];
+        f += 1;
+    }
+    r
+}

@@ -1,0 +1,62 @@
+// What the closed order in rows of bits says of strict pairs: its loops and its independent pairs.
+ghost use mathlib.Core.Path.{_≡_};
+ghost use Prim.Native.Nat.{_<_, _≤_};
+ghost use Rattle.lists.specs.Lowest.{Lowest};
+ghost use Rattle.order.specs.Order.{Order};
+ghost use Rattle.row_facts.specs.Pairs.{onCycle, independentPairs};
+ghost use Rattle.reach.specs.Rows.{cellOf, Good};
+ghost use Rattle.order.specs.Below.{sumBelow};
+ghost use Rattle.row_facts.specs.Left.{strictly};
+ghost use Rattle.row_facts.specs.Counts.{Ready};
+use bit_sets::holds;
+use bit_sets::size;
+use reach::row_at;
+
+// Whether e is strictly before itself.
+fn looped(w: &[u64; 512], e: usize) -> bool
+    requires { ⌜ (e < 128) × Good (now w) ⌝ }
+    ensures { λ r. ⌜ r ≡ onCycle (cellOf (now (w .entry))) e ⌝ }
+{
+    let r = row_at(w, e);
+    holds(r.strict, e)
+}
+
+// The lowest event that is strictly before itself, or n.
+pub fn first_loop(w: &[u64; 512], n: usize) -> usize
+    requires { ⌜ (n ≤ 128) × Good (now w) ⌝ }
+    ensures { λ r. ⌜ Lowest (onCycle (cellOf (now (w .entry)))) n r ⌝ }
+{
+    let mut e: usize = 0;
+    while e < n {
+        if looped(w, e) {
+            return e;
+        }
+        e += 1;
+    }
+    e
+}
+
+// How many of the n events e is strictly before.
+pub fn followers(w: &[u64; 512], n: usize, e: usize) -> usize
+    requires { ⌜ (e < n) × Ready n (now w) ⌝ }
+    ensures { λ r. ⌜ (r ≡ sumBelow n (strictly (cellOf (now (w .entry))) e)) × (r ≤ 128) ⌝ }
+{
+    let r = row_at(w, e);
+    size(r.strict)
+}
+
+// The number of independent pairs of the n events: all pairs but the strict ones.
+pub fn independent_pairs(w: &[u64; 512], n: usize) -> usize
+    requires { ⌜ Ready n (now w) × Order n (cellOf (now w)) ⌝ }
+    ensures { λ r. ⌜ r ≡ independentPairs n (cellOf (now (w .entry))) ⌝ }
+{
+    let mut all: usize = 0;
+    let mut strict: usize = 0;
+    let mut e: usize = 0;
+    while e < n {
+        all += e;
+        strict = strict + followers(w, n, e);
+        e += 1;
+    }
+    all - strict
+}

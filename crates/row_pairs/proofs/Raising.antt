@@ -1,0 +1,93 @@
+-- Entries of the table raised one after the other.
+use mathlib.Core.Path.{_≡_, refl, sym, ap, _∙_, subst}
+use mathlib.Core.Logic.{_≢_}
+use Prim.Native.Nat.{ℕ, _+_, _*_, _≤_, _<_, max}
+use native.Mathlib.Nat.{max-zero}
+use native.Mathlib.Decide.{ℕ-discrete}
+use native.Mathlib.Numerals.{add-one}
+use native.Mathlib.Omega.{arith}
+use mathlib.Core.Bool.{Bool, true, false, _&&_, cond, and-false}
+use mathlib.Core.List.{List}
+use lib.ListN.{length, getD, set, length-set}
+use lib.Dec.{eqb}
+use borrow.Author.Tests.{eq-eqb, ne-eqb}
+use Rattle.spec.specs.Lists.{upTo, from, greatest}
+use Rattle.order.specs.Below.{maxBelow, max-suc}
+use Rattle.reach.specs.Rows.{cellOf, Good, Raised as RaisedOne}
+use Rattle.record.specs.declared.Counts.{Counts}
+use Rattle.record.specs.Holds.{conditionOf}
+use Rattle.row_pairs.specs.Relation.{pairIn, conditionPairIn, markPairIn, overall, relationIn, Raised, Filled}
+
+-- ---- one entry
+
+pair-here : (e f v : ℕ) → pairIn e f v e f ≡ v
+unfolding pairIn
+pair-here e f v = rw (eq-eqb e e refl, eq-eqb f f refl)
+
+pair-away : (e f v i j : ℕ) → ¬ ((i ≡ e) × (j ≡ f)) → pairIn e f v i j ≡ 0
+unfolding pairIn
+pair-away e f v i j d = elim (ℕ-discrete e i) [
+  | yes p ↦ rw (ne-eqb f j (λ q. d (sym p, sym q)), and-false (eqb e i))
+  | no p ↦ rw (ne-eqb e i p)
+]
+
+-- one that is no event is in no entry
+pub raise-none : (t : List ℕ) (e f v : ℕ) → 128 ≤ max e f → Raised t (pairIn e f v) t
+raise-none t e f v h = record { long = refl; good = λ g. g; cell = λ i j k l. omega (arith, pair-away e f v i j (λ z. omega (arith, z .0, z .1))) }
+
+pub raise-one : (w w′ : List ℕ) (e f v : ℕ) → RaisedOne w e f v w′ → Raised w (pairIn e f v) w′
+raise-one w w′ e f v r = record {
+  long = r .long;
+  good = λ _. r .good;
+  cell = λ i j k l. elim (ℕ-discrete i e) [
+    | yes x ↦ elim (ℕ-discrete j f) [
+      | yes y ↦ rw (x, y) (r .here ∙ ap (max (cellOf w e f)) (sym (pair-here e f v)))
+      | no y ↦ r .other i j (λ z. y (z .1)) ∙ omega (arith, pair-away e f v i j (λ z. y (z .1)))
+    ]
+    | no x ↦ r .other i j (λ z. x (z .0)) ∙ omega (arith, pair-away e f v i j (λ z. x (z .0)))
+  ];
+}
+
+-- ---- one after the other
+
+pub raised-as : {t t′ : List ℕ} {v w : ℕ → ℕ → ℕ} → ((i j : ℕ) → v i j ≡ w i j) → Raised t v t′ → Raised t w t′
+raised-as h r = record { long = r .long; good = r .good; cell = λ i j k l. r .cell i j k l ∙ ap (max _) (h i j) }
+
+pub overall-none : (t : List ℕ) (v : ℕ → ℕ → ℕ → ℕ) → Raised t (overall v 0) t
+unfolding overall maxBelow greatest upTo from
+overall-none t v = record { long = refl; good = λ g. g; cell = λ i j k l. sym (max-zero _) }
+
+pub overall-more : {t₀ t t′ : List ℕ} {n : ℕ} (v : ℕ → ℕ → ℕ → ℕ) → Raised t₀ (overall v n) t → Raised t (v n) t′ → Raised t₀ (overall v (n + 1)) t′
+unfolding overall
+overall-more {n} v m w = rw (add-one n) record { long = w .long ∙ m .long; good = λ g. w .good (m .good g); cell = λ i j k l. omega (arith, w .cell i j k l, m .cell i j k l, max-suc n (λ k. v k i j)) }
+
+pub overall-end : {t₀ t : List ℕ} {i : ℕ} (n : ℕ) (v : ℕ → ℕ → ℕ → ℕ) → i ≡ n → Raised t₀ (overall v i) t → Raised t₀ (overall v n) t
+overall-end {t₀} {t} n v q m = subst (λ (z : ℕ). Raised t₀ (overall v z) t) q m
+
+-- ---- the pairs of conditions and marks
+
+pub condition-raised : {t t′ : List ℕ} (rec : List ℕ) (c : ℕ) {e f : ℕ} → e ≡ getD rec (640 + c) 0 → f ≡ getD rec (1152 + c) 0 → Raised t (pairIn e f 2) t′ → Raised t (conditionPairIn rec c) t′
+unfolding conditionPairIn
+condition-raised rec c he hf r = raised-as (λ i j. rw (he, hf) refl) r
+
+module _ {t : List ℕ} (rec : List ℕ) (k : ℕ) where
+  pub before-raised : {t′ : List ℕ} {e c p : ℕ} → getD rec (1664 + k) 0 ≡ 1 → e ≡ getD rec (5760 + k) 0 → c ≡ conditionOf rec k → p ≡ getD rec (640 + c) 0 → Raised t (pairIn e p 1) t′ → Raised t (markPairIn rec k) t′
+  unfolding markPairIn
+  before-raised x he hc hp r = raised-as (λ i j. rw (x, he, hp, hc) refl) r
+
+  pub after-raised : {t′ : List ℕ} {e c f : ℕ} → getD rec (1664 + k) 0 ≡ 2 → e ≡ getD rec (5760 + k) 0 → c ≡ conditionOf rec k → f ≡ getD rec (1152 + c) 0 → Raised t (pairIn f e 2) t′ → Raised t (markPairIn rec k) t′
+  unfolding markPairIn
+  after-raised x he hc hf r = raised-as (λ i j. rw (x, he, hf, hc) refl) r
+
+  pub none-raised : getD rec (1664 + k) 0 ≢ 1 → getD rec (1664 + k) 0 ≢ 2 → Raised t (markPairIn rec k) t
+  unfolding markPairIn
+  none-raised x y = record { long = refl; good = λ g. g; cell = λ i j u v. rw (ne-eqb _ _ x, ne-eqb _ _ y) (sym (max-zero _)) }
+
+pub filled : {t₁ t₂ t₃ : List ℕ} (s : Counts) (rec : List ℕ) → ((i j : ℕ) → cellOf t₁ i j ≡ 0) → Raised t₁ (overall (conditionPairIn rec) (s .conditions)) t₂
+    → Raised t₂ (overall (markPairIn rec) (s .marks)) t₃ → Filled t₁ (relationIn s rec) t₃
+unfolding relationIn
+filled s rec z a b = record {
+  long = b .long ∙ a .long;
+  good = λ g. b .good (a .good g);
+  cell = λ i j k l. omega (arith, b .cell i j k l, a .cell i j k l, z i j);
+}
