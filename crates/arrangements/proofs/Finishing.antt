@@ -28,6 +28,6 @@ module _ (xs : List ℕ) (n : ℕ) where
     unfolding missingIn
     missing-on l h = first-on (missingIn xs) e n l (ap not (lt-ltb 0 (getD xs e 0) (omega arith))) ∙ g
 
-    pub missing-end : n ≤ e → (lines : ℕ) → gives lines ≡ finished xs n lines
+    pub missing-end : n ≤ e → (lines : ℕ) → gives (lines, 0, 0) ≡ finished xs n lines
     unfolding finished _>>_ refuse_at?_
     missing-end l lines = rw (← g, first-end (missingIn xs) e n l)

@@ -150,7 +150,7 @@ module _ (n k : ℕ) (t l : List ℕ) (ended : Bool) (gs : List (List ℕ)) (g :
 
         pub kept : {old : List ℕ} → Lined n k old gs → g .answer ≡ Keeps k → breaksIn t xs n k now ≡ false → g .count ≡ length now → Begins (g .events) now → Judged n k t l ended gs g xs
         kept L e d q i = record {
-          answer = λ R o. giving (gs ++ now ∷ []) (kept-line R k l ended gs a (stranger-same R o b) c (broken-same R o d)) (ap answerOf e ∙ ap (λ (j : ℕ). gives j) (omega (arith, L .lines, length-append gs (now ∷ [])))) refl;
+          answer = λ R o. giving (gs ++ now ∷ []) (kept-line R k l ended gs a (stranger-same R o b) c (broken-same R o d)) (ap answerOf e ∙ ap (λ (j : ℕ). gives (j, 0, 0)) (omega (arith, L .lines, length-append gs (now ∷ [])))) refl;
           lined = λ _. lined-more L (all-below n now .0 b) c (has-number l ended a) s;
           group = λ _. record { count = q; few = line-few L (all-below n now .0 b) c few; events = i };
         }

@@ -20,8 +20,8 @@ use Rattle.arrangements.specs.declared.ArrangementAnswer.the-variants.{K
 use Rattle.number_lines.specs.Numbers.{Few, Begins}
 
 -- the paper's number and value of an answer
-abbrev pub answerOf : ArrangementAnswer → Answer ℕ
-answerOf (Keeps k) = gives k
+abbrev pub answerOf : ArrangementAnswer → Answer (ℕ × ℕ × ℕ)
+answerOf (Keeps k) = gives (k, 0, 0)
 answerOf (Malformed k) = refuses 41 k
 answerOf (Unknown k) = refuses 42 k
 answerOf (Repeated k) = refuses 43 k
@@ -36,6 +36,10 @@ goesOf (Repeated k) = false
 goesOf (Broken k) = false
 goesOf (Missing e) = false
 
+-- the values that are returned of these lines: how many there are
+abbrev pub linesPlayed : List (List ℕ) → ℕ × ℕ × ℕ
+linesPlayed gs = (length gs, 0, 0)
+
 -- ---- one line
 
 -- the array has the events of a line
@@ -47,7 +51,7 @@ pub record HoldsGroup (n : ℕ) (g : Group) (es : List ℕ) : Type 0 where
 -- line k after the lines gs: the answer is that of the definitions, and where it is taken the array has its events
 pub record Judged (n k : ℕ) (t l : List ℕ) (ended : Bool) (gs : List (List ℕ)) (g : Group) (xs : List ℕ) : Type 0 where
   pub answer : (R : RunRecord) → TellsOrder n t R
-      → Agrees length (answerOf (g .answer)) (λ gs′. gs′ ≡ gs ++ numbersOf mostDigits l ∷ []) (groupsLine R k (lineOf l ended) gs)
+      → Agrees linesPlayed (answerOf (g .answer)) (λ gs′. gs′ ≡ gs ++ numbersOf mostDigits l ∷ []) (groupsLine R k (lineOf l ended) gs)
   pub lined : goesOf (g .answer) ≡ true → Lined n (k + 1) xs (gs ++ numbersOf mostDigits l ∷ [])
   pub group : goesOf (g .answer) ≡ true → HoldsGroup n g (numbersOf mostDigits l)
 
@@ -61,7 +65,7 @@ unfoldable pub missingIn : List ℕ → ℕ → Bool
 missingIn xs e = not (ltb 0 (getD xs e 0))
 
 -- the answer after so many lines
-unfoldable pub finished : List ℕ → ℕ → ℕ → Answer ℕ
+unfoldable pub finished : List ℕ → ℕ → ℕ → Answer (ℕ × ℕ × ℕ)
 finished xs n lines = do
   refuse 45 at? lowest (missingIn xs) n
-  gives lines
+  gives (lines, 0, 0)

@@ -19,15 +19,16 @@ use Rattle.accepting.specs.declared.Refusal.{Refusal}
 use Rattle.accepting.specs.declared.Verdict.the-variants.{Given, Refused as Unaccepted}
 use Rattle.accepting.specs.declared.Accepted.{Accepted}
 use Rattle.accepting.proofs.Accepting.{accepted-process}
-use Rattle.arranging.specs.Answers.{levelsIn, WritesLines, answerOf, arrangedCounts, Arranges}
+use Rattle.spec.specs.Values.{arrangeValues}
+use Rattle.arranging.specs.Answers.{levelsIn, WritesLines, answerOf, Arranges}
 use Rattle.arranging.specs.declared.ArrangeAnswer.{ArrangeAnswer}
 use Rattle.arranging.specs.declared.ArrangeAnswer.the-variants.{BufferShort, Refused}
 use Rattle.arranging.proofs.Levels.{order-held, levels-held, lines-held}
 
 module _ (net text old : List ℕ) where
   -- the answer and the buffer, once the definition's answer is known
-  arrange-is : (x : Answer ArrangedD) {r : ArrangeAnswer} {new : List ℕ} → arrange net text (length old) ≡ x → answerOf r ≡ returned arrangedCounts x → new ≡ arrangeLeaves x old → Arranges net text old r new
-  arrange-is x e y z = record { answer = y ∙ sym (ap (returned arrangedCounts) e); buffer = z ∙ sym (ap (λ a. arrangeLeaves a old) e) }
+  arrange-is : (x : Answer ArrangedD) {r : ArrangeAnswer} {new : List ℕ} → arrange net text (length old) ≡ x → answerOf r ≡ returned arrangeValues x → new ≡ arrangeLeaves x old → Arranges net text old r new
+  arrange-is x e y z = record { answer = y ∙ sym (ap (returned arrangeValues) e); buffer = z ∙ sym (ap (λ a. arrangeLeaves a old) e) }
 
   -- a refusal leaves the buffer as it was
   refuses-all : {n s : ℕ} (r : ArrangeAnswer) → arrange net text (length old) ≡ refuses n s → answerOf r ≡ refuses n s → Arranges net text old r old
@@ -45,7 +46,7 @@ module _ (net text old : List ℕ) where
     unfolding arrange refuse_at_when_ _>>_ _>>=_ returned
     refused-arranges q (giving b e y H) = not-refused (sym (ap verdictOf q) ∙ y)
     refused-arranges {x} q (refusing n s e y) =
-        refuses-all (Refused x) (rw (le-ltb (length old) 768 room, e)) (ap (returned (λ (u : Unit {0}). (0, 0))) (sym (ap verdictOf q) ∙ y))
+        refuses-all (Refused x) (rw (le-ltb (length old) 768 room, e)) (ap (returned (λ (u : Unit {0}). (0, 0, 0))) (sym (ap verdictOf q) ∙ y))
 
     module _ (q : a .verdict ≡ Given) where
       -- an accepted record: its order is in the rows, and its lines fit the buffer

@@ -7,6 +7,7 @@ use Rattle.spec.specs.Answer.{Answer, gives, refuses, returned}
 use Rattle.spec.specs.Lists.{upTo}
 use Rattle.spec.specs.Arrange.{Arranged as ArrangedD, lineCount, arrangedLines, arrangementBytes, arrange}
 use Rattle.spec.specs.Buffer.{over, arrangeLeaves}
+use Rattle.spec.specs.Values.{arrangeValues}
 use Rattle.order.specs.Level.{lev}
 use Rattle.reach.specs.Rows.{cellOf}
 use Rattle.accepting.specs.Accepting.{refusedBy}
@@ -25,16 +26,12 @@ pub record WritesLines (levels old : List ℕ) (r : ArrangeAnswer) (new : List �
 -- ---- the operation
 
 -- the paper's number and values of an answer: bytes and lines
-abbrev pub answerOf : ArrangeAnswer → Answer (ℕ × ℕ)
-answerOf (Arranged bytes lines) = gives (bytes, lines)
+abbrev pub answerOf : ArrangeAnswer → Answer (ℕ × ℕ × ℕ)
+answerOf (Arranged bytes lines) = gives (bytes, lines, 0)
 answerOf BufferShort = refuses 50 0
 answerOf (Refused x) = refusedBy x
 
--- the values that the paper has returned of an arrangement
-abbrev pub arrangedCounts : ArrangedD → ℕ × ℕ
-arrangedCounts a = (length (a .bytes), a .lines)
-
 -- the answer is the paper's, and the buffer is left as the paper says
 pub record Arranges (net text old : List ℕ) (r : ArrangeAnswer) (new : List ℕ) : Type 0 where
-  pub answer : answerOf r ≡ returned arrangedCounts (arrange net text (length old))
+  pub answer : answerOf r ≡ returned arrangeValues (arrange net text (length old))
   pub buffer : new ≡ arrangeLeaves (arrange net text (length old)) old

@@ -22,7 +22,8 @@ use Rattle.accepting.specs.declared.Refusal.{Refusal}
 use Rattle.accepting.specs.declared.Verdict.the-variants.{Given, Refused}
 use Rattle.accepting.specs.declared.Accepted.{Accepted}
 use Rattle.accepting.proofs.Accepting.{accepted-process}
-use Rattle.checking.specs.Checking.{checkCounts, Checks}
+use Rattle.spec.specs.Values.{checkValues}
+use Rattle.checking.specs.Checking.{Checks}
 use Rattle.checking.specs.declared.CheckAnswer.the-variants.{Checked, BufferShort, Refused as CheckRefused}
 use Rattle.checking.proofs.CheckTable.{table-written, pairs-counted}
 

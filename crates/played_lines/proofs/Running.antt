@@ -25,7 +25,7 @@ use Rattle.steps.specs.Holds.{HoldsStep, IsStep, cellAt, Sums}
 use Rattle.steps.proofs.Rows.{sums-none}
 use Rattle.arrangements.specs.Lined.{TellsOrder, Stands, Lined, Sound}
 use Rattle.rows.specs.Rows.{transitionsOf, AddsStep, leftOf, Rows}
-use Rattle.arrangements.specs.Arrangement.{answerOf, goesOf, HoldsGroup, Judged, Judges, missingIn, finished}
+use Rattle.arrangements.specs.Arrangement.{answerOf, linesPlayed, goesOf, HoldsGroup, Judged, Judges, missingIn, finished}
 use Rattle.played_lines.specs.Lines.{Ready, Blank, ReplaysLines}
 use Rattle.arrangements.specs.declared.Group.{Group}
 use Rattle.arrangements.specs.declared.ArrangementAnswer.{ArrangementAnswer}
@@ -131,7 +131,7 @@ module _ {n places : ℕ} {tokens inputs outputs trans t text : List ℕ} {k at 
     pub stop : (net : Net) (rows : List ℕ) → goesOf (v .answer) ≡ false → ReplaysLines net n trans t text (v .answer) rows
     stop net rows f N R H = go (judged .answer R (H .order))
       where
-        go : Agrees length (answerOf (v .answer)) (λ gs. gs ≡ g .groups ++ numbersOf mostDigits l ∷ []) (groupsLine R k (lineOf l ended) (g .groups)) → Agrees length (answerOf (v .answer)) (λ gs. rows ≡ replayed N R gs .counts) (readArrangement R text)
+        go : Agrees linesPlayed (answerOf (v .answer)) (λ gs. gs ≡ g .groups ++ numbersOf mostDigits l ∷ []) (groupsLine R k (lineOf l ended) (g .groups)) → Agrees linesPlayed (answerOf (v .answer)) (λ gs. rows ≡ replayed N R gs .counts) (readArrangement R text)
         go (giving gs q x h) = absurd (false≢true (sym f ∙ sym (goes-given (v .answer)) ∙ ap isGiven x))
         go (refusing r s q x) = refusing r s (read-refused R text (line-refused (groupsLine R) k (g .groups) ls q ∙ g .reading .lines R (H .order))) x
 
@@ -143,7 +143,7 @@ module _ {n places : ℕ} {tokens inputs outputs trans t text : List ℕ} {k at 
       reading-more : Reading n t text (k + 1) next stands′ more
       reading-more = record { lined = judged .lined ok; lines = λ R o. go R o (judged .answer R o) }
         where
-          go : (R : RunRecord) → TellsOrder n t R → Agrees length (answerOf (v .answer)) (λ gs. gs ≡ more) (groupsLine R k (lineOf l ended) (g .groups)) → byLines (groupsLine R) (k + 1) (linesOf (drop next text)) more ≡ byLines (groupsLine R) 1 (linesOf text) []
+          go : (R : RunRecord) → TellsOrder n t R → Agrees linesPlayed (answerOf (v .answer)) (λ gs. gs ≡ more) (groupsLine R k (lineOf l ended) (g .groups)) → byLines (groupsLine R) (k + 1) (linesOf (drop next text)) more ≡ byLines (groupsLine R) 1 (linesOf text) []
           go R o (giving gs q x h) = line-taken (groupsLine R) k (g .groups) ls (q ∙ ap (λ zs. gives zs) h) ∙ g .reading .lines R o
           go R o (refusing r s q x) = absurd (true≢false (sym ok ∙ sym (goes-given (v .answer)) ∙ ap isGiven x))
 
@@ -214,6 +214,6 @@ done {net} {n} {trans} {text} {k} {at} {stands} {rs} a g h e N R H =
     rows : rs ≡ replayed N R gs .counts
     rows = rows-held H (g .ready .known) (L .known) (omega (arith, L .full, events-few L (g .ready .few))) (subst (λ (m : ℕ). Rows (net .places) (net .tokens) (net .inputs) (net .outputs) trans gs m rs) (L .lines) (g .played .rows))
 
-    go : (o : Option ℕ) → lowest (missing gs) (length (R .events)) ≡ o → Agrees length (answerOf a) (λ gs. rs ≡ replayed N R gs .counts) (readArrangement R text)
+    go : (o : Option ℕ) → lowest (missing gs) (length (R .events)) ≡ o → Agrees linesPlayed (answerOf a) (λ gs. rs ≡ replayed N R gs .counts) (readArrangement R text)
     go none q = giving gs (last ∙ rw q refl) (e ∙ rw (low, q, count) refl) rows
     go (some s) q = refusing 45 s (last ∙ rw q refl) (e ∙ rw (low, q) refl)

@@ -11,7 +11,7 @@ use Rattle.reach.specs.Rows.{Good}
 use Rattle.net.specs.Holds.{Holds}
 use Rattle.net.specs.declared.Net.{Net}
 use Rattle.arrangements.specs.Lined.{TellsOrder}
-use Rattle.arrangements.specs.Arrangement.{answerOf}
+use Rattle.arrangements.specs.Arrangement.{answerOf, linesPlayed}
 use Rattle.arrangements.specs.declared.ArrangementAnswer.{ArrangementAnswer}
 
 -- what the code relies on: n events, whose transitions are rows of the arrays of arcs, and rows of bits for them
@@ -36,4 +36,4 @@ pub record Describes (net : Net) (n : ℕ) (trans t : List ℕ) (N : NetD) (R : 
 -- the answer is that of the definitions, and where the text is an arrangement the rows are its markings
 abbrev pub ReplaysLines : Net → ℕ → List ℕ → List ℕ → List ℕ → ArrangementAnswer → List ℕ → Type 0
 ReplaysLines net n trans t text a rows =
-    (N : NetD) (R : RunRecord) → Describes net n trans t N R → Agrees length (answerOf a) (λ gs. rows ≡ replayed N R gs .counts) (readArrangement R text)
+    (N : NetD) (R : RunRecord) → Describes net n trans t N R → Agrees linesPlayed (answerOf a) (λ gs. rows ≡ replayed N R gs .counts) (readArrangement R text)

@@ -18,9 +18,8 @@ use Rattle.spec.specs.Runs.{EnabledSequence, KeepsOrder, WithinLimits, logBytes
 use Rattle.runs.specs.Demand.{demand}
 use Rattle.runs.specs.Accepted.{accepted-record}
 use Rattle.runs.specs.Sizes.{lines-few}
-use Rattle.numbers.specs.Values.{numbersOf}
-use Rattle.numbers.specs.declared.Numbers.{Numbers}
-use Rattle.pti.specs.Values.{byteValues, checkValues, replayValues, arrangeValues}
+use Rattle.spec.specs.Values.{numbersOf, byteValues, checkValues, replayValues, arrangeValues}
+use Rattle.spec.specs.declared.Numbers.{Numbers}
 use Rattle.pti.specs.Calls.{BuildCall, CheckCall, ReplayCall, ArrangeCall}
 use Rattle.pti.specs.Demand.{Arranged, Replayed, Checked, OrderOfCalls, RunOfCalls, DemandOfCalls}
 

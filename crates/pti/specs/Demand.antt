@@ -13,7 +13,7 @@ use Rattle.spec.specs.Check.{readRecord}
 use Rattle.spec.specs.Arrangement.{index}
 use Rattle.spec.specs.Arrange.{arrangementBytes}
 use Rattle.spec.specs.Runs.{EnabledSequence, KeepsOrder, WithinLimits, markingAt, asSteps, eventLines, logBytes}
-use Rattle.numbers.specs.declared.Numbers.{Numbers}
+use Rattle.spec.specs.declared.Numbers.{Numbers}
 use Rattle.pti.specs.Calls.{BuildCall, CheckCall, ReplayCall, ArrangeCall}
 
 -- N is the net of a net text that is accepted, R the record of a text that is accepted under it

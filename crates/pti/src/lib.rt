@@ -4,12 +4,7 @@
 // the number, spot and values of the answer and every byte of the lent buffer; none has a `requires`. A refusal writes
 // nothing, and past what an operation writes a buffer keeps its contents.
 ghost use mathlib.Core.Path.{_≡_};
-ghost use Rattle.spec.specs.Answer.{returned};
-ghost use Rattle.spec.specs.Net.{readNet};
-ghost use Rattle.spec.specs.Line.{refusedLine};
-ghost use Rattle.numbers.specs.Values.{numbersOf, one};
-ghost use Rattle.printing.specs.Prints.{printAnswer};
-ghost use Rattle.pti.specs.Values.{netValues, lineValues};
+ghost use Rattle.spec.specs.Values.{netReturns, lineReturns};
 ghost use Rattle.pti.specs.Calls.{BuildCall, CheckCall, ReplayCall, ArrangeCall, ProgramCall};
 pub use accepting::Refusal;
 pub use arrangements::ArrangementAnswer;
@@ -22,44 +17,25 @@ pub use checking::check;
 pub use net::NetAnswer;
 pub use net::NetRead;
 pub use net::read_net;
-pub use numbers::Numbers;
 use numbers::of_arrange;
 use numbers::of_build;
 use numbers::of_check;
 use numbers::of_line;
 use numbers::of_net;
+use numbers::of_program;
 use numbers::of_replay;
-pub use printing::PrintAnswer;
 pub use printing::program;
 pub use refused::LineAnswer;
 pub use refused::refused_line;
 pub use refused::refused_line_answer;
 pub use replaying::ReplayAnswer;
 pub use replaying::replay;
-
-// The numbers of what the program's operation answers.
-fn of_program(x: PrintAnswer) -> Numbers
-    ensures { λ r. ⌜ r ≡ numbersOf (returned one (printAnswer x)) ⌝ }
-{
-    let mut number: u64 = 0;
-    let mut bytes: u64 = 0;
-    match x {
-        PrintAnswer::Printed(n) => bytes = n as u64,
-        PrintAnswer::BufferShort => number = 20,
-    }
-    Numbers {
-        number,
-        spot: 0,
-        a: bytes,
-        b: 0,
-        c: 0,
-    }
-}
+pub use spec::Numbers;
 
 // Reads a net. a: places, b: transitions.
 #[no_mangle]
 pub extern "C" fn pti_read_net(net: &[u8]) -> Numbers
-    ensures { λ r. ⌜ r ≡ numbersOf (returned netValues (readNet (now (net .entry)))) ⌝ }
+    ensures { λ r. ⌜ r ≡ netReturns (now (net .entry)) ⌝ }
 {
     let read = read_net(net);
     let answer = read.answer;
@@ -106,14 +82,14 @@ pub extern "C" fn pti_arrange(net: &[u8], text: &[u8], out: &mut [u8]) -> Number
 // Where a line stands, of the net text (choice 0) or the second text (choice 1). a: its start in that text, b: its length.
 #[no_mangle]
 pub extern "C" fn pti_refused_line(net: &[u8], second: &[u8], choice: u8, line: usize) -> Numbers
-    ensures { λ r. ⌜ r ≡ numbersOf (returned lineValues (refusedLine (now (net .entry)) (now (second .entry)) choice line)) ⌝ }
+    ensures { λ r. ⌜ r ≡ lineReturns (now (net .entry)) (now (second .entry)) choice line ⌝ }
 {
     of_line(refused_line_answer(net, second, choice, line))
 }
 
 // What the program prints for an input. a: bytes written, also of an `X` line.
 #[no_mangle]
-pub extern "C" fn pti_program(input: &[u8], out: &mut [u8]) -> Numbers
+pub extern "C" fn pti_program(input: &[u8], out: &mut [u8; 48275]) -> Numbers
     ensures { λ r. ⌜ ProgramCall (now (input .entry)) (now (out .entry)) r (now (out .exit)) ⌝ }
 {
     of_program(program(input, out))

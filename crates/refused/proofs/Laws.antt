@@ -17,7 +17,8 @@ use Rattle.spec.specs.declared.Class.the-variants.{LineEnd}
 use Rattle.lines.specs.Lines.{LineAt}
 use Rattle.lines.specs.declared.Span.{Span}
 use denote.Ref.{RefT, ptr, now}
-use Rattle.refused.specs.Shown.{Goes, Finds, placeIn, placeOf, answerOf, span}
+use Rattle.spec.specs.Values.{lineValues}
+use Rattle.refused.specs.Shown.{Goes, Finds, placeIn, placeOf, answerOf}
 use Rattle.refused.specs.declared.Found.{Found}
 use Rattle.refused.specs.declared.Found.the-variants.{At, Nothing}
 use Rattle.refused.specs.declared.LineAnswer.the-variants.{Shown, NoSuchLine}
@@ -190,10 +191,10 @@ pub second-inside : (net second : List ℕ) (choice k : ℕ) {s e : ℕ} → Goe
 second-inside net second choice k g d = rw (chosen-second net second choice (chosen-some net second choice k (g .is) d)) at (g .inside)
 
 module _ (net second : List ℕ) (choice k : ℕ) where
-  pub answer-shown : (s e : ℕ) → Goes (chosenText net second choice) k s e → answerOf (Shown s (e - s)) ≡ returned span (refusedLine net second choice k)
+  pub answer-shown : (s e : ℕ) → Goes (chosenText net second choice) k s e → answerOf (Shown s (e - s)) ≡ returned lineValues (refusedLine net second choice k)
   unfolding returned
   answer-shown s e g = rw (shown net second choice k s e g, span-length s e (chosenText net second choice) (g .order) (g .inside))
 
-  pub answer-none : lineAt (chosenText net second choice) k ≡ none → answerOf (NoSuchLine k) ≡ returned span (refusedLine net second choice k)
+  pub answer-none : lineAt (chosenText net second choice) k ≡ none → answerOf (NoSuchLine k) ≡ returned lineValues (refusedLine net second choice k)
   unfolding returned
   answer-none h = rw (not-shown net second choice k h)

@@ -27,12 +27,9 @@ Finds text k (At s e) = Goes text k s e
 Finds text k Nothing = lineAt text k ≡ none
 
 -- the paper's number and values of an answer: where the line starts and its length
-abbrev pub answerOf : LineAnswer → Answer (ℕ × ℕ)
-answerOf (Shown s n) = gives (s, n)
+abbrev pub answerOf : LineAnswer → Answer (ℕ × ℕ × ℕ)
+answerOf (Shown s n) = gives (s, n, 0)
 answerOf (NoSuchLine k) = refuses 46 k
-
-abbrev pub span : Part → ℕ × ℕ
-span p = (p .start, length (p .bytes))
 
 -- where a part lies: so many bytes into the net text or the second text
 unfoldable pub placeIn : ℕ → RefT (List ℕ) → RefT (List ℕ) → ℕ → ℕ × ℕ

@@ -3,7 +3,8 @@ ghost use mathlib.Core.Path.{_≡_};
 ghost use denote.Ref.{ptr};
 ghost use Rattle.spec.specs.Answer.{returned};
 ghost use Rattle.spec.specs.Line.{refusedLine, partOf, chosenText};
-ghost use Rattle.refused.specs.Shown.{Finds, answerOf, span, placeOf};
+ghost use Rattle.spec.specs.Values.{lineValues};
+ghost use Rattle.refused.specs.Shown.{Finds, answerOf, placeOf};
 use lines::line_at;
 
 // From where to where a line goes in its text, without its end.
@@ -70,7 +71,7 @@ pub fn refused_line<'a>(net: &'a [u8], second: &'a [u8], choice: u8, line: usize
 
 // Where the part lies, or refusal 46.
 pub fn refused_line_answer(net: &[u8], second: &[u8], choice: u8, line: usize) -> LineAnswer
-    ensures { λ r. ⌜ answerOf r ≡ returned span (refusedLine (now (net .entry)) (now (second .entry)) choice line) ⌝ }
+    ensures { λ r. ⌜ answerOf r ≡ returned lineValues (refusedLine (now (net .entry)) (now (second .entry)) choice line) ⌝ }
 {
     match find(net, second, choice, line) {
         Found::At(start, end) => LineAnswer::Shown(start, end - start),

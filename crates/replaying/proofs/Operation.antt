@@ -22,7 +22,7 @@ use Rattle.accepting.specs.declared.Refusal.{Refusal}
 use Rattle.accepting.specs.declared.Verdict.the-variants.{Given, Refused}
 use Rattle.accepting.specs.declared.Accepted.{Accepted}
 use Rattle.accepting.proofs.Accepting.{accepted-process}
-use Rattle.arrangements.specs.Arrangement.{answerOf, goesOf}
+use Rattle.arrangements.specs.Arrangement.{answerOf, linesPlayed, goesOf}
 use Rattle.played_lines.specs.Lines.{Ready, Describes, ReplaysLines}
 use Rattle.replaying.specs.Replaying.{Replays}
 use Rattle.arrangements.specs.declared.ArrangementAnswer.{ArrangementAnswer}
@@ -51,7 +51,7 @@ module _ (net text arrangement : List ℕ) where
     refused-replays r t x q (giving a e y k) = not-refused (sym (ap verdictOf q) ∙ y)
     refused-replays r t x q (refusing n s e y) =
         let z : refusedBy {A = Unit {0}} x ≡ refuses n s = sym (ap verdictOf q) ∙ y in
-        rw (refused e) (record { answer = ap (returned (λ (u : Unit {0}). 0)) z; buffer = refl })
+        rw (refused e) (record { answer = ap (returned (λ (u : Unit {0}). (0, 0, 0))) z; buffer = refl })
 
 -- ---- a net and a record that are accepted
 
@@ -108,6 +108,6 @@ module _ {net text : List ℕ} {r : Accepted} {t : List ℕ} where
           written : {z : Bool} → goesOf b ≡ z → new ≡ cond z (over rows old) old
           written e = w ∙ ap (λ (z : Bool). cond z (over rows old) old) (q ∙ e)
 
-          go : Agrees length (answerOf b) (λ gs. rows ≡ replayed (A .accepted .net) (A .accepted .run) gs .counts) (readArrangement (A .accepted .run) arrangement) → Replays (replay net text arrangement (length old)) old (Lines b) new
+          go : Agrees linesPlayed (answerOf b) (λ gs. rows ≡ replayed (A .accepted .net) (A .accepted .run) gs .counts) (readArrangement (A .accepted .run) arrangement) → Replays (replay net text arrangement (length old)) old (Lines b) new
           go (giving gs e y k) = rw (arranged, e) (record { answer = y; buffer = written (sym (goes-given b) ∙ ap isGiven y) ∙ ap (λ (zs : List ℕ). over zs old) k })
           go (refusing n s e y) = rw (arranged, e) (record { answer = y; buffer = written (sym (goes-given b) ∙ ap isGiven y) })

@@ -6,9 +6,11 @@ use libc::STDIN_FILENO;
 use libc::STDOUT_FILENO;
 
 fn main() {
-    match answer(STDIN_FILENO, STDOUT_FILENO) {
-        Outcome::Printed => {}
+    let mut input = [0u8; 65537];
+    let mut out = [0u8; 48275];
+    match answer(STDIN_FILENO, STDOUT_FILENO, &mut input, &mut out) {
+        Outcome::Printed(_, _) => {}
+        Outcome::Unwritten(_, _) => os::fail(b"run_record: standard output"),
         Outcome::Unread => os::fail(b"run_record: standard input"),
-        Outcome::Unwritten => os::fail(b"run_record: standard output"),
     }
 }

@@ -6,6 +6,7 @@ use Rattle.spec.specs.Answer.{Answer, gives, refuses}
 use Rattle.spec.specs.Check.{Checked}
 use Rattle.spec.specs.Arrange.{Arranged}
 use Rattle.spec.specs.Replay.{Replayed}
+use Rattle.spec.specs.Program.{program}
 
 -- what is written, and behind it the old contents: "past what an operation writes, a buffer keeps its old contents"
 unfoldable pub over : List ℕ → List ℕ → List ℕ
@@ -16,11 +17,11 @@ unfoldable pub leaves : {A : Type 0} → (A → List ℕ) → Answer A → List 
 leaves written (gives a) old = over (written a) old
 leaves written (refuses n s) old = old
 
--- the buffers of the operations that write: building and the program write the bytes that they give,
+-- the buffers of the operations that write: building writes the bytes that it gives,
 unfoldable pub buildLeaves : Answer (List ℕ) → List ℕ → List ℕ
 buildLeaves a old = leaves (λ bytes. bytes) a old
 
--- the check its table, replay its 16-bit counts, arranging its lines
+-- the check its table, replay its 16-bit counts, arranging its lines,
 unfoldable pub checkLeaves : Answer Checked → List ℕ → List ℕ
 checkLeaves a old = leaves (λ c. c .table) a old
 
@@ -30,7 +31,11 @@ replayLeaves a old = leaves (λ r. r .counts) a old
 unfoldable pub arrangeLeaves : Answer Arranged → List ℕ → List ℕ
 arrangeLeaves a old = leaves (λ a. a .bytes) a old
 
+-- and the program's operation, which is never refused, what the program prints
+unfoldable pub programLeaves : List ℕ → List ℕ → List ℕ
+programLeaves input old = over (program input) old
+
 -- opens every definition of this module, for what computes with them
 unfoldable pub openBuffer : Unit {0}
-unfolding over leaves buildLeaves checkLeaves replayLeaves arrangeLeaves
+unfolding over leaves buildLeaves checkLeaves replayLeaves arrangeLeaves programLeaves
 openBuffer = tt

@@ -16,6 +16,7 @@ pub mod Replay
 pub mod Line
 pub mod Program
 pub mod Buffer
+pub mod Values
 pub mod Runs
 pub mod Demand
 pub mod Quoted

@@ -55,14 +55,7 @@ program input = printed (do
   n ← netOf (q .net)
   built bench n (q .log))
 
--- The operation behind the program writes what it prints into a lent buffer. Document 01 names no refusal for one that is too
--- short; building's number stands for it. 48,275 bytes hold any record and its summary.
-unfoldable pub programInto : List ℕ → ℕ → Answer (List ℕ)
-programInto input room = do
-  refuse 20 at 0 when ltb room 48275
-  gives (program input)
-
 -- opens every definition of this module, for what computes with them
 unfoldable pub openProgram : Unit {0}
-unfolding isParting withNetLine parted inputOf summary printed program programInto
+unfolding isParting withNetLine parted inputOf summary printed program
 openProgram = tt

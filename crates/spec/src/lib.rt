@@ -62,3 +62,14 @@ pub struct Limits {
     pub conditions: usize,
     pub marks: usize,
 }
+
+// What a call returns: the number and the spot of a refusal, 0 where it is accepted, and the operation's values, 0 where it is
+// refused.
+#[repr(C)]
+pub struct Numbers {
+    pub number: u64,
+    pub spot: u64,
+    pub a: u64,
+    pub b: u64,
+    pub c: u64,
+}

@@ -13,10 +13,12 @@ fn run_file(path: &[u8]) {
     }
     write_all(STDOUT_FILENO, path);
     write_all(STDOUT_FILENO, b"\n");
-    match answer(fd, STDOUT_FILENO) {
-        Outcome::Printed => {}
+    let mut input = [0u8; 65537];
+    let mut out = [0u8; 48275];
+    match answer(fd, STDOUT_FILENO, &mut input, &mut out) {
+        Outcome::Printed(_, _) => {}
+        Outcome::Unwritten(_, _) => os::fail(path),
         Outcome::Unread => os::fail(path),
-        Outcome::Unwritten => os::fail(path),
     }
     libc::close(fd);
 }

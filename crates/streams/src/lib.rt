@@ -3,12 +3,18 @@
 ghost use mathlib.Core.Path.{_≡_};
 ghost use Prim.Native.Nat.{_≤_};
 ghost use lib.ListN.{length};
-ghost use Rattle.streams.specs.Reads.{Within};
+ghost use Rattle.streams.specs.Streams.{Within, Whole};
 use libc::EINTR;
 
 // How many bytes were read, or that a read failed.
 pub enum Input {
     Read(usize),
+    Failed,
+}
+
+// How many bytes were written, or that a write failed.
+pub enum Output {
+    Written(usize),
     Failed,
 }
 
@@ -77,17 +83,19 @@ fn write_some(fd: i32, buf: &[u8], at: usize) -> isize
     put
 }
 
-// Writes every byte once, and answers whether it could.
-pub fn write_all(fd: i32, buf: &[u8]) -> bool {
+// Writes every byte once.
+pub fn write_all(fd: i32, buf: &[u8]) -> Output
+    ensures { λ r. ⌜ Whole (length (now (buf .entry))) r ⌝ }
+{
     let mut at: usize = 0;
     while at < buf.len() {
         let put = write_some(fd, buf, at);
         let end = buf.len();
         let more = io::count(put, &buf[at..end]);
         if more == 0 {
-            return false;
+            return Output::Failed;
         }
         at += more;
     }
-    true
+    Output::Written(at)
 }

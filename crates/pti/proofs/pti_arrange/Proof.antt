@@ -1,7 +1,6 @@
 use borrow.Author.Needs.{needs}
-use Rattle.numbers.specs.Values.{two}
-use Rattle.arranging.specs.Answers.{arrangedCounts}
-use Rattle.pti.proofs.Laws.{numbered}
+use mathlib.Core.Path.{ap, _∙_}
+use Rattle.spec.specs.Values.{numbersOf}
 use Rattle.pti.proofs.pti_arrange.Statement.{statement}
 use Rattle.pti.proofs.pti_arrange.Tie as tie
 
@@ -10,4 +9,4 @@ pti-arrange-spec = tie.close (tie.spec
     (λ c κs. search needs)
     (λ c κs. search needs)
     (λ c. search needs)
-    (λ c. record { answer = numbered two arrangedCounts _ (c .of-arrange .ensures) (c .before .before .before .arrange .ensures .answer); buffer = c .before .before .before .arrange .ensures .buffer }))
+    (λ c. let o = c .before .before .before .arrange .ensures in record { answer = c .of-arrange .ensures ∙ ap numbersOf (o .answer); buffer = o .buffer }))

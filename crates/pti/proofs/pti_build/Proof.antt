@@ -1,7 +1,6 @@
 use borrow.Author.Needs.{needs}
-use lib.ListN.{length}
-use Rattle.numbers.specs.Values.{one}
-use Rattle.pti.proofs.Laws.{numbered}
+use mathlib.Core.Path.{ap, _∙_}
+use Rattle.spec.specs.Values.{numbersOf}
 use Rattle.pti.proofs.pti_build.Statement.{statement}
 use Rattle.pti.proofs.pti_build.Tie as tie
 
@@ -10,4 +9,4 @@ pti-build-spec = tie.close (tie.spec
     (λ c κs. search needs)
     (λ c κs. search needs)
     (λ c. search needs)
-    (λ c. record { answer = numbered one length _ (c .of-build .ensures) (c .before .before .before .build .ensures .answer); buffer = c .before .before .before .build .ensures .buffer }))
+    (λ c. let o = c .before .before .before .build .ensures in record { answer = c .of-build .ensures ∙ ap numbersOf (o .answer); buffer = o .buffer }))

@@ -1,7 +1,8 @@
 use borrow.Author.Needs.{needs}
-use lib.ListN.{length}
-use Rattle.numbers.specs.Values.{one}
-use Rattle.pti.proofs.Laws.{numbered}
+use mathlib.Core.Path.{ap, _∙_}
+use Prim.Native.Nat.{ℕ}
+use Rattle.spec.specs.Answer.{gives}
+use Rattle.spec.specs.Values.{numbersOf}
 use Rattle.pti.proofs.pti_program.Statement.{statement}
 use Rattle.pti.proofs.pti_program.Tie as tie
 
@@ -9,5 +10,4 @@ pub pti-program-spec : {M : Type 1} → statement M
 pti-program-spec = tie.close (tie.spec
     (λ c κs. search needs)
     (λ c κs. search needs)
-    (λ c. search needs)
-    (λ c. record { answer = numbered one length _ (c .of-program .ensures) (c .before .before .before .program .ensures .answer); buffer = c .before .before .before .program .ensures .buffer }))
+    (λ c. let o = c .before .program .ensures in record { answer = c .of-program .ensures ∙ ap (λ (n : ℕ). numbersOf (gives (n, 0, 0))) (o .count); buffer = o .buffer }))

@@ -1,7 +1,6 @@
 use borrow.Author.Needs.{needs}
-use Rattle.numbers.specs.Values.{two}
-use Rattle.net.specs.Holds.{netCounts}
-use Rattle.pti.proofs.Laws.{numbered}
+use mathlib.Core.Path.{ap, _∙_}
+use Rattle.spec.specs.Values.{numbersOf}
 use Rattle.pti.proofs.pti_read_net.Statement.{statement}
 use Rattle.pti.proofs.pti_read_net.Tie as tie
 
@@ -9,4 +8,4 @@ pub pti-read-net-spec : {M : Type 1} → statement M
 pti-read-net-spec = tie.close (tie.spec
     (λ c κs. search needs)
     (λ c κs. search needs)
-    (λ c. numbered two netCounts _ (c .of-net .ensures) (c .before .read-net .ensures .answer)))
+    (λ c. c .of-net .ensures ∙ ap numbersOf (c .before .read-net .ensures .answer)))

@@ -1,7 +1,6 @@
 use borrow.Author.Needs.{needs}
-use Rattle.numbers.specs.Values.{one}
-use Rattle.replaying.specs.Replaying.{linesPlayed}
-use Rattle.pti.proofs.Laws.{numbered}
+use mathlib.Core.Path.{ap, _∙_}
+use Rattle.spec.specs.Values.{numbersOf}
 use Rattle.pti.proofs.pti_replay.Statement.{statement}
 use Rattle.pti.proofs.pti_replay.Tie as tie
 
@@ -10,4 +9,4 @@ pti-replay-spec = tie.close (tie.spec
     (λ c κs. search needs)
     (λ c κs. search needs)
     (λ c. search needs)
-    (λ c. record { answer = numbered one linesPlayed _ (c .of-replay .ensures) (c .before .before .before .replay .ensures .answer); buffer = c .before .before .before .replay .ensures .buffer }))
+    (λ c. let o = c .before .before .before .replay .ensures in record { answer = c .of-replay .ensures ∙ ap numbersOf (o .answer); buffer = o .buffer }))
