@@ -1,8 +1,9 @@
 /* Run records of PTI-nets: the C interface of the verified library (libpti.a, made by `rt staticlib pti`).
  *
- * Texts and buffers are lent for the length of a call: a pointer and a length. A refused call writes to no buffer; past what
- * an accepted one writes, a buffer keeps its contents. The numbers and spots are those of document 01; number and spot are 0
- * where a call is accepted. A length of 0 goes with any pointer that is not null.
+ * Texts and buffers are lent for the length of a call: a pointer and a length. No pointer is null; an empty text is any
+ * pointer that is not null with length 0. A buffer may overlap no text and no other buffer. A refused call writes to no
+ * buffer; past what an accepted one writes, a buffer keeps its contents. The numbers and spots are those of document 01:
+ * number and spot are 0 where a call is accepted, and a, b and c are 0 where it is refused, and where nothing is said of them.
  */
 #ifndef PTI_H
 #define PTI_H
@@ -16,7 +17,7 @@ extern "C" {
 
 typedef struct { uint64_t number, spot, a, b, c; } pti_answer;
 
-/* Buffers of these sizes, in bytes and in counts, are never too short. */
+/* Buffers of these sizes, in bytes and in counts, are never too short; the program's has just this one. */
 #define PTI_RECORD_BYTES 48256
 #define PTI_TABLE_BYTES 16384
 #define PTI_ROW_COUNTS 4128
@@ -44,9 +45,9 @@ pti_answer pti_arrange(const uint8_t *net, size_t net_len, const uint8_t *record
  * a: its start in the chosen text, b: its length; both 0 when refused. Refusal 46. */
 pti_answer pti_refused_line(const uint8_t *net, size_t net_len, const uint8_t *second, size_t second_len, uint8_t choice, size_t line);
 
-/* What the program prints for an input: net, a line `=`, log. a: bytes written, also of an `X` line, for which number and spot
- * stay 0. Refusal 20 where out is under 48,275 bytes. */
-pti_answer pti_program(const uint8_t *input, size_t input_len, uint8_t *out, size_t out_len);
+/* What the program prints for an input: net, a line `=`, log. out has PTI_PROGRAM_BYTES bytes. a: bytes written, also of an
+ * `X` line. The call itself is never refused. */
+pti_answer pti_program(const uint8_t *input, size_t input_len, uint8_t *out);
 
 #ifdef __cplusplus
 }

@@ -58,9 +58,8 @@ static void lines_and_program(void)
     expect("line 2", pti_refused_line(TEXT(net), TEXT("S,0\nS,2\n"), 1, 2), 0, 0, 4, 3, 0);
     expect("no line", pti_refused_line(TEXT(net), TEXT("S,0\n"), 2, 1), 46, 1, 0, 0, 0);
     sprintf(input, "%s=\nS,0\nS,1\nS,2\n", net);
-    expect("a", pti_program((const uint8_t *)input, strlen(input), out, PTI_PROGRAM_BYTES), 0, 0, sizeof(printed) - 1, 0, 0);
+    expect("a", pti_program((const uint8_t *)input, strlen(input), out), 0, 0, sizeof(printed) - 1, 0, 0);
     holds("what a prints", memcmp(out, printed, sizeof(printed) - 1) == 0);
-    expect("program's room", pti_program(TEXT("=\n"), out, PTI_PROGRAM_BYTES - 1), 20, 0, 0, 0, 0);
 }
 
 int main(void)

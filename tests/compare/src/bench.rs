@@ -4,7 +4,7 @@
 //! measured in several rounds; of the middle samples of the rounds the least is given, which other programs disturbed least,
 //! with the distance between that round's quarters as its spread.
 
-use crate::case::{Operation, Subject};
+use crate::case::{whole, Operation, Subject};
 use crate::corpus::watched_run;
 use crate::gen::build;
 use crate::sim::{Simulator, ARRANGEMENT_ROOM, PROGRAM_ROOM, RECORD_ROOM, ROWS_ROOM, TABLE_ROOM};
@@ -52,7 +52,7 @@ fn calls<'a>(subject: &'a dyn Subject, operation: Operation, load: &'a Load) -> 
         Operation::Replay => subject.replay(net, record, black_box(&load.arrangement), &mut rows).a,
         Operation::Arrange => subject.arrange(net, black_box(record), &mut bytes[..ARRANGEMENT_ROOM]).a,
         Operation::RefusedLine => subject.refused_line(net, black_box(record), 1, load.last_line).a,
-        Operation::Program => subject.program(black_box(&load.input), &mut bytes).a,
+        Operation::Program => subject.program(black_box(&load.input), whole(&mut bytes)).a,
     }
 }
 

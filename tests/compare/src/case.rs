@@ -13,7 +13,7 @@ pub trait Subject {
     fn replay(&self, net: &[u8], record: &[u8], arrangement: &[u8], rows: &mut [u16]) -> Answer;
     fn arrange(&self, net: &[u8], record: &[u8], out: &mut [u8]) -> Answer;
     fn refused_line(&self, net: &[u8], second: &[u8], choice: u8, line: u64) -> Answer;
-    fn program(&self, input: &[u8], out: &mut [u8]) -> Answer;
+    fn program(&self, input: &[u8], out: &mut [u8; PROGRAM_ROOM]) -> Answer;
 }
 
 #[derive(Clone, Copy, Debug, PartialEq, Eq, PartialOrd, Ord)]
@@ -54,6 +54,11 @@ impl Operation {
         }
     }
 
+    /// Whether a buffer of any size can be lent to it: the program's has its one size.
+    pub fn any_room(self) -> bool {
+        self.stated_room() != 0 && self != Operation::Program
+    }
+
     /// The size at which its lent buffer is no longer too short.
     pub fn stated_room(self) -> usize {
         match self {
@@ -77,7 +82,7 @@ impl Operation {
             Operation::Replay => net.chain(record).chain(40..=45).collect(),
             Operation::Arrange => net.chain(record).chain([50]).collect(),
             Operation::RefusedLine => vec![46],
-            Operation::Program => net.chain([10]).chain(20..=27).collect(),
+            Operation::Program => net.chain([10]).chain(21..=27).collect(),
         }
     }
 }
@@ -187,6 +192,11 @@ fn lend(text: &[u8]) -> Vec<u8> {
     [text, BEHIND].concat()
 }
 
+/// The program's buffer has one size.
+pub fn whole(out: &mut [u8]) -> &mut [u8; PROGRAM_ROOM] {
+    out.try_into().expect("a buffer of the program's size")
+}
+
 fn call(subject: &dyn Subject, case: &Case, texts: &[&[u8]], out: &mut [u8], rows: &mut [u16]) -> Answer {
     match case.operation {
         Operation::ReadNet => subject.read_net(texts[0]),
@@ -195,7 +205,7 @@ fn call(subject: &dyn Subject, case: &Case, texts: &[&[u8]], out: &mut [u8], row
         Operation::Replay => subject.replay(texts[0], texts[1], texts[2], rows),
         Operation::Arrange => subject.arrange(texts[0], texts[1], out),
         Operation::RefusedLine => subject.refused_line(texts[0], texts[1], case.choice, case.line),
-        Operation::Program => subject.program(texts[0], out),
+        Operation::Program => subject.program(texts[0], whole(out)),
     }
 }
 

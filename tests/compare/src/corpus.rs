@@ -120,10 +120,10 @@ fn every_byte(cases: &mut Vec<Case>) {
 
 /// Buffers around the stated size.
 fn rooms(case: &Case, cases: &mut Vec<Case>) {
-    let stated = case.operation.stated_room();
-    if stated == 0 {
+    if !case.operation.any_room() {
         return;
     }
+    let stated = case.operation.stated_room();
     for room in [0, 1, stated / 2, stated - 1, stated, stated + 1, stated + 4_096] {
         cases.push(case.clone().with_room(room));
         let mut broken = case.clone().with_room(room);

@@ -2,12 +2,13 @@
 
 use crate::answer::Answer;
 use crate::case::Subject;
+use crate::sim::PROGRAM_ROOM;
 
 pub type Text = unsafe extern "C" fn(*const u8, usize) -> Answer;
 pub type Texts = unsafe extern "C" fn(*const u8, usize, *const u8, usize, *mut u8, usize) -> Answer;
 pub type Replay = unsafe extern "C" fn(*const u8, usize, *const u8, usize, *const u8, usize, *mut u16, usize) -> Answer;
 pub type Line = unsafe extern "C" fn(*const u8, usize, *const u8, usize, u8, usize) -> Answer;
-pub type Program = unsafe extern "C" fn(*const u8, usize, *mut u8, usize) -> Answer;
+pub type Program = unsafe extern "C" fn(*const u8, usize, *mut u8) -> Answer;
 
 /// The functions of `include/pti.h`.
 pub struct Library {
@@ -41,7 +42,7 @@ mod linked {
         ) -> Answer;
         pub fn pti_arrange(net: *const u8, net_len: usize, record: *const u8, record_len: usize, out: *mut u8, out_len: usize) -> Answer;
         pub fn pti_refused_line(net: *const u8, net_len: usize, second: *const u8, second_len: usize, choice: u8, line: usize) -> Answer;
-        pub fn pti_program(input: *const u8, input_len: usize, out: *mut u8, out_len: usize) -> Answer;
+        pub fn pti_program(input: *const u8, input_len: usize, out: *mut u8) -> Answer;
     }
 }
 
@@ -90,7 +91,7 @@ impl Subject for Library {
         unsafe { (self.refused_line)(net.as_ptr(), net.len(), second.as_ptr(), second.len(), choice, line) }
     }
 
-    fn program(&self, input: &[u8], out: &mut [u8]) -> Answer {
-        unsafe { (self.program)(input.as_ptr(), input.len(), out.as_mut_ptr(), out.len()) }
+    fn program(&self, input: &[u8], out: &mut [u8; PROGRAM_ROOM]) -> Answer {
+        unsafe { (self.program)(input.as_ptr(), input.len(), out.as_mut_ptr()) }
     }
 }

@@ -143,9 +143,8 @@ fn asked_line(rng: &mut Rng, net: &[u8], second: &[u8]) -> Case {
 /// Mostly the stated size.
 fn room(rng: &mut Rng, operation: Operation) -> usize {
     let stated = operation.stated_room();
-    let lends_none = stated == 0;
     match rng.below(50) {
-        _ if lends_none => 0,
+        _ if !operation.any_room() => stated,
         0 => stated - 1,
         1 => rng.below(stated),
         2 | 3 => stated + 1,

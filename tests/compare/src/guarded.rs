@@ -6,7 +6,8 @@ mod planted;
 mod stack;
 
 use crate::answer::Answer;
-use crate::case::Subject;
+use crate::case::{whole, Subject};
+use crate::sim::PROGRAM_ROOM;
 use fence::{Fence, Side};
 pub use planted::{plant, planted_are_seen};
 pub use stack::stacks;
@@ -86,8 +87,8 @@ impl Subject for Guarded<'_> {
         self.call::<u8>("refused_line", &[net, second], &mut [], |texts, _| self.subject.refused_line(texts[0], texts[1], choice, line))
     }
 
-    fn program(&self, input: &[u8], out: &mut [u8]) -> Answer {
-        self.call("program", &[input], out, |texts, out| self.subject.program(texts[0], out))
+    fn program(&self, input: &[u8], out: &mut [u8; PROGRAM_ROOM]) -> Answer {
+        self.call("program", &[input], out, |texts, out| self.subject.program(texts[0], whole(out)))
     }
 }
 

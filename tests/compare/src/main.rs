@@ -121,7 +121,7 @@ fn run(words: &[String]) -> Result<bool, String> {
 fn print() -> std::io::Result<()> {
     let mut input = Vec::new();
     std::io::stdin().read_to_end(&mut input)?;
-    let mut out = vec![0; sim::PROGRAM_ROOM];
+    let mut out = [0; sim::PROGRAM_ROOM];
     let answer = sim::Simulator.program(&input, &mut out);
     std::io::stdout().write_all(&out[..answer.a as usize])
 }

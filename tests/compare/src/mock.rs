@@ -9,8 +9,8 @@ mod case;
 mod sim;
 
 use answer::Answer;
-use case::Subject;
-use sim::Simulator;
+use case::{whole, Subject};
+use sim::{Simulator, PROGRAM_ROOM};
 use std::slice::{from_raw_parts, from_raw_parts_mut};
 
 #[no_mangle]
@@ -54,6 +54,6 @@ unsafe extern "C" fn pti_refused_line(net: *const u8, net_len: usize, second: *c
 }
 
 #[no_mangle]
-unsafe extern "C" fn pti_program(input: *const u8, input_len: usize, out: *mut u8, out_len: usize) -> Answer {
-    Simulator.program(from_raw_parts(input, input_len), from_raw_parts_mut(out, out_len))
+unsafe extern "C" fn pti_program(input: *const u8, input_len: usize, out: *mut u8) -> Answer {
+    Simulator.program(from_raw_parts(input, input_len), whole(from_raw_parts_mut(out, PROGRAM_ROOM)))
 }

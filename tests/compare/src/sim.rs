@@ -148,7 +148,7 @@ impl Subject for Simulator {
         answer(refused::find(net, second, choice, line))
     }
 
-    fn program(&self, input: &[u8], out: &mut [u8]) -> Answer {
+    fn program(&self, input: &[u8], out: &mut [u8; PROGRAM_ROOM]) -> Answer {
         program::run(input, out)
     }
 }

@@ -14,7 +14,7 @@ int main(void)
         perror("print: standard input");
         return 2;
     }
-    pti_answer answer = pti_program(input, len, out, sizeof out);
+    pti_answer answer = pti_program(input, len, out);
     if (fwrite(out, 1, (size_t)answer.a, stdout) != answer.a || fflush(stdout) != 0) {
         perror("print: standard output");
         return 2;

@@ -3,7 +3,7 @@
 use super::{judge, Clause, Counts, Plan};
 use crate::answer::Answer;
 use crate::case::Subject;
-use crate::sim::Simulator;
+use crate::sim::{Simulator, PROGRAM_ROOM};
 
 #[derive(Clone, Copy, Debug, PartialEq)]
 enum Fault {
@@ -238,7 +238,7 @@ impl Subject for Faulty {
         Simulator.refused_line(net, second, choice, line)
     }
 
-    fn program(&self, input: &[u8], out: &mut [u8]) -> Answer {
+    fn program(&self, input: &[u8], out: &mut [u8; PROGRAM_ROOM]) -> Answer {
         Simulator.program(input, out)
     }
 }

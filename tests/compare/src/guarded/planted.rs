@@ -4,7 +4,7 @@
 use super::Guarded;
 use crate::answer::Answer;
 use crate::case::{run, Case, Operation, Subject};
-use crate::sim::Simulator;
+use crate::sim::{Simulator, PROGRAM_ROOM};
 use crate::vectors::{Text, CASE_B, DRIVE};
 use std::process::Command;
 use std::ptr::{read_volatile, write_volatile};
@@ -99,7 +99,7 @@ impl Subject for Planted {
         Simulator.refused_line(net, second, choice, line)
     }
 
-    fn program(&self, input: &[u8], out: &mut [u8]) -> Answer {
+    fn program(&self, input: &[u8], out: &mut [u8; PROGRAM_ROOM]) -> Answer {
         self.touch(Operation::Program, &[input], bytes(out));
         Simulator.program(input, out)
     }

@@ -3,7 +3,7 @@
 
 use super::fence::Fence;
 use crate::answer::Answer;
-use crate::case::Subject;
+use crate::case::{whole, Subject};
 use crate::corpus::watched_run;
 use crate::gen::build;
 use crate::sim::{ARRANGEMENT_ROOM, PROGRAM_ROOM, ROWS_ROOM, TABLE_ROOM};
@@ -64,7 +64,7 @@ pub fn stacks(subject: &dyn Subject) -> bool {
         ("replay", &|| subject.replay(&net, &record, &arrangement, &mut vec![0; ROWS_ROOM])),
         ("arrange", &|| subject.arrange(&net, &record, &mut out()[..ARRANGEMENT_ROOM])),
         ("refused_line", &|| subject.refused_line(&net, &record, 1, 4_000)),
-        ("program", &|| subject.program(&input, &mut out())),
+        ("program", &|| subject.program(&input, whole(&mut out()))),
     ];
     let alone = used(&Answer::default);
     let most = calls.map(|(name, call)| (name, used(call).saturating_sub(alone)));

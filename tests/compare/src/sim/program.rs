@@ -4,11 +4,8 @@ use super::text::lines;
 use super::{accepted, arranging, net, refuse, run, Refusal, LONGEST_INPUT, PROGRAM_ROOM};
 use crate::answer::Answer;
 
-/// Writes what the program prints. A buffer that cannot hold every answer is 20 at spot 0, a choice of the C interface too.
-pub fn run(input: &[u8], out: &mut [u8]) -> Answer {
-    if out.len() < PROGRAM_ROOM {
-        return Answer::refuses(20, 0);
-    }
+/// Writes what the program prints, into a buffer that holds every answer.
+pub fn run(input: &[u8], out: &mut [u8; PROGRAM_ROOM]) -> Answer {
     let text = printed(input).unwrap_or_else(|Refusal { number, spot }| format!("X,{number},{spot}\n"));
     Answer::gives(super::write(out, &text), 0, 0)
 }

@@ -2,12 +2,11 @@
 
 use super::*;
 
-const TEXTS: [(Operation, &[&str], u64); 5] = [
+const TEXTS: [(Operation, &[&str], u64); 4] = [
     (Operation::Build, &[DRIVE, "S,0,2"], 20),
     (Operation::Check, &[DRIVE, CASE_B], 30),
     (Operation::Replay, &[DRIVE, CASE_B, "G,0,1"], 40),
     (Operation::Arrange, &[DRIVE, CASE_B], 50),
-    (Operation::Program, &["="], 20),
 ];
 
 pub fn add(book: &mut Book) {
@@ -20,9 +19,7 @@ pub fn add(book: &mut Book) {
         let broken: Vec<&str> = texts.iter().map(|_| "x").collect();
         book.refused("65: judged before the net", operation, &broken, number, 0);
         book.again_with_room("65: judged before the net", stated - 1);
-        if operation != Operation::Program {
-            book.refused("65: no line of the net", operation, &broken, 11, 1);
-        }
+        book.refused("65: no line of the net", operation, &broken, 11, 1);
     }
     longer(book, 1);
     longer(book, 4_000);
@@ -37,6 +34,4 @@ fn longer(book: &mut Book, more: usize) {
     book.again_with_room("65: longer", Operation::Replay.stated_room() + more);
     book.arranged("65: longer", DRIVE, CASE_B, "G,0,1");
     book.again_with_room("65: longer", Operation::Arrange.stated_room() + more);
-    book.printed("65: longer", "=", "Z,0,0,0,0");
-    book.again_with_room("65: longer", Operation::Program.stated_room() + more);
 }
