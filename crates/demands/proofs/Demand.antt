@@ -1,27 +1,30 @@
 -- The third demand of calls, from the third demand of the definitions.
 use mathlib.Core.Path.{_≡_, refl, sym, ap, _∙_, subst}
 use mathlib.Core.Logic.{_≢_, _↔_, _⊎_, inl, inr}
-use Prim.Native.Nat.{ℕ, _+_, _*_, _≤_, _<_}
+use Prim.Native.Nat.{ℕ, _+_, _-_, _*_, _≤_, _<_}
 use native.Mathlib.Nat.{le-of-eq, le-trans}
 use native.Mathlib.Omega.{arith}
 use mathlib.Core.List.{List, _++_}
-use lib.ListN.{length, getD, take, drop, List·getD-append}
+use lib.ListN.{length, getD, take, drop, length-append, List·getD-append}
 use lib.Seq.{take-append-seam}
-use Rattle.spec.specs.Answer.{Answer, gives, returned}
+use Rattle.spec.specs.Answer.{Answer, gives, refuses, returned}
 use Rattle.spec.specs.Net.{Net, readNet}
 use Rattle.spec.specs.Record.{RunRecord, bench}
+use Rattle.spec.specs.Build.{build}
 use Rattle.spec.specs.Check.{readRecord}
 use Rattle.spec.specs.Arrange.{arrangementBytes}
 use Rattle.spec.specs.Buffer.{over, leaves, buildLeaves, checkLeaves, replayLeaves, arrangeLeaves}
-use Rattle.spec.specs.Demand.{OrderOfRuns, RunIsRecorded, Demand}
-use Rattle.spec.specs.Runs.{EnabledSequence, KeepsOrder, WithinLimits, logBytes}
+use Rattle.spec.specs.Demand.{OrderOfRuns}
+use Rattle.spec.specs.Runs.{KeepsOrder}
 use Rattle.runs.specs.Demand.{demand}
 use Rattle.runs.specs.Accepted.{accepted-record}
 use Rattle.runs.specs.Sizes.{lines-few}
-use Rattle.spec.specs.Values.{numbersOf, byteValues, checkValues, replayValues, arrangeValues}
+use Rattle.spec.specs.Values.{numbersOf, netValues, byteValues, checkValues, replayValues, arrangeValues, netReturns}
 use Rattle.spec.specs.declared.Numbers.{Numbers}
 use Rattle.pti.specs.Calls.{BuildCall, CheckCall, ReplayCall, ArrangeCall}
-use Rattle.pti.specs.Demand.{Arranged, Replayed, Checked, OrderOfCalls, RunOfCalls, DemandOfCalls}
+use Rattle.demands.specs.Demand.{Arranged, Replayed, Checked, NetCounted, Buffers, StatedSizes, OrderOfCalls, OrderPromised, RunOfCalls, RunPromised}
+use Rattle.demands.specs.declared.Calls.{Calls}
+use Rattle.demands.specs.declared.RunCalls.{RunCalls}
 
 -- ---- the sizes of an accepted record and its arrangements
 
@@ -107,31 +110,56 @@ module _ (net : List ℕ) (N : Net) (hN : readNet net ≡ gives N) (text : List 
         rows = λ k p l m. entry-is (P .counts) old (32 * k + p) (left-given replayValues (λ x. x .counts) g old (c .buffer)) (omega (arith, P .full, lines-most N text R hR lines K)) ∙ P .rows k p l m;
       }
 
--- ---- of an enabled step sequence within the limits
+-- ---- the calls that were made
 
-module _ (net : List ℕ) (N : Net) (hN : readNet net ≡ gives N) (steps : List (List ℕ)) (E : EnabledSequence N steps) (F : WithinLimits N steps) where
-  builds : {old new : List ℕ} {r : Numbers} → 48256 ≤ length old → BuildCall net (logBytes steps) old r new → RunOfCalls N steps r new
+-- an accepted net is counted
+net-counted : (net : List ℕ) {N : Net} {r : Numbers} → readNet net ≡ gives N → r ≡ netReturns net → NetCounted N r
+net-counted net {N} {r} h e =
+    let q : r ≡ numbersOf (gives (netValues N)) = unfold returned in (e ∙ ap (λ a. numbersOf (returned netValues a)) h) in
+    record { accepted = ap (λ (z : Numbers). z .number) q; places = ap (λ (z : Numbers). z .a) q; transitions = ap (λ (z : Numbers). z .b) q }
+
+module _ (net text arrangement : List ℕ) {old new : Buffers} (r : Calls) where
+  pub order-promised : r .net ≡ netReturns net → CheckCall net text (old .table) (r .check) (new .table) → ArrangeCall net text (old .out) (r .arrange) (new .out)
+      → ReplayCall net text arrangement (old .rows) (r .replay) (new .rows) → OrderPromised net text arrangement old r new
+  order-promised e c a p N R hN hR S = record {
+    net = net-counted net hN e;
+    checks = checks net N hN text R hR (S .table) c;
+    arranges = arranges net N hN text R hR (S .out) a;
+    enabled = demand .order-of-runs net N hN text R hR .enabled;
+    replays = λ lines K q. replays net N hN text R hR lines K (S .rows) (subst (λ (t : List ℕ). ReplayCall net text t (old .rows) (r .replay) (new .rows)) q p);
+    one-end = demand .order-of-runs net N hN text R hR .one-end;
+  }
+
+-- ---- building
+
+-- what building wrote stands within its buffer, also where it is refused and wrote nothing
+pub build-within : (net log old : List ℕ) {r : Numbers} {new : List ℕ} → BuildCall net log old r new → r .a ≤ length new
+unfolding buildLeaves leaves over returned
+build-within net log old {r} {new} c = go (build net log (length old)) (c .answer) (c .buffer)
+  where
+    go : (x : Answer (List ℕ)) → r ≡ numbersOf (returned byteValues x) → new ≡ buildLeaves x old → r .a ≤ length new
+    go (gives bytes) e b = omega (arith, ap (λ (z : Numbers). z .a) e, ap length b, length-append bytes (drop (length bytes) old))
+    go (refuses n s) e b = omega (arith, ap (λ (z : Numbers). z .a) e)
+
+-- the code takes a part from 0 on
+whole : (n : ℕ) → n - 0 ≡ n
+whole n = omega arith
+
+module _ (net log arrangement room : List ℕ) {written : List ℕ} {old new : Buffers} (r : RunCalls) where
+  pub run-promised : BuildCall net log room (r .build) written → OrderPromised net (take (r .build .a - 0) written) arrangement old (r .calls) new
+      → RunPromised net log arrangement room old r written new
   unfolding buildLeaves
-  builds {old} h c =
+  run-promised c O N steps hN e E F h S =
       let B = demand .runs-recorded net N hN steps E F in
-      let g = B .builds (length old) h in
-      let q = numbers-given byteValues (λ x. x) g (c .answer) in
+      let g = B .builds (length room) h in
+      let d = subst (λ (t : List ℕ). BuildCall net t room (r .build) written) e c in
+      let q = numbers-given byteValues (λ x. x) g (d .answer) in
+      let reads = ap (readRecord bench N) (start-is (B .bytes) room (left-given byteValues (λ x. x) g room (d .buffer)) (ap (λ (z : Numbers). z .a) q)) ∙ B .accepts in
       record {
         accepted = ap (λ (z : Numbers). z .number) q;
         run = B .run;
-        reads = ap (readRecord bench N) (start-is (B .bytes) old (left-given byteValues (λ x. x) g old (c .buffer)) (ap (λ (z : Numbers). z .a) q)) ∙ B .accepts;
+        reads = reads;
         among = B .among;
         steps-back = B .reads;
+        calls = O N (B .run) hN (ap (λ (k : ℕ). readRecord bench N (take k written)) (whole (r .build .a)) ∙ reads) S;
       }
-
-pub demand-of-calls : DemandOfCalls
-demand-of-calls = record {
-  order-of-runs = λ net N hN text R hR. record {
-    arranges = arranges net N hN text R hR;
-    checks = checks net N hN text R hR;
-    enabled = demand .order-of-runs net N hN text R hR .enabled;
-    replays = replays net N hN text R hR;
-    one-end = demand .order-of-runs net N hN text R hR .one-end;
-  };
-  runs-recorded = builds;
-}
