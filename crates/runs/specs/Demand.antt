@@ -21,7 +21,8 @@ use Rattle.spec.specs.Check.{Accepted, accepts, readRecord, related, tableAt, t
 use Rattle.spec.specs.Arrange.{levels, lineCount, arrangedLines, arrangementBytes, arranged, arrange}
 use Rattle.spec.specs.Replay.{rowAt, row, firedBy, replayed, replay}
 use Rattle.spec.specs.Runs.{EnabledSequence, KeepsOrder, WithinLimits, markingAt, asSteps, eventLines, logBytes}
-use Rattle.spec.specs.Demand.{Replays, Tables, OrderOfRuns, RunIsRecorded, Demand, IsProcess}
+use Rattle.spec.specs.Exactness.{IsProcess}
+use Rattle.spec.specs.Demand.{Replays, Tables, OrderOfRuns, RunIsRecorded, Demand}
 use Rattle.lists.specs.Laws
 use Rattle.lists.specs.Rows.{length-rows}
 use Rattle.runs.specs.Play.{enabled-steps, row-is, one-end}

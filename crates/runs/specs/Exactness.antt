@@ -15,7 +15,7 @@ use Rattle.spec.specs.Build.{playLog, recordOf, recordFor, built, build}
 use Rattle.spec.specs.Check.{readRecord}
 use Rattle.spec.specs.Replay.{readArrangement}
 use Rattle.spec.specs.Runs.{WithinLimits}
-use Rattle.spec.specs.Demand.{Builds, IsProcess, IsArrangement, Exactness}
+use Rattle.spec.specs.Exactness.{Builds, IsProcess, IsArrangement, Exactness}
 use Rattle.runs.specs.Log.{record-events}
 use Rattle.runs.specs.Answers.{of-gives, of-bind}
 use Rattle.runs.specs.NetText.{net-text}

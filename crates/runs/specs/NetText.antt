@@ -16,7 +16,7 @@ use Rattle.spec.specs.Text.{Line, linesOf, byLines, rowOf, mostDigits}
 use Rattle.spec.specs.Forms.{isAlone, isOne, isTwo, valueOf}
 use Rattle.spec.specs.Net.{Net, places, joined, takes, makes, addPlace, addTransition, addArc, addRow, addLine, emptyNet, lacking, whole, netOf, readNet}
 use Rattle.spec.specs.NetText.{Declaration, place, transition, arc, declarationLine, netBytes, declare, declareAll, declared, Allowed, Complete}
-use Rattle.spec.specs.Demand.{IsNet}
+use Rattle.spec.specs.Exactness.{IsNet}
 use Rattle.spec.specs.declared.ArcKind.{ArcKind}
 use Rattle.spec.specs.declared.ArcKind.the-variants.{Input, Output, Inhibitor}
 use Rattle.spec.specs.declared.Class.the-variants.{LetterP, LetterT, LetterI, LetterO, LetterH}

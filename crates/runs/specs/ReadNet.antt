@@ -10,7 +10,7 @@ use Rattle.spec.specs.Text.{linesOf, byLines, alike, mostDigits}
 use Rattle.spec.specs.Forms.{isAlone, isOne, isTwo}
 use Rattle.spec.specs.Net.{Net, places, withArc, addPlace, addTransition, addArc, addRow, addLine, emptyNet, whole, netOf, readNet}
 use Rattle.spec.specs.NetText.{Declaration, place, transition, arc, declarationLine, netBytes, declare, declareAll, declared, Allowed}
-use Rattle.spec.specs.Demand.{IsNet}
+use Rattle.spec.specs.Exactness.{IsNet}
 use Rattle.spec.specs.declared.ArcKind.{ArcKind}
 use Rattle.spec.specs.declared.ArcKind.the-variants.{Input, Output, Inhibitor}
 use Rattle.spec.specs.declared.Field.the-variants.{Number}

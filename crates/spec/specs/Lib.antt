@@ -17,6 +17,8 @@ pub mod Line
 pub mod Program
 pub mod Buffer
 pub mod Runs
+pub mod Exactness
+pub mod Computed
 pub mod Demand
 pub mod Quoted
 pub mod Cases
