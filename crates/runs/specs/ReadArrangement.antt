@@ -26,7 +26,7 @@ use Rattle.spec.specs.Runs.{KeepsOrder}
 use Rattle.spec.specs.declared.Field.the-variants.{Number}
 use Rattle.lists.specs.Laws.{or-false, not-is-false, true-or-false, any-none, member-is, count-append, count-cons, count-none, eqb-count, neqb-count, one-le, lowest-none, none-lowest, flat-append, flat-in, flat-map-snoc, index-snoc, flat-snoc, all-below}
 use Rattle.runs.specs.Bytes.{G-letter}
-use Rattle.runs.specs.LineForms.{numbers-writable, list-back}
+use Rattle.runs.specs.LineForms.{list-back}
 use Rattle.runs.specs.Answers.{of-gives, of-bind, of-when, of-lowest}
 use Rattle.runs.specs.Texts.{lineBytes, ended-list}
 use Rattle.runs.specs.Readers.{Takes, takes-line, takes-end, takes-all, text-keeps}
@@ -115,7 +115,7 @@ module _ (R : RunRecord) (small : length (R .events) ≤ 10 ^ mostDigits) where
   group-read k lines es l K o b =
       let w : (e : ℕ) → In e es → e < 10 ^ mostDigits = λ e m. le-trans (K e m) small in
       let r = list-back G-letter es l w in
-      takes-line G-letter (map Number es) (numbers-writable es w)
+      takes-line G-letter (map Number es)
       (rw (r .0, r .1, all-below (length (R .events)) es .1 K, no-repeats (flat lines ++ es) o, b))
 
   lines-read : (lines : List (List ℕ)) → Lined R lines → byLines (groupsLine R) 1 (linesOf (arrangementBytes lines)) [] ≡ gives lines

@@ -21,7 +21,7 @@ use Rattle.spec.specs.declared.Limits.{Limits}
 use Rattle.lists.specs.Laws.{not-is-false, all-below, flat-map-snoc, index-snoc}
 use Rattle.runs.specs.Bytes.{S-letter}
 use Rattle.runs.specs.Fields.{body}
-use Rattle.runs.specs.LineForms.{numbers-writable, list-back}
+use Rattle.runs.specs.LineForms.{list-back}
 use Rattle.runs.specs.Answers.{of-gives, of-when}
 use Rattle.runs.specs.Texts.{lineBytes, ended, ended-list}
 use Rattle.runs.specs.Readers.{Takes, takes-line, takes-end, takes-all, text-keeps}
@@ -60,7 +60,7 @@ module _ (lim : Limits) (N : Net) (small : N .transitions ≤ 10 ^ mostDigits) w
         let marking : markingAt N steps (length s) ≡ runOf N s .marking = sym (run-marking N steps (length s)) ∙ ap (λ (z : List (List ℕ)). runOf N z .marking) before in
         let known : (x : ℕ) → In x ts → x < N .transitions = λ x m. E .known (length s) x l (rw here m) in
         let fits : Fits lim (recordFor N (s ++ ts ∷ [])) = fits-beginning lim N (s ++ ts ∷ []) t (rw (append-snoc s ts t, ← e) F) in
-        takes-line S-letter (map Number ts) (numbers-writable ts (λ x m. le-trans (known x m) small))
+        takes-line S-letter (map Number ts)
         (line-played (1 + length s) ts (runOf N s) (rw here at (E .full (length s) l)) known (rw (here, marking) at (E .enabled (length s) l)) (rw (run-snoc N s ts) at fits)
         ∙ ap gives (sym (run-snoc N s ts)))
 
