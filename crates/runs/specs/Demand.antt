@@ -53,8 +53,8 @@ related-weak false false h = (λ s. absurd (none s), λ q. Laws.clash q refl)
     none (inr e) = omega arith
 
 module _ (net : List ℕ) (N : Net) (hN : readNet net ≡ gives N) (text : List ℕ) (R : RunRecord) (hR : readRecord bench N text ≡ gives R) where
-  I : IsProcess N text R
-  I = exactness .checks net N hN text R .0 hR
+  I : IsProcess N R
+  I = exactness .checks net N hN text R .0 hR .1
 
   W : WellFormed N R
   W = I .wellFormed

@@ -61,7 +61,7 @@ unfolding openAll driveNet runB parkFirst
 read = refl
 
 pub keeps : KeepsOrder runB parkFirst
-keeps = exactness .replays drive driveNet net-accepted recordB runB record-accepted (arrangementBytes parkFirst) parkFirst .0 read .keeps
+keeps = exactness .replays drive driveNet net-accepted recordB runB record-accepted (arrangementBytes parkFirst) parkFirst .0 read .1
 
 pub enabled : EnabledSequence driveNet ((2 ∷ []) ∷ (0 ∷ []) ∷ [])
 unfolding openAll driveNet runB parkFirst Rattle.spec.specs.Runs.asSteps

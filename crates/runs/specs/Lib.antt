@@ -30,7 +30,9 @@ pub mod Growth
 pub mod ReadLog
 pub mod Unbroken
 pub mod ReadArrangement
+pub mod Injective
 pub mod Exactness
+pub mod Operations
 pub mod Levels
 pub mod Computed
 pub mod Demand
