@@ -37,4 +37,6 @@ pub mod Levels
 pub mod Computed
 pub mod Demand
 pub mod Drive
+pub mod Within
+pub mod ReaderSpots
 pub mod Spots

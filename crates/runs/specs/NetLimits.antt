@@ -6,11 +6,12 @@ use mathlib.Core.List.{List, [], _∷_, List·Memᴰ·head, List·Memᴰ·tail}
 use lib.ListN.{length-append}
 use Rattle.spec.specs.Lists.{sum}
 use Rattle.spec.specs.Answer.{gives}
-use Rattle.spec.specs.Net.{Net, places, withPlace, withTransition, withArc, emptyNet, readNet}
+use Rattle.spec.specs.Text.{Line, linesOf}
+use Rattle.spec.specs.Net.{Net, places, withPlace, withTransition, withArc, emptyNet, netOf, readNet}
 use Rattle.spec.specs.NetText.{Declaration, place, transition, arc, declare, declareAll, Allowed}
 use Rattle.spec.specs.Exactness.{DeclarationBelow, DeclarationsBelow}
 use Rattle.lists.specs.Arrays.{sum-more}
-use Rattle.runs.specs.NetText.{Sound, net-text}
+use Rattle.runs.specs.NetText.{Sound, net-lines}
 
 pub record NetLimits (N : Net) : Type 0 where
   pub places : places N ≤ 32
@@ -54,5 +55,10 @@ sound-below n (d ∷ ds) L S e (List·Memᴰ·tail m) =
 pub sound-small : (ds : List Declaration) → Sound emptyNet ds → DeclarationsBelow 1000 ds
 sound-small ds S = sound-below emptyNet ds no-net S
 
+-- the lines of a text, or of a part of one
+pub lines-limits : (ls : List Line) (N : Net) → netOf ls ≡ gives N → NetLimits N
+lines-limits ls N h = let I = net-lines ls N h in rw (I .named) (sound-limits (I .lines) (I .sound))
+
 pub net-limits : (text : List ℕ) (N : Net) → readNet text ≡ gives N → NetLimits N
-net-limits text N h = let I = net-text text N h in rw (I .named) (sound-limits (I .lines) (I .sound))
+unfolding readNet
+net-limits text N h = lines-limits (linesOf text) N h

@@ -20,6 +20,7 @@ pub mod Runs
 pub mod Exactness
 pub mod Computed
 pub mod Demand
+pub mod Refusals
 pub mod Quoted
 pub mod Cases
 pub mod Traps
