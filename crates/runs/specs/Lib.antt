@@ -40,3 +40,4 @@ pub mod Drive
 pub mod Within
 pub mod ReaderSpots
 pub mod Spots
+pub mod Summary
