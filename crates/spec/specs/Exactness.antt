@@ -58,12 +58,13 @@ pub record Exactness : Type 0 where
   pub replays : (net : List ℕ) (N : Net) → readNet net ≡ gives N → (text : List ℕ) (R : RunRecord) → readRecord bench N text ≡ gives R
       → (arrangement : List ℕ) (lines : List (List ℕ)) → (readArrangement R arrangement ≡ gives lines) ↔ ((arrangement ≡ arrangementBytes lines) × KeepsOrder R lines)
 
--- ---- of each operation, and of a given list of declarations, sequence, record or arrangement: "With an accepted net and
--- buffers of the stated sizes", it is accepted exactly when .., and what is given is then the one that document 01 names
+-- ---- of each operation, and of a given list of declarations, sequence, record or arrangement. "With an accepted net and
+-- buffers of the stated sizes" its text is accepted exactly when it is what it should be, and what is then given is what
+-- document 01 names.
 
 pub record Operations : Type 0 where
   pub reads : (ds : List Declaration) (N : Net) → (readNet (netBytes ds) ≡ gives N) ↔ (EachAllowed ds × Complete N × (N ≡ declared ds))
-  -- an enabled sequence has no empty step, and names transitions of the net only
+  -- "a well-formed log of known transitions": an enabled sequence has no empty step, and names transitions of the net only
   pub builds : (net : List ℕ) (N : Net) → readNet net ≡ gives N → (steps : List (List ℕ)) (room : ℕ) → 48256 ≤ room → (bytes : List ℕ)
       → (build net (logBytes steps) room ≡ gives bytes) ↔ (EnabledSequence N steps × WithinLimits N steps × (bytes ≡ recordBytes (recordFor N steps)))
   pub checks : (net : List ℕ) (N : Net) → readNet net ≡ gives N → (R : RunRecord) (room : ℕ) → 16384 ≤ room → (c : Checked)
@@ -74,7 +75,8 @@ pub record Operations : Type 0 where
   pub replays : (net : List ℕ) (N : Net) → readNet net ≡ gives N → (R : RunRecord) (lines : List (List ℕ)) (room : ℕ) → 4128 ≤ room → (x : Replayed)
       → (replay net (recordBytes R) (arrangementBytes lines) room ≡ gives x) ↔ (IsProcess N R × KeepsOrder R lines × (x ≡ replayed N R lines))
 
--- and nothing else is accepted: no short buffer, no net that is refused, no other text
+-- ---- and nothing else is accepted: no shorter buffer, no net that is refused, no other text
+
 abbrev pub IsAccepted : List ℕ → Type 0
 IsAccepted net = (N : Net) × (readNet net ≡ gives N)
 
