@@ -170,8 +170,8 @@ module _ (N : Net) where
   pub log-within : (ls : List Line) → Within (λ r. Unit) logRefusals (built bench N ls)
   unfolding built playLog
   log-within ls =
-      let none : Played 1 (start N) = unfold start in (record { some = le-refl 1; next = le-refl 1; events = zero-le }) in
-      bind-within (playLog bench N ls) _ (lines-within (logLine bench N) Played logRefusals step-within 1 ls (start N) none) (λ r e p. given-within tt)
+      let begun : Played 1 (start N) = unfold start in (record { some = le-refl 1; next = le-refl 1; events = zero-le }) in
+      bind-within (playLog bench N ls) _ (lines-within (logLine bench N) Played logRefusals step-within 1 ls (start N) begun) (λ r e p. given-within tt)
 
 -- ---- records
 
@@ -233,15 +233,17 @@ module _ (N : Net) {k : ℕ} {r : RunRecord} (D : Entered k r) where
 rules-within : (N : Net) (r : RunRecord) → places N ≤ 32 → length (r .events) ≤ 128 → Within (λ u. Unit) recordRefusals (obeys N r)
 unfolding obeys first
 rules-within N r p e =
-    seq-within (lowest-within 35 _ _ (λ s l. listed recordRefusals 35 refl (zero-le, omega arith))) (seq-within (lowest-within 36 _ _ (λ s l. listed recordRefusals 36 refl (zero-le, omega arith)))
-    (seq-within (lowest-within 37 _ _ (λ s l. listed recordRefusals 37 refl (zero-le, omega arith))) (seq-within (lowest-within 38 _ _ (λ s l. listed recordRefusals 38 refl (zero-le, omega arith)))
+    seq-within (lowest-within 35 _ _ (λ s l. listed recordRefusals 35 refl (zero-le, omega arith)))
+    (seq-within (lowest-within 36 _ _ (λ s l. listed recordRefusals 36 refl (zero-le, omega arith)))
+    (seq-within (lowest-within 37 _ _ (λ s l. listed recordRefusals 37 refl (zero-le, omega arith)))
+    (seq-within (lowest-within 38 _ _ (λ s l. listed recordRefusals 38 refl (zero-le, omega arith)))
     (lowest-within 39 _ _ (λ s l. listed recordRefusals 39 refl (zero-le, omega arith))))))
 
 pub record-within : (N : Net) (text : List ℕ) → places N ≤ 32 → Within (λ r. Unit) recordRefusals (readRecord bench N text)
 unfolding readRecord
 record-within N text p =
-    let none : Entered 1 emptyRecord = unfold emptyRecord in (record { next = refl; events = zero-le; conditions = zero-le; marks = zero-le }) in
-    bind-within (byLines (enterLine bench N) 1 (linesOf text) emptyRecord) _ (lines-within (enterLine bench N) Entered recordRefusals (λ k l r D. row-within N D l) 1 (linesOf text) emptyRecord none)
+    let begun : Entered 1 emptyRecord = unfold emptyRecord in (record { next = refl; events = zero-le; conditions = zero-le; marks = zero-le }) in
+    bind-within (byLines (enterLine bench N) 1 (linesOf text) emptyRecord) _ (lines-within (enterLine bench N) Entered recordRefusals (λ k l r D. row-within N D l) 1 (linesOf text) emptyRecord begun)
     (λ r e D. seq-within (rules-within N r p (D .1 .events)) (given-within tt))
 
 -- ---- arrangements
