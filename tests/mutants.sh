@@ -7,13 +7,15 @@ top=$(cd "$(dirname "$0")/.." && pwd)
 work=$(mktemp -d)
 trap 'rm -rf "$work"' EXIT
 
-copy() { # NAME: the theorem crates without the computed cases, in $work/NAME
-  local dir=$work/$1
+copy() { # NAME: the theorem crates without the computed cases (Quoted and every module that imports it), in $work/NAME
+  local dir=$work/$1 file
   mkdir -p "$dir/crates"
   cp -r "$top"/crates/{spec,lists,order,runs} "$dir/crates/"
-  rm -rf "$dir"/crates/*/must-fail "$dir"/crates/spec/specs/{Cases,Traps,Quoted}.antt "$dir"/crates/runs/specs/Drive.antt
-  sed -i '/^pub mod \(Cases\|Traps\|Quoted\)$/d' "$dir/crates/spec/specs/Lib.antt"
-  sed -i '/^pub mod Drive$/d' "$dir/crates/runs/specs/Lib.antt"
+  rm -rf "$dir"/crates/*/must-fail
+  for file in "$dir"/crates/spec/specs/Quoted.antt $(grep -l '^use .*·spec.*\.Quoted\.' "$dir"/crates/*/specs/*.antt); do
+    sed -i "/^pub mod $(basename "$file" .antt)\$/d" "$(dirname "$file")/Lib.antt"
+    rm "$file"
+  done
   grep -E '^(spec|lists|order|runs):' "$top/crates.txt" > "$dir/crates.txt"
 }
 

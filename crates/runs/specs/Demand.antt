@@ -1,38 +1,39 @@
 -- The third demand, proved: the order that an accepted record carries is the order of its runs.
-use mathlib.Core.Path.{_≡_, refl, sym, ap, _∙_}
+use mathlib.Core.Path.{_≡_, refl, sym, _∙_}
 use mathlib.Core.Logic.{_⊎_, inl, inr, _≢_, _↔_}
 use Prim.Native.Nat.{ℕ, _+_, _*_, _≤_, _<_}
-use native.Mathlib.Nat.{le-of-eq, le-trans}
+use native.Mathlib.Nat.{le-trans}
 use native.Mathlib.Omega.{arith}
 use mathlib.Core.Bool.{Bool, true, false, cond}
 use mathlib.Core.List.{List, map}
 use lib.ListN.{length, getD, length-map, length-replicate}
 use lib.Dec.{leb}
-use borrow.Author.Tests.{le-ltb, lt-ltb, le-leb}
+use borrow.Author.Tests.{lt-ltb, le-leb}
 use Rattle.spec.specs.Lists.{upTo}
-use Rattle.spec.specs.Answer.{Answer, gives, _>>=_, _>>_, refuse_at_when_}
+use Rattle.spec.specs.Answer.{gives}
 use Rattle.spec.specs.Net.{Net, readNet}
 use Rattle.spec.specs.Step.{tokensAt}
 use Rattle.spec.specs.Record.{RunRecord, bench, recordBytes}
-use Rattle.spec.specs.Order.{strictlyBefore, notLater, StrictlyBefore, NotLater}
+use Rattle.spec.specs.Order.{strictlyBefore, notLater}
 use Rattle.spec.specs.Process.{Process, WellFormed}
-use Rattle.spec.specs.Build.{recordFor, build}
-use Rattle.spec.specs.Check.{Accepted, accepts, readRecord, related, tableAt, tableBytes, checked, checkWithin, check}
-use Rattle.spec.specs.Arrange.{levels, lineCount, arrangedLines, arrangementBytes, arranged, arrange}
+use Rattle.spec.specs.Build.{recordFor}
+use Rattle.spec.specs.Check.{accepts, readRecord, related, tableAt, tableBytes, checked, check}
+use Rattle.spec.specs.Arrange.{levels, arrangedLines, arrangementBytes, arranged, arrange}
 use Rattle.spec.specs.Replay.{rowAt, row, firedBy, replayed, replay}
-use Rattle.spec.specs.Runs.{EnabledSequence, KeepsOrder, WithinLimits, markingAt, asSteps, eventLines, logBytes}
-use Rattle.spec.specs.Demand.{Replays, Tables, OrderOfRuns, RunIsRecorded, Demand, IsProcess}
+use Rattle.spec.specs.Runs.{EnabledSequence, KeepsOrder, WithinLimits, markingAt, asSteps}
+use Rattle.spec.specs.Exactness.{IsProcess}
+use Rattle.spec.specs.Demand.{Replays, Tables, OrderOfRuns, RunIsRecorded, Demand}
 use Rattle.lists.specs.Laws
 use Rattle.lists.specs.Rows.{length-rows}
 use Rattle.runs.specs.Play.{enabled-steps, row-is, one-end}
 use Rattle.runs.specs.Levels.{arranged-keeps, arranged-count, arranged-least, strict-exact, weak-exact}
 use Rattle.runs.specs.Closure.{strict-is, weak-is}
 use Rattle.runs.specs.Sizes.{lines-few}
-use Rattle.runs.specs.ReadArrangement.{arrangement-read}
 use Rattle.runs.specs.Log.{built-well-formed, built-process, built-keeps, built-reads}
 use Rattle.runs.specs.Accepted.{record-accepted}
 use Rattle.runs.specs.NetLimits.{net-limits}
 use Rattle.runs.specs.Exactness.{exactness, printed, within-fits}
+use Rattle.runs.specs.Operations.{operations}
 
 -- ---- of an accepted record
 
@@ -52,8 +53,11 @@ related-weak false false h = (λ s. absurd (none s), λ q. Laws.clash q refl)
     none (inr e) = omega arith
 
 module _ (net : List ℕ) (N : Net) (hN : readNet net ≡ gives N) (text : List ℕ) (R : RunRecord) (hR : readRecord bench N text ≡ gives R) where
-  I : IsProcess N text R
-  I = exactness .checks net N hN text R .0 hR
+  written : text ≡ recordBytes R
+  written = exactness .checks net N hN text R .0 hR .0
+
+  I : IsProcess N R
+  I = exactness .checks net N hN text R .0 hR .1
 
   W : WellFormed N R
   W = I .wellFormed
@@ -61,13 +65,9 @@ module _ (net : List ℕ) (N : Net) (hN : readNet net ≡ gives N) (text : List 
   P : Process N R
   P = I .process
 
-  accepted : accepts bench net text ≡ gives (record { net = N; run = R })
-  unfolding accepts _>>=_
-  accepted = rw (hN, hR)
-
   writes : (room : ℕ) → 768 ≤ room → arrange net text room ≡ gives (record { lines = length (arrangedLines (levels R)); bytes = arrangementBytes (arrangedLines (levels R)) })
-  unfolding arrange _>>=_ _>>_ refuse_at_when_ arranged
-  writes room h = rw (le-ltb room 768 h, accepted, arranged-count R)
+  unfolding arranged
+  writes room h = rw (written, arranged-count R) (operations .arranges net N hN R room h (arranged R) .1 (I, refl))
 
   -- ---- replay
 
@@ -81,8 +81,7 @@ module _ (net : List ℕ) (N : Net) (hN : readNet net ≡ gives N) (text : List 
 
   module _ (lines : List (List ℕ)) (K : KeepsOrder R lines) where
     plays : (room : ℕ) → 4128 ≤ room → replay net text (arrangementBytes lines) room ≡ gives (replayed N R lines)
-    unfolding replay _>>=_ _>>_ refuse_at_when_
-    plays room h = rw (le-ltb room 4128 h, accepted, arrangement-read N R W (omega (arith, I .events)) lines K)
+    plays room h = rw written (operations .replays net N hN R lines room h (replayed N R lines) .1 (I, K, refl))
 
     row-count : (k p : ℕ) → k ≤ length lines → p < 32 → getD (row N R lines k) p 0 ≡ tokensAt (markingAt N (asSteps R lines) k) p
     unfolding row
@@ -103,8 +102,7 @@ module _ (net : List ℕ) (N : Net) (hN : readNet net ≡ gives N) (text : List 
   -- ---- the check's table
 
   checks : (room : ℕ) → 16384 ≤ room → check net text room ≡ gives (checked R)
-  unfolding check checkWithin _>>=_ _>>_ refuse_at_when_
-  checks room h = rw (le-ltb room 16384 h, accepted)
+  checks room h = rw written (operations .checks net N hN R room h (checked R) .1 (I, refl))
 
   entry-is : (e f : ℕ) → e < length (R .events) → f < length (R .events) → getD (checked R .table) (128 * e + f) 0 ≡ related R e f
   unfolding checked tableBytes tableAt
@@ -152,8 +150,7 @@ module _ (net : List ℕ) (N : Net) (hN : readNet net ≡ gives N) (steps : List
   runs-recorded : RunIsRecorded net N steps
   runs-recorded = record {
     bytes = recordBytes (recordFor N steps);
-    builds = λ room h. exactness .builds net N hN (logBytes steps) (recordBytes (recordFor N steps)) room h .1
-        (record { steps = steps; written = refl; enabled = E; within = F; named = refl });
+    builds = λ room h. operations .builds net N hN steps room h (recordBytes (recordFor N steps)) .1 (E, F, refl);
     run = recordFor N steps;
     accepts = record-accepted bench N (printed N (net-limits net N hN)) (recordFor N steps) (built-well-formed N steps E) (within-fits N steps .0 F) (built-process N steps E);
     among = built-keeps N steps E;

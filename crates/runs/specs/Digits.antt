@@ -1,9 +1,10 @@
 -- Numbers in base ten, for any greatest count of digits: a number that is written is read back, and what is read as a
 -- number is what is written for its value.
-use mathlib.Core.Path.{_≡_, refl, sym, _∙_}
+use mathlib.Core.Path.{_≡_, refl, sym, ap, _∙_}
 use mathlib.Core.Logic.{_≢_, inl, inr}
 use Prim.Native.Nat.{ℕ, zero, suc, _+_, _*_, _/_, _%_, _^_, _≤_, _<_, zero-le}
-use native.Mathlib.Nat.{pow-suc, le-refl, zero-add}
+use native.Mathlib.Nat.{pow-suc, one-le-pow, le-refl, zero-add}
+use native.Mathlib.Decide.{decLe}
 use native.Mathlib.Omega.{arith}
 use mathlib.Core.Bool.{Bool, true, false, not, cond, and-false}
 use mathlib.Core.List.{List, [], _∷_, _++_, append-nil, append-assoc}
@@ -11,13 +12,23 @@ use lib.ListN.{length, getD, length-append, List·getD-append}
 use lib.Dec.{ltb, leb}
 use borrow.Author.Tests.{le-leb, lt-ltb, le-ltb, leb-true, ltb-true, ltb-false, eqb-false, ne-eqb}
 use Rattle.spec.specs.Lists.{every}
-use Rattle.spec.specs.Text.{digitOf, isA, needlessZero, isNumber, valueFrom, fieldOf, digit, digits}
+use Rattle.spec.specs.Text.{digitOf, isA, needlessZero, isNumber, valueFrom, isDash, fieldOf, digit, digits}
 use Rattle.spec.specs.declared.Class.the-variants.{Digit}
-use Rattle.spec.specs.declared.Field.the-variants.{Number}
+use Rattle.spec.specs.declared.Field.the-variants.{Number, Dash, Wrong}
 use Rattle.lists.specs.Laws.{true-or-false, and-true, and-four, not-is-true, every-append}
 use Rattle.runs.specs.Bytes.{digit-isA, digit-value, isA-digit}
 
 -- ---- what is written is read back
+
+-- whatever the number, digits alone are written
+pub digits-all : (most n : ℕ) → every (isA Digit) (digits most n) ≡ true
+unfolding digits every
+digits-all zero n = refl
+digits-all (suc most) n = go (ltb n 10) refl (digits-all most (n / 10))
+  where
+    go : (t : Bool) → ltb n 10 ≡ t → every (isA Digit) (digits most (n / 10)) ≡ true → every (isA Digit) (cond t (digit n ∷ []) (digits most (n / 10) ++ digit (n % 10) ∷ [])) ≡ true
+    go true e h = rw (digit-isA n (ltb-true n 10 e))
+    go false e h = every-append (isA Digit) (digits most (n / 10)) (digit (n % 10) ∷ []) h (rw (digit-isA (n % 10) (omega arith)))
 
 value-more : (p : List ℕ) (v b : ℕ) → valueFrom v (p ++ b ∷ []) ≡ valueFrom v p * 10 + digitOf b
 unfolding valueFrom
@@ -27,26 +38,22 @@ value-more (x ∷ p) v b = value-more p (v * 10 + digitOf x) b
 -- digits ds of value n, without a needless zero
 pub record Written (n : ℕ) (ds : List ℕ) : Type 0 where
   pub some : 1 ≤ length ds
-  pub all : every (isA Digit) ds ≡ true
   pub value : valueFrom 0 ds ≡ n
   pub lead : 0 < n → digitOf (getD ds 0 0) ≢ 0
   pub one : n < 10 → length ds ≡ 1
 
 one-digit : (n : ℕ) → n < 10 → Written n (digit n ∷ [])
-unfolding every valueFrom
+unfolding valueFrom
 one-digit n h = record {
   some = le-refl 1;
-  all = rw (digit-isA n h);
   value = omega (arith, digit-value n h);
   lead = λ p e. omega (arith, digit-value n h);
   one = λ p. refl;
 }
 
 digit-more : (n : ℕ) (ds : List ℕ) → 10 ≤ n → Written (n / 10) ds → Written n (ds ++ digit (n % 10) ∷ [])
-unfolding every
 digit-more n ds h w = record {
   some = omega (arith, length-append ds (digit (n % 10) ∷ []));
-  all = every-append (isA Digit) ds (digit (n % 10) ∷ []) (w .all) (rw (digit-isA (n % 10) (omega arith)));
   value = value-more ds 0 (digit (n % 10)) ∙ omega (arith, w .value, digit-value (n % 10) (omega arith));
   lead = λ p. rw (List·getD-append ds (digit (n % 10) ∷ []) 0 0 (w .some)) (w .lead (omega arith));
   one = λ p. absurd (omega arith);
@@ -91,7 +98,7 @@ pub number-back : (most n : ℕ) → 1 ≤ most → n < 10 ^ most → fieldOf mo
 unfolding fieldOf isNumber
 number-back most n m h =
     let w = written most n m h in
-    rw (le-leb 1 (length (digits most n)) (w .some), le-leb (length (digits most n)) most (width most most n m h), no-zero n (digits most n) w, w .all, w .value)
+    rw (le-leb 1 (length (digits most n)) (w .some), le-leb (length (digits most n)) most (width most most n m h), no-zero n (digits most n) w, digits-all most n, w .value)
 
 -- ---- what is read is what is written
 
@@ -151,3 +158,32 @@ number-bytes most (a ∷ bs) t = rw (zero-add (digitOf a)) (go bs t (and-true (i
 
 pub number-is : (most : ℕ) (bs : List ℕ) → isNumber most bs ≡ true → digits most (valueFrom 0 bs) ≡ bs
 number-is most bs h = number-bytes most bs (tested most bs h)
+
+pub number-read : (most : ℕ) (bs : List ℕ) (m : ℕ) → fieldOf most bs ≡ Number m → digits most m ≡ bs
+unfolding fieldOf
+number-read most bs m h = go (isNumber most bs) (isDash bs) refl h
+  where
+    go : (x y : Bool) → isNumber most bs ≡ x → cond x (Number (valueFrom 0 bs)) (cond y Dash Wrong) ≡ Number m → digits most m ≡ bs
+    go true y e q = let v : valueFrom 0 bs ≡ m = cc in rw v at (number-is most bs e)
+    go false true e q = let z : _≡_ {A = ℕ} 0 1 = cc in absurd (omega arith)
+    go false false e q = let z : _≡_ {A = ℕ} 0 1 = cc in absurd (omega arith)
+
+-- ---- a number that has more digits than are written
+
+wide : (most n : ℕ) → 10 ^ most ≤ n → suc most ≤ length (digits (suc most) n)
+unfolding digits
+wide zero n h = go (ltb n 10)
+  where
+    go : (t : Bool) → 1 ≤ length (cond t (digit n ∷ []) (digits 0 (n / 10) ++ digit (n % 10) ∷ []))
+    go true = le-refl 1
+    go false = le-refl 1
+wide (suc most) n h =
+    let k = rw (pow-suc 10 most) at h in
+    rw (le-ltb n 10 (omega (arith, one-le-pow most 10 (omega arith)))) (omega (arith, length-append (digits (suc most) (n / 10)) (digit (n % 10) ∷ []), wide most (n / 10) (omega arith)))
+
+-- All the digits that can be written of such a number are, so that one that is read back with fewer is the one that was written.
+pub small-back : (most n m : ℕ) → 1 ≤ most → fieldOf (suc most) (digits (suc most) n) ≡ Number m → m < 10 ^ most → n ≡ m
+small-back most n m l h s = elim (decLe (10 ^ most) n) [
+  | yes w ↦ absurd (omega (arith, wide most n w, width (suc most) most m l s, ap length (number-read (suc most) (digits (suc most) n) m h)))
+  | no w ↦ let q = number-back (suc most) n (omega arith) (omega (arith, pow-suc 10 most)) in cc
+]

@@ -14,8 +14,9 @@ use Rattle.spec.specs.Record.{RunRecord, bench, recordBytes}
 use Rattle.spec.specs.Build.{playLog, recordOf, recordFor, built, build}
 use Rattle.spec.specs.Check.{readRecord}
 use Rattle.spec.specs.Replay.{readArrangement}
-use Rattle.spec.specs.Runs.{WithinLimits}
-use Rattle.spec.specs.Demand.{Builds, IsProcess, IsArrangement, Exactness}
+use Rattle.spec.specs.Arrange.{arrangementBytes}
+use Rattle.spec.specs.Runs.{KeepsOrder, WithinLimits}
+use Rattle.spec.specs.Exactness.{Builds, IsProcess, Exactness}
 use Rattle.runs.specs.Log.{record-events}
 use Rattle.runs.specs.Answers.{of-gives, of-bind}
 use Rattle.runs.specs.NetText.{net-text}
@@ -69,31 +70,31 @@ module _ (net : List ℕ) (N : Net) (accepted : readNet net ≡ gives N) where
       let p = log-played bench N (printed N L .transitions) (B .steps) (B .enabled) (within-fits N (B .steps) .0 (B .within)) in
       building log room l ∙ rw (B .written, p, B .named)
 
-  was-process : (text : List ℕ) (R : RunRecord) → readRecord bench N text ≡ gives R → IsProcess N text R
+  was-process : (text : List ℕ) (R : RunRecord) → readRecord bench N text ≡ gives R → (text ≡ recordBytes R) × IsProcess N R
   unfolding bench
   was-process text R h =
       let z = accepted-record bench N text R h in
       let F = z .0 .fits in
-      record { written = z .0 .written; events = F .events; conditions = F .conditions; marks = F .marks; wellFormed = z .0 .wellFormed; process = z .1 }
+      (z .0 .written, record { events = F .events; conditions = F .conditions; marks = F .marks; wellFormed = z .0 .wellFormed; process = z .1 })
 
-  is-process : (text : List ℕ) (R : RunRecord) → IsProcess N text R → readRecord bench N text ≡ gives R
+  is-process : (R : RunRecord) → IsProcess N R → readRecord bench N (recordBytes R) ≡ gives R
   unfolding bench
-  is-process text R I =
+  is-process R I =
       let F : Fits bench R = record { events = I .events; conditions = I .conditions; marks = I .marks } in
-      ap (readRecord bench N) (I .written) ∙ record-accepted bench N (printed N L) R (I .wellFormed) F (I .process)
+      record-accepted bench N (printed N L) R (I .wellFormed) F (I .process)
 
   replaying : (text : List ℕ) (R : RunRecord) → readRecord bench N text ≡ gives R → (arrangement : List ℕ) (lines : List (List ℕ))
-      → (readArrangement R arrangement ≡ gives lines) ↔ IsArrangement R arrangement lines
+      → (readArrangement R arrangement ≡ gives lines) ↔ ((arrangement ≡ arrangementBytes lines) × KeepsOrder R lines)
   replaying text R h arrangement lines =
-      let I = was-process text R h in (
-        λ q. let z = arrangement-exact N R (I .wellFormed) arrangement lines q in record { written = z .0; keeps = z .1 },
-        λ A. ap (readArrangement R) (A .written) ∙ arrangement-read N R (I .wellFormed) (omega (arith, I .events)) lines (A .keeps),
+      let I = was-process text R h .1 in (
+        arrangement-exact N R (I .wellFormed) arrangement lines,
+        λ A. ap (readArrangement R) (A .0) ∙ arrangement-read N R (I .wellFormed) (omega (arith, I .events)) lines (A .1),
       )
 
 pub exactness : Exactness
 exactness = record {
   reads = λ text N. (net-text text N, net-read text N);
   builds = λ net N h log bytes room l. (was-built net N h log bytes room l, is-built net N h log bytes room l);
-  checks = λ net N h text R. (was-process net N h text R, is-process net N h text R);
+  checks = λ net N h text R. (was-process net N h text R, λ I. ap (readRecord bench N) (I .0) ∙ is-process net N h R (I .1));
   replays = λ net N h. replaying net N h;
 }

@@ -5,7 +5,7 @@ use Prim.Native.Nat.{ℕ, _^_, _<_}
 use Prim.Native.Char.{Char, code}
 use native.Mathlib.Omega.{arith}
 use mathlib.Core.Bool.{Bool, true, false, cond}
-use mathlib.Core.List.{List, [], _∷_, _++_, map, append-nil, List·Memᴰ·eq-of-singleton, tail-eq-of-cons-eq}
+use mathlib.Core.List.{List, [], _∷_, _++_, map, append-nil, map-map, List·Memᴰ·eq-of-singleton, List·Memᴰ·not-nil, tail-eq-of-cons-eq}
 use lib.ListN.{length, getD, drop}
 use lib.Dec.{eqb}
 use borrow.Author.Tests.{eqb-true}
@@ -18,19 +18,31 @@ use Rattle.spec.specs.declared.Field.{Field}
 use Rattle.spec.specs.declared.Field.the-variants.{Number, Dash, Wrong, Absent}
 use Rattle.lists.specs.Laws.{here, there, clash, and-true, every-in}
 use Rattle.runs.specs.Bytes.{other-class, comma-is, dash-is, Letter}
-use Rattle.runs.specs.Digits.{written, number-back, number-is}
+use Rattle.runs.specs.Digits.{digits-all, number-back, number-is, small-back}
 
 -- ---- fields
 
+-- a number below b, or a dash
+abbrev pub FieldBelow : ℕ → Field → Type 0
+FieldBelow b (Number n) = n < b
+FieldBelow b Dash = Unit {0}
+FieldBelow b Wrong = ⊥
+FieldBelow b Absent = ⊥
+
 -- a field that can be written: a number of at most `mostDigits` digits, or a dash
 abbrev pub Writable : Field → Type 0
-Writable (Number n) = n < 10 ^ mostDigits
-Writable Dash = Unit {0}
-Writable Wrong = ⊥
-Writable Absent = ⊥
+Writable f = FieldBelow (10 ^ mostDigits) f
 
-pub field-back : (f : Field) → Writable f → fieldOf mostDigits (fieldBytes f) ≡ f
-unfolding fieldBytes
+-- a number of fewer digits, or a dash
+abbrev pub Small : Field → Type 0
+Small f = FieldBelow 1000 f
+
+-- a field once it is written and read
+unfoldable pub again : Field → Field
+again f = fieldOf mostDigits (fieldBytes f)
+
+pub field-back : (f : Field) → Writable f → again f ≡ f
+unfolding again fieldBytes
 field-back (Number n) w = number-back mostDigits n (omega arith) w
 field-back Dash w = unfold fieldOf isNumber needlessZero digitOf every isDash isA alike classOf named inDigits in refl
 field-back Wrong w = absurd w
@@ -55,18 +67,40 @@ field-is p h = go (isNumber mostDigits p) (isDash p) refl refl h
     go false true a b h = sym (dash-bytes p b)
     go false false a b h = clash h refl
 
+small-writable : (f : Field) → Small f → Writable f
+small-writable (Number n) s = omega arith
+small-writable Dash s = tt
+small-writable Wrong s = s
+small-writable Absent s = s
+
+-- what is read as a small field was written for it
+small-kept : (f : Field) → Small (again f) → again f ≡ f
+unfolding again fieldBytes
+small-kept (Number n) s = go (fieldOf mostDigits (digits mostDigits n)) refl s
+  where
+    go : (g : Field) → fieldOf mostDigits (digits mostDigits n) ≡ g → Small g → g ≡ Number n
+    go (Number m) e s = ap Number (sym (small-back 3 n m (omega arith) e s))
+    go Dash e s =
+        let q : code "-" ∷ [] ≡ digits mostDigits n = rw e at (field-is (digits mostDigits n) (rw e)) in
+        clash (rw (← q) at (digits-all mostDigits n)) (unfold every isA alike classOf named inDigits in refl)
+    go Wrong e s = absurd s
+    go Absent e s = absurd s
+small-kept Dash s = field-back Dash tt
+small-kept Wrong s = absurd (unfold fieldOf isNumber isDash in s)
+small-kept Absent s = absurd (unfold fieldOf isNumber isDash in s)
+
 -- ---- pieces
 
 -- no byte of the list is of the class
 abbrev pub Lacks : Class → List ℕ → Type 0
 Lacks k bs = (b : ℕ) → In b bs → isA k b ≡ false
 
-pub field-lacks : (k : Class) → alike Digit k ≡ false → alike DashByte k ≡ false → (f : Field) → Writable f → Lacks k (fieldBytes f)
+pub field-lacks : (k : Class) → alike Digit k ≡ false → alike DashByte k ≡ false → (f : Field) → Lacks k (fieldBytes f)
 unfolding fieldBytes
-field-lacks k d h (Number n) w b m = other-class Digit k d b (every-in (isA Digit) (digits mostDigits n) (written mostDigits n (omega arith) w .all) b m)
-field-lacks k d h Dash w b m = rw (List·Memᴰ·eq-of-singleton m) (other-class DashByte k h (code "-") (unfold isA alike classOf named inDigits in refl))
-field-lacks k d h Wrong w b m = absurd w
-field-lacks k d h Absent w b m = absurd w
+field-lacks k d h (Number n) b m = other-class Digit k d b (every-in (isA Digit) (digits mostDigits n) (digits-all mostDigits n) b m)
+field-lacks k d h Dash b m = rw (List·Memᴰ·eq-of-singleton m) (other-class DashByte k h (code "-") (unfold isA alike classOf named inDigits in refl))
+field-lacks k d h Wrong b m = absurd (List·Memᴰ·not-nil m)
+field-lacks k d h Absent b m = absurd (List·Memᴰ·not-nil m)
 
 comma-parts : isA Comma (code ",") ≡ true
 unfolding isA alike classOf named inDigits
@@ -82,17 +116,12 @@ unfolding pieces grow
 piece-back [] rest w = rw comma-parts
 piece-back (b ∷ bs) rest w = rw (w b here, piece-back bs rest (λ x m. w x (there m)))
 
--- every field can be written
-abbrev pub AllWritable : List Field → Type 0
-AllWritable [] = Unit {0}
-AllWritable (f ∷ fs) = Writable f × AllWritable fs
-
-pieces-back : (p : List ℕ) (fs : List Field) → Lacks Comma p → AllWritable fs → pieces (p ++ fieldsBytes fs) ≡ p ∷ map fieldBytes fs
+pieces-back : (p : List ℕ) (fs : List Field) → Lacks Comma p → pieces (p ++ fieldsBytes fs) ≡ p ∷ map fieldBytes fs
 unfolding fieldsBytes alike
-pieces-back p [] l w = ap pieces (append-nil p) ∙ last-piece p l
-pieces-back p (f ∷ fs) l w =
+pieces-back p [] l = ap pieces (append-nil p) ∙ last-piece p l
+pieces-back p (f ∷ fs) l =
     piece-back p (fieldBytes f ++ fieldsBytes fs) l
-    ∙ ap (λ (ps : List (List ℕ)). p ∷ ps) (pieces-back (fieldBytes f) fs (field-lacks Comma refl refl f (w .0)) (w .1))
+    ∙ ap (λ (ps : List (List ℕ)). p ∷ ps) (pieces-back (fieldBytes f) fs (field-lacks Comma refl refl f))
 
 -- pieces, each led by a comma
 unfoldable led : List (List ℕ) → List ℕ
@@ -123,9 +152,28 @@ led-fields (f ∷ fs) = ap (λ (l : List ℕ). code "," ∷ fieldBytes f ++ l) (
 unfoldable pub body : Char → List Field → List ℕ
 body c fs = code c ∷ fieldsBytes fs
 
-fields-map : (fs : List Field) → AllWritable fs → map (fieldOf mostDigits) (map fieldBytes fs) ≡ fs
-fields-map [] w = refl
-fields-map (f ∷ fs) w = ap₂ (λ (x : Field) (xs : List Field). x ∷ xs) (field-back f (w .0)) (fields-map fs (w .1))
+abbrev pub FieldsBelow : ℕ → List Field → Type 0
+FieldsBelow b [] = Unit {0}
+FieldsBelow b (f ∷ fs) = FieldBelow b f × FieldsBelow b fs
+
+-- every field can be written, every field is small
+abbrev pub AllWritable : List Field → Type 0
+AllWritable fs = FieldsBelow (10 ^ mostDigits) fs
+
+abbrev pub AllSmall : List Field → Type 0
+AllSmall fs = FieldsBelow 1000 fs
+
+pub again-all : (fs : List Field) → AllWritable fs → map again fs ≡ fs
+again-all [] w = refl
+again-all (f ∷ fs) w = ap₂ (λ (x : Field) (xs : List Field). x ∷ xs) (field-back f (w .0)) (again-all fs (w .1))
+
+pub smalls-writable : (fs : List Field) → AllSmall fs → AllWritable fs
+smalls-writable [] s = tt
+smalls-writable (f ∷ fs) s = (small-writable f (s .0), smalls-writable fs (s .1))
+
+pub smalls-kept : (fs : List Field) → AllSmall (map again fs) → map again fs ≡ fs
+smalls-kept [] s = refl
+smalls-kept (f ∷ fs) s = ap₂ (λ (x : Field) (xs : List Field). x ∷ xs) (small-kept f (s .0)) (smalls-kept fs (s .1))
 
 map-fields : (ps : List (List ℕ)) → every aNumberOrDash (map (fieldOf mostDigits) ps) ≡ true → map fieldBytes (map (fieldOf mostDigits) ps) ≡ ps
 unfolding every
@@ -135,17 +183,20 @@ map-fields (p ∷ ps) h =
     ap₂ (λ (q : List ℕ) (qs : List (List ℕ)). q ∷ qs) (field-is p (z .0)) (map-fields ps (z .1))
 
 module _ {c : Char} {k : Class} (L : Letter c k) where
-  body-pieces : (fs : List Field) → AllWritable fs → pieces (body c fs) ≡ (code c ∷ []) ∷ map fieldBytes fs
+  body-pieces : (fs : List Field) → pieces (body c fs) ≡ (code c ∷ []) ∷ map fieldBytes fs
   unfolding body
-  body-pieces fs w = pieces-back (code c ∷ []) fs (λ b m. rw (List·Memᴰ·eq-of-singleton m) (L .noComma)) w
+  body-pieces fs = pieces-back (code c ∷ []) fs (λ b m. rw (List·Memᴰ·eq-of-singleton m) (L .noComma))
 
-  pub letter-back : (fs : List Field) → AllWritable fs → letterIn (body c fs) ≡ k
+  pub letter-back : (fs : List Field) → letterIn (body c fs) ≡ k
   unfolding letterIn letterOf
-  letter-back fs w = rw (body-pieces fs w) (L .class)
+  letter-back fs = rw (body-pieces fs) (L .class)
+
+  pub fields-again : (fs : List Field) → fieldsOf mostDigits (body c fs) ≡ map again fs
+  unfolding fieldsOf again
+  fields-again fs = rw (body-pieces fs) (map-map (fieldOf mostDigits) fieldBytes fs)
 
   pub fields-back : (fs : List Field) → AllWritable fs → fieldsOf mostDigits (body c fs) ≡ fs
-  unfolding fieldsOf
-  fields-back fs w = rw (body-pieces fs w) (fields-map fs w)
+  fields-back fs w = fields-again fs ∙ again-all fs w
 
   -- the first piece of a line with this letter
   letter-piece : (p : List ℕ) → alike (letterOf p) k ≡ true → p ≡ code c ∷ []

@@ -16,7 +16,7 @@ use Rattle.spec.specs.Process.{Process, WellFormed}
 use Rattle.spec.specs.Arrangement.{index}
 use Rattle.spec.specs.Arrange.{Chain, alone, weakly, strictly, prolonged, longest, levels, lineCount, onLine, arrangedLines}
 use Rattle.spec.specs.Runs.{KeepsOrder}
-use Rattle.spec.specs.Demand.{Longest}
+use Rattle.spec.specs.Computed.{Longest}
 use Rattle.order.specs.Below.{maxBelow, max-same}
 use Rattle.order.specs.Order.{Order}
 use Rattle.order.specs.Level.{lev, lev-keeps, lev-dense}

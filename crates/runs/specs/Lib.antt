@@ -30,9 +30,14 @@ pub mod Growth
 pub mod ReadLog
 pub mod Unbroken
 pub mod ReadArrangement
+pub mod Injective
 pub mod Exactness
+pub mod Operations
 pub mod Levels
 pub mod Computed
 pub mod Demand
 pub mod Drive
+pub mod Within
+pub mod ReaderSpots
 pub mod Spots
+pub mod Summary

@@ -1,8 +1,9 @@
 -- The forms of lines: a line that is written has its form and its values, and a line of a form is what is written for
 -- its values.
 use mathlib.Core.Path.{_≡_, refl, ap, ap₂, _∙_}
-use Prim.Native.Nat.{ℕ, suc, _^_, _<_}
+use Prim.Native.Nat.{ℕ, suc, _^_, _≤_, _<_}
 use Prim.Native.Char.{Char}
+use native.Mathlib.Nat.{le-trans}
 use native.Mathlib.Decide.{decLe}
 use native.Mathlib.Omega.{arith}
 use mathlib.Core.Bool.{Bool, true, false, cond}
@@ -10,18 +11,19 @@ use mathlib.Core.Option.{Option, none, some}
 use mathlib.Core.List.{List, [], _∷_, map, Memᴰ·of-map}
 use lib.ListN.{length, getD, drop, length-map, List·getD-eq-default}
 use lib.Dec.{leb}
-use borrow.Author.Tests.{leb-true, le-leb, eq-eqb}
+use borrow.Author.Tests.{ltb-true, leb-true, le-leb, eq-eqb}
 use Rattle.spec.specs.Lists.{In, from, upTo, every}
 use Rattle.spec.specs.Text.{alike, classCode, mostDigits, pieces, isNumber, isDash, valueFrom, fieldOf, letterIn, fieldsOf, rowOf}
 use Rattle.spec.specs.Forms.{aNumber, aNumberOrDash, absent, valueOf, isAlone, isOne, isTwo, isThree, isList, numbersOf}
 use Rattle.spec.specs.Record.{eventField}
+use Rattle.spec.specs.Process.{below}
 use Rattle.spec.specs.Check.{eventOf}
 use Rattle.spec.specs.declared.Class.{Class}
 use Rattle.spec.specs.declared.Field.{Field}
 use Rattle.spec.specs.declared.Field.the-variants.{Number, Dash, Wrong, Absent}
 use Rattle.lists.specs.Laws.{here, there, clash, and-true, and-three, and-four, and-five, every-in, in-every, at-in, tabled}
 use Rattle.runs.specs.Bytes.{Letter}
-use Rattle.runs.specs.Fields.{AllWritable, body, letter-back, fields-back, body-is}
+use Rattle.runs.specs.Fields.{FieldBelow, FieldsBelow, AllWritable, body, letter-back, fields-back, body-is}
 
 -- ---- fields
 
@@ -47,6 +49,11 @@ pub event-back : (o : Option ℕ) → eventOf (eventField o) ≡ o
 unfolding eventField
 event-back none = refl
 event-back (some e) = refl
+
+pub event-below : (n b : ℕ) (o : Option ℕ) → n ≤ b → below n o ≡ true → FieldBelow b (eventField o)
+unfolding below eventField
+event-below n b none l h = tt
+event-below n b (some e) l h = le-trans (ltb-true e n h) l
 
 present : (f : Field) → aNumberOrDash f ≡ true → absent f ≡ false
 present (Number n) h = refl
@@ -99,7 +106,7 @@ module _ {c : Char} {k : Class} (L : Letter c k) where
   pub row-back : (fs : List Field) → AllWritable fs
       → rowOf mostDigits (body c fs) ≡ record { letter = k; first = getD fs 0 Absent; second = getD fs 1 Absent; third = getD fs 2 Absent; fourth = getD fs 3 Absent }
   unfolding rowOf
-  row-back fs w = rw (letter-back L fs w, fields-back L fs w)
+  row-back fs w = rw (letter-back L fs, fields-back L fs w)
 
   form-is : (l : List ℕ) (fs : List Field) → alike (letterIn l) k ≡ true → fieldsOf mostDigits l ≡ fs → every aNumberOrDash fs ≡ true → l ≡ body c fs
   form-is l fs h e a = body-is L l h (rw e a) ∙ ap (body c) e
@@ -135,16 +142,16 @@ module _ {c : Char} {k : Class} (L : Letter c k) where
 
 -- ---- a letter and a list of numbers
 
-pub numbers-writable : (ns : List ℕ) → ((n : ℕ) → In n ns → n < 10 ^ mostDigits) → AllWritable (map Number ns)
-numbers-writable [] h = tt
-numbers-writable (n ∷ ns) h = (h n here, numbers-writable ns (λ m i. h m (there i)))
+pub numbers-below : (b : ℕ) (ns : List ℕ) → ((n : ℕ) → In n ns → n < b) → FieldsBelow b (map Number ns)
+numbers-below b [] h = tt
+numbers-below b (n ∷ ns) h = (h n here, numbers-below b ns (λ m i. h m (there i)))
 
 all-numbers : (ns : List ℕ) → every aNumber (map Number ns) ≡ true
 unfolding every
 all-numbers [] = refl
 all-numbers (n ∷ ns) = all-numbers ns
 
-values : (ns : List ℕ) → map valueOf (map Number ns) ≡ ns
+pub values : (ns : List ℕ) → map valueOf (map Number ns) ≡ ns
 values [] = refl
 values (n ∷ ns) = ap (λ (l : List ℕ). n ∷ l) (values ns)
 
@@ -158,9 +165,9 @@ module _ {c : Char} {k : Class} (L : Letter c k) where
       → (isList mostDigits k (body c (map Number ns)) ≡ true) × (numbersOf mostDigits (body c (map Number ns)) ≡ ns)
   unfolding isList numbersOf alike
   list-back ns l h =
-      let w = numbers-writable ns h in
+      let w = numbers-below (10 ^ mostDigits) ns h in
       let n = le-leb 1 (length (map Number ns)) (omega (arith, length-map ns Number)) in (
-        rw (letter-back L (map Number ns) w, fields-back L (map Number ns) w, eq-eqb (classCode k) (classCode k) refl, n) (all-numbers ns),
+        rw (letter-back L (map Number ns), fields-back L (map Number ns) w, eq-eqb (classCode k) (classCode k) refl, n) (all-numbers ns),
         rw (fields-back L (map Number ns) w) (values ns),
       )
 

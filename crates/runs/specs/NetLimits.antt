@@ -2,14 +2,16 @@
 use mathlib.Core.Path.{_≡_, refl, ap}
 use Prim.Native.Nat.{ℕ, _≤_, zero-le}
 use native.Mathlib.Omega.{arith}
-use mathlib.Core.List.{List, [], _∷_}
+use mathlib.Core.List.{List, [], _∷_, List·Memᴰ·head, List·Memᴰ·tail}
 use lib.ListN.{length-append}
 use Rattle.spec.specs.Lists.{sum}
 use Rattle.spec.specs.Answer.{gives}
-use Rattle.spec.specs.Net.{Net, places, withPlace, withTransition, withArc, emptyNet, readNet}
+use Rattle.spec.specs.Text.{Line, linesOf}
+use Rattle.spec.specs.Net.{Net, places, withPlace, withTransition, withArc, emptyNet, netOf, readNet}
 use Rattle.spec.specs.NetText.{Declaration, place, transition, arc, declare, declareAll, Allowed}
+use Rattle.spec.specs.Exactness.{DeclarationBelow, DeclarationsBelow}
 use Rattle.lists.specs.Arrays.{sum-more}
-use Rattle.runs.specs.NetText.{Sound, net-text}
+use Rattle.runs.specs.NetText.{Sound, net-lines}
 
 pub record NetLimits (N : Net) : Type 0 where
   pub places : places N ≤ 32
@@ -30,6 +32,11 @@ declare-keeps n (place v) L a = record {
 declare-keeps n transition L a = record { places = L .places; transitions = omega arith; tokens = L .tokens }
 declare-keeps n (arc x p t) L a = record { places = L .places; transitions = L .transitions; tokens = L .tokens }
 
+allowed-below : (n : Net) (d : Declaration) → NetLimits n → Allowed n d → DeclarationBelow 1000 d
+allowed-below n (place v) L a = omega (arith, a .1)
+allowed-below n transition L a = tt
+allowed-below n (arc x p t) L a = (omega (arith, a .0, L .places), omega (arith, a .1, L .transitions))
+
 sound-keeps : (n : Net) (ds : List Declaration) → NetLimits n → Sound n ds → NetLimits (declareAll n ds)
 unfolding declareAll
 sound-keeps n [] L S = L
@@ -38,5 +45,20 @@ sound-keeps n (d ∷ ds) L S = sound-keeps (declare n d) ds (declare-keeps n d L
 pub sound-limits : (ds : List Declaration) → Sound emptyNet ds → NetLimits (declareAll emptyNet ds)
 sound-limits ds S = sound-keeps emptyNet ds no-net S
 
+-- the numbers of sound declarations have at most three digits
+sound-below : (n : Net) (ds : List Declaration) → NetLimits n → Sound n ds → DeclarationsBelow 1000 ds
+unfolding declareAll
+sound-below n (d ∷ ds) L S e (List·Memᴰ·head q) = rw q (allowed-below n d L (S [] ds d refl))
+sound-below n (d ∷ ds) L S e (List·Memᴰ·tail m) =
+    sound-below (declare n d) ds (declare-keeps n d L (S [] ds d refl)) (λ above below x h. S (d ∷ above) below x (ap (λ (es : List Declaration). d ∷ es) h)) e m
+
+pub sound-small : (ds : List Declaration) → Sound emptyNet ds → DeclarationsBelow 1000 ds
+sound-small ds S = sound-below emptyNet ds no-net S
+
+-- the lines of a text, or of a part of one
+pub lines-limits : (ls : List Line) (N : Net) → netOf ls ≡ gives N → NetLimits N
+lines-limits ls N h = let I = net-lines ls N h in rw (I .named) (sound-limits (I .lines) (I .sound))
+
 pub net-limits : (text : List ℕ) (N : Net) → readNet text ≡ gives N → NetLimits N
-net-limits text N h = let I = net-text text N h in rw (I .named) (sound-limits (I .lines) (I .sound))
+unfolding readNet
+net-limits text N h = lines-limits (linesOf text) N h

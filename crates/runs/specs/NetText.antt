@@ -6,7 +6,7 @@ use Prim.Native.Nat.{ℕ, _+_, _<_}
 use native.Mathlib.Omega.{arith}
 use mathlib.Core.Bool.{true, not}
 use mathlib.Core.Option.{none}
-use mathlib.Core.List.{List, [], _∷_, _++_, head-eq-of-cons-eq, tail-eq-of-cons-eq}
+use mathlib.Core.List.{List, [], _∷_, _++_, map, head-eq-of-cons-eq, tail-eq-of-cons-eq}
 use lib.ListN.{length, length-append}
 use lib.Dec.{ltb, leb}
 use borrow.Author.Tests.{ltb-true, ltb-false, leb-false}
@@ -16,7 +16,7 @@ use Rattle.spec.specs.Text.{Line, linesOf, byLines, rowOf, mostDigits}
 use Rattle.spec.specs.Forms.{isAlone, isOne, isTwo, valueOf}
 use Rattle.spec.specs.Net.{Net, places, joined, takes, makes, addPlace, addTransition, addArc, addRow, addLine, emptyNet, lacking, whole, netOf, readNet}
 use Rattle.spec.specs.NetText.{Declaration, place, transition, arc, declarationLine, netBytes, declare, declareAll, declared, Allowed, Complete}
-use Rattle.spec.specs.Demand.{IsNet}
+use Rattle.spec.specs.Exactness.{IsNet}
 use Rattle.spec.specs.declared.ArcKind.{ArcKind}
 use Rattle.spec.specs.declared.ArcKind.the-variants.{Input, Output, Inhibitor}
 use Rattle.spec.specs.declared.Class.the-variants.{LetterP, LetterT, LetterI, LetterO, LetterH}
@@ -24,8 +24,8 @@ use Rattle.lists.specs.Laws.{and-true, or-false, false-or, not-is-false, count-
 use Rattle.runs.specs.Bytes.{P-letter, T-letter, I-letter, O-letter, H-letter}
 use Rattle.runs.specs.LineForms.{alone-is, one-is, two-is}
 use Rattle.runs.specs.Answers.{of-gives, not-refused, of-bind, of-when, of-lowest, of-cond}
-use Rattle.runs.specs.Texts.{lineBytes, ended-line}
-use Rattle.runs.specs.Readers.{text-keeps}
+use Rattle.runs.specs.Texts.{lineBytes, text-is, ended-line}
+use Rattle.runs.specs.Readers.{lines-keep}
 
 -- ---- one declaration more
 
@@ -142,10 +142,15 @@ complete-is n = (
   λ C. none-lowest (lacking n) (n .transitions) (λ t l. false-or (ap not (has-arc n Input t .1 (C .input t l))) (ap not (has-arc n Output t .1 (C .output t l)))),
 )
 
-pub net-text : (text : List ℕ) (N : Net) → readNet text ≡ gives N → IsNet text N
-unfolding readNet netOf whole
-net-text text N h =
-    let z = of-bind (byLines addLine 1 (linesOf text) emptyNet) _ h in
+-- the lines of a text, or of a part of one
+pub net-lines : (ls : List Line) (N : Net) → netOf ls ≡ gives N → IsNet (flat (map lineBytes ls)) N
+unfolding netOf whole
+net-lines ls N h =
+    let z = of-bind (byLines addLine 1 ls emptyNet) _ h in
     let y = of-lowest 15 (lowest (lacking (z .0)) (z .0 .transitions)) (gives (z .0)) (z .2) in
-    let D = text-keeps addLine (λ k n done. Declared n done) line-declared 1 text emptyNet (z .0) (z .1) nothing .1 in
-    subst (IsNet text) (of-gives (y .1)) (record { lines = D .lines; written = D .written; sound = D .sound; complete = complete-is (z .0) .0 (y .0); named = D .named })
+    let D = lines-keep addLine (λ k n done. Declared n done) line-declared 1 ls emptyNet (z .0) [] (z .1) nothing .1 in
+    subst (IsNet (flat (map lineBytes ls))) (of-gives (y .1)) (record { lines = D .lines; written = D .written; sound = D .sound; complete = complete-is (z .0) .0 (y .0); named = D .named })
+
+pub net-text : (text : List ℕ) (N : Net) → readNet text ≡ gives N → IsNet text N
+unfolding readNet
+net-text text N h = subst (λ bytes. IsNet bytes N) (text-is text) (net-lines (linesOf text) N h)

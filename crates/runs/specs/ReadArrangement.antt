@@ -26,7 +26,7 @@ use Rattle.spec.specs.Runs.{KeepsOrder}
 use Rattle.spec.specs.declared.Field.the-variants.{Number}
 use Rattle.lists.specs.Laws.{or-false, not-is-false, true-or-false, any-none, member-is, count-append, count-cons, count-none, eqb-count, neqb-count, one-le, lowest-none, none-lowest, flat-append, flat-in, flat-map-snoc, index-snoc, flat-snoc, all-below}
 use Rattle.runs.specs.Bytes.{G-letter}
-use Rattle.runs.specs.LineForms.{numbers-writable, list-back}
+use Rattle.runs.specs.LineForms.{list-back}
 use Rattle.runs.specs.Answers.{of-gives, of-bind, of-when, of-lowest}
 use Rattle.runs.specs.Texts.{lineBytes, ended-list}
 use Rattle.runs.specs.Readers.{Takes, takes-line, takes-end, takes-all, text-keeps}
@@ -43,7 +43,7 @@ no-repeats (x ∷ es) h = elim (true-or-false (member x es)) [
   | inr a ↦ rw a (no-repeats es (λ e. omega (arith, h e, count-cons (eqb e) x es)))
 ]
 
-once-each : (es : List ℕ) → repeats es ≡ false → (e : ℕ) → count (eqb e) es ≤ 1
+pub once-each : (es : List ℕ) → repeats es ≡ false → (e : ℕ) → count (eqb e) es ≤ 1
 unfolding repeats count member
 once-each [] h e = zero-le
 once-each (x ∷ es) h e =
@@ -55,13 +55,13 @@ once-each (x ∷ es) h e =
 
 -- ---- lines that meet none of 41 to 44
 
-record Lined (R : RunRecord) (lines : List (List ℕ)) : Type 0 where
-  full : (k : ℕ) → k < length lines → 0 < length (getD lines k [])
-  known : (e : ℕ) → In e (flat lines) → e < length (R .events)
-  once : (e : ℕ) → count (eqb e) (flat lines) ≤ 1
-  unbroken : (k : ℕ) → k < length lines → breaks R (flat (take k lines)) (getD lines k []) ≡ false
+pub record Lined (R : RunRecord) (lines : List (List ℕ)) : Type 0 where
+  pub full : (k : ℕ) → k < length lines → 0 < length (getD lines k [])
+  pub known : (e : ℕ) → In e (flat lines) → e < length (R .events)
+  pub once : (e : ℕ) → count (eqb e) (flat lines) ≤ 1
+  pub unbroken : (k : ℕ) → k < length lines → breaks R (flat (take k lines)) (getD lines k []) ≡ false
 
-lined-snoc : (R : RunRecord) (lines : List (List ℕ)) (es : List ℕ) → Lined R lines → 0 < length es → any (leb (length (R .events))) es ≡ false
+pub lined-snoc : (R : RunRecord) (lines : List (List ℕ)) (es : List ℕ) → Lined R lines → 0 < length es → any (leb (length (R .events))) es ≡ false
     → repeats (flat lines ++ es) ≡ false → breaks R (flat lines) es ≡ false → Lined R (lines ++ es ∷ [])
 lined-snoc R lines es L l a b c = record {
   full = index-snoc (λ k l. 0 < length l) [] lines es (L .full) l;
@@ -115,7 +115,7 @@ module _ (R : RunRecord) (small : length (R .events) ≤ 10 ^ mostDigits) where
   group-read k lines es l K o b =
       let w : (e : ℕ) → In e es → e < 10 ^ mostDigits = λ e m. le-trans (K e m) small in
       let r = list-back G-letter es l w in
-      takes-line G-letter (map Number es) (numbers-writable es w)
+      takes-line G-letter (map Number es)
       (rw (r .0, r .1, all-below (length (R .events)) es .1 K, no-repeats (flat lines ++ es) o, b))
 
   lines-read : (lines : List (List ℕ)) → Lined R lines → byLines (groupsLine R) 1 (linesOf (arrangementBytes lines)) [] ≡ gives lines
@@ -138,12 +138,9 @@ record IsLined (R : RunRecord) (text : List ℕ) (lines : List (List ℕ)) : Typ
   written : text ≡ arrangementBytes lines
   lined : Lined R lines
 
-no-lines : (R : RunRecord) → IsLined R [] []
-unfolding arrangementBytes flat count
-no-lines R = record {
-  written = refl;
-  lined = record { full = λ k l. absurd (not-suc-le-zero l); known = λ e m. absurd (List·Memᴰ·not-nil m); once = λ e. zero-le; unbroken = λ k l. absurd (not-suc-le-zero l) };
-}
+pub no-lines : (R : RunRecord) → Lined R []
+unfolding flat count
+no-lines R = record { full = λ k l. absurd (not-suc-le-zero l); known = λ e m. absurd (List·Memᴰ·not-nil m); once = λ e. zero-le; unbroken = λ k l. absurd (not-suc-le-zero l) }
 
 group-lined : (R : RunRecord) (k : ℕ) (l : Line) (lines more : List (List ℕ)) (done : List ℕ) → groupsLine R k l lines ≡ gives more → IsLined R done lines
     → IsLined R (done ++ lineBytes l) more
@@ -166,5 +163,5 @@ module _ (N : Net) (R : RunRecord) (W : WellFormed N R) where
   arrangement-exact text lines h =
       let z = of-bind (byLines (groupsLine R) 1 (linesOf text) []) _ h in
       let y = of-lowest 45 (lowest (missing (z .0)) (length (R .events))) (gives (z .0)) (z .2) in
-      let I = text-keeps (groupsLine R) (λ k gs done. IsLined R done gs) (group-lined R) 1 text [] (z .0) (z .1) (no-lines R) .1 in
+      let I = text-keeps (groupsLine R) (λ k gs done. IsLined R done gs) (group-lined R) 1 text [] (z .0) (z .1) (record { written = unfold arrangementBytes flat in refl; lined = no-lines R }) .1 in
       subst (λ lines. (text ≡ arrangementBytes lines) × KeepsOrder R lines) (of-gives (y .1)) (I .written, lined-keeps N R W (z .0) (I .lined) (y .0))

@@ -21,10 +21,10 @@ use Rattle.spec.specs.declared.Limits.{Limits}
 use Rattle.lists.specs.Laws.{not-is-false, all-below, flat-map-snoc, index-snoc}
 use Rattle.runs.specs.Bytes.{S-letter}
 use Rattle.runs.specs.Fields.{body}
-use Rattle.runs.specs.LineForms.{numbers-writable, list-back}
+use Rattle.runs.specs.LineForms.{list-back}
 use Rattle.runs.specs.Answers.{of-gives, of-when}
-use Rattle.runs.specs.Texts.{lineBytes, ended, ended-list}
-use Rattle.runs.specs.Readers.{Takes, takes-line, takes-end, takes-all, text-keeps}
+use Rattle.runs.specs.Texts.{lineBytes, text-is, ended, ended-list}
+use Rattle.runs.specs.Readers.{Takes, takes-line, takes-end, takes-all, lines-keep}
 use Rattle.runs.specs.ReadRecord.{Fits}
 use Rattle.runs.specs.Steps.{enabled-tests}
 use Rattle.runs.specs.Log.{run-marking}
@@ -60,7 +60,7 @@ module _ (lim : Limits) (N : Net) (small : N .transitions ≤ 10 ^ mostDigits) w
         let marking : markingAt N steps (length s) ≡ runOf N s .marking = sym (run-marking N steps (length s)) ∙ ap (λ (z : List (List ℕ)). runOf N z .marking) before in
         let known : (x : ℕ) → In x ts → x < N .transitions = λ x m. E .known (length s) x l (rw here m) in
         let fits : Fits lim (recordFor N (s ++ ts ∷ [])) = fits-beginning lim N (s ++ ts ∷ []) t (rw (append-snoc s ts t, ← e) F) in
-        takes-line S-letter (map Number ts) (numbers-writable ts (λ x m. le-trans (known x m) small))
+        takes-line S-letter (map Number ts)
         (line-played (1 + length s) ts (runOf N s) (rw here at (E .full (length s) l)) known (rw (here, marking) at (E .enabled (length s) l)) (rw (run-snoc N s ts) at fits)
         ∙ ap gives (sym (run-snoc N s ts)))
 
@@ -134,9 +134,14 @@ module _ (lim : Limits) (N : Net) where
         marks = ltb-false (lim .marks) _ (g .0);
       })))
 
+  -- the lines of a text, or of a part of one
+  pub lines-exact : Fits lim (recordFor N []) → (ls : List Line) (r : Run) → playLog lim N ls ≡ gives r
+      → (steps : List (List ℕ)) × (flat (map lineBytes ls) ≡ logBytes steps) × EnabledSequence N steps × (r ≡ runOf N steps) × Fits lim (recordFor N steps)
+  unfolding playLog
+  lines-exact F ls r h =
+      let I = lines-keep (logLine lim N) (IsLog lim N) line-logged 1 ls (start N) r [] h (no-steps lim N F) .1 in
+      (I .steps, I .written, I .enabled, I .run, I .fits)
+
   pub log-exact : Fits lim (recordFor N []) → (log : List ℕ) (r : Run) → playLog lim N (linesOf log) ≡ gives r
       → (steps : List (List ℕ)) × (log ≡ logBytes steps) × EnabledSequence N steps × (r ≡ runOf N steps) × Fits lim (recordFor N steps)
-  unfolding playLog
-  log-exact F log r h =
-      let I = text-keeps (logLine lim N) (IsLog lim N) line-logged 1 log (start N) r h (no-steps lim N F) .1 in
-      (I .steps, I .written, I .enabled, I .run, I .fits)
+  log-exact F log r h = let z = lines-exact F (linesOf log) r h in (z .0, sym (text-is log) ∙ z .1, z .2, z .3, z .4)

@@ -10,7 +10,7 @@ use Rattle.spec.specs.Text.{linesOf, byLines, alike, mostDigits}
 use Rattle.spec.specs.Forms.{isAlone, isOne, isTwo}
 use Rattle.spec.specs.Net.{Net, places, withArc, addPlace, addTransition, addArc, addRow, addLine, emptyNet, whole, netOf, readNet}
 use Rattle.spec.specs.NetText.{Declaration, place, transition, arc, declarationLine, netBytes, declare, declareAll, declared, Allowed}
-use Rattle.spec.specs.Demand.{IsNet}
+use Rattle.spec.specs.Exactness.{IsNet}
 use Rattle.spec.specs.declared.ArcKind.{ArcKind}
 use Rattle.spec.specs.declared.ArcKind.the-variants.{Input, Output, Inhibitor}
 use Rattle.spec.specs.declared.Field.the-variants.{Number}
@@ -35,23 +35,23 @@ module _ (k : ℕ) (n : Net) (L : NetLimits n) where
   line-taken (place v) a =
       let fs = Number v ∷ [] in
       let w : AllWritable fs = (omega (arith, a .1), tt) in
-      takes-line P-letter fs w (rw (row-back P-letter fs w, lt-leb 32 (places n) (a .0), le-ltb 512 (sum (n .tokens) + v) (a .1)))
-  line-taken transition a = takes-line T-letter [] tt (rw (row-back T-letter [] tt, lt-leb 32 (n .transitions) a))
+      takes-line P-letter fs (rw (row-back P-letter fs w, lt-leb 32 (places n) (a .0), le-ltb 512 (sum (n .tokens) + v) (a .1)))
+  line-taken transition a = takes-line T-letter [] (rw (row-back T-letter [] tt, lt-leb 32 (n .transitions) a))
   line-taken (arc Input p t) a =
       let fs = Number p ∷ Number t ∷ [] in
       let e = ends p t (a .0) (a .1) in
       let w : AllWritable fs = (e .0, (e .1, tt)) in
-      takes-line I-letter fs w (rw (row-back I-letter fs w) (arc-added Input p t a))
+      takes-line I-letter fs (rw (row-back I-letter fs w) (arc-added Input p t a))
   line-taken (arc Output p t) a =
       let fs = Number t ∷ Number p ∷ [] in
       let e = ends p t (a .0) (a .1) in
       let w : AllWritable fs = (e .1, (e .0, tt)) in
-      takes-line O-letter fs w (rw (row-back O-letter fs w) (arc-added Output p t a))
+      takes-line O-letter fs (rw (row-back O-letter fs w) (arc-added Output p t a))
   line-taken (arc Inhibitor p t) a =
       let fs = Number p ∷ Number t ∷ [] in
       let e = ends p t (a .0) (a .1) in
       let w : AllWritable fs = (e .0, (e .1, tt)) in
-      takes-line H-letter fs w (rw (row-back H-letter fs w) (arc-added Inhibitor p t a))
+      takes-line H-letter fs (rw (row-back H-letter fs w) (arc-added Inhibitor p t a))
 
 -- what stands above a line is sound too
 above-sound : (ds above below : List Declaration) (d : Declaration) → Sound emptyNet ds → ds ≡ above ++ d ∷ below → Sound emptyNet above

@@ -4,10 +4,9 @@ use Prim.Native.Nat.{ℕ, suc, _+_, _^_, _≤_, _<_}
 use native.Mathlib.Nat.{le-trans}
 use native.Mathlib.Omega.{arith}
 use mathlib.Core.Bool.{true, false}
-use mathlib.Core.Option.{Option, none, some}
 use mathlib.Core.List.{List, [], _∷_, _++_, map}
 use lib.ListN.{length}
-use borrow.Author.Tests.{lt-ltb, le-ltb, lt-leb, ltb-true, eq-eqb}
+use borrow.Author.Tests.{lt-ltb, le-ltb, lt-leb, eq-eqb}
 use Rattle.spec.specs.Lists.{any, count, flat}
 use Rattle.spec.specs.Answer.{gives, _>>_, refuse_at_when_}
 use Rattle.spec.specs.Text.{linesOf, byLines, alike, mostDigits}
@@ -22,8 +21,8 @@ use Rattle.spec.specs.declared.MarkKind.{MarkKind}
 use Rattle.spec.specs.declared.MarkKind.the-variants.{Before, After}
 use Rattle.lists.specs.Laws.{any-count, count-append, count-cons, count-true, true-and}
 use Rattle.runs.specs.Bytes.{E-letter, C-letter, B-letter, A-letter}
-use Rattle.runs.specs.Fields.{Writable, AllWritable}
-use Rattle.runs.specs.LineForms.{event-field, event-back, row-back}
+use Rattle.runs.specs.Fields.{AllWritable}
+use Rattle.runs.specs.LineForms.{event-field, event-back, event-below, row-back}
 use Rattle.runs.specs.Readers.{Takes, takes-line, takes-append, takes-end, takes-all}
 
 -- the record is within the limits
@@ -46,11 +45,6 @@ pub record Printed (lim : Limits) (N : Net) : Type 0 where
 abbrev pub parts : List ℕ → List Condition → List Mark → RunRecord
 parts es cs ms = record { events = es; conditions = cs; marks = ms }
 
-event-writable : (n : ℕ) (o : Option ℕ) → n ≤ 10 ^ mostDigits → below n o ≡ true → Writable (eventField o)
-unfolding below eventField
-event-writable n none l h = tt
-event-writable n (some e) l h = le-trans (ltb-true e n h) l
-
 -- ---- a line
 
 module _ (lim : Limits) (N : Net) (S : Printed lim N) (k : ℕ) where
@@ -58,7 +52,7 @@ module _ (lim : Limits) (N : Net) (S : Printed lim N) (k : ℕ) where
   unfolding eventLine enterLine enterRow isOne alike enterEvent isEmpty withEvent _>>_ refuse_at_when_
   event-taken t es l h =
       let w : AllWritable (Number t ∷ []) = (le-trans h (S .transitions), tt) in
-      takes-line E-letter (Number t ∷ []) w (rw (row-back E-letter (Number t ∷ []) w, lt-leb (lim .events) (length es) l, lt-leb (N .transitions) t h))
+      takes-line E-letter (Number t ∷ []) (rw (row-back E-letter (Number t ∷ []) w, lt-leb (lim .events) (length es) l, lt-leb (N .transitions) t h))
 
   condition-taken : (c : Condition) (es : List ℕ) (cs : List Condition) → length es ≤ lim .events → length cs < lim .conditions
       → c .place < places N → below (length es) (c .producer) ≡ true → below (length es) (c .consumer) ≡ true
@@ -67,8 +61,8 @@ module _ (lim : Limits) (N : Net) (S : Printed lim N) (k : ℕ) where
   condition-taken c es cs b l p x y =
       let fs = Number (c .place) ∷ eventField (c .producer) ∷ eventField (c .consumer) ∷ [] in
       let few = le-trans b (S .events) in
-      let w : AllWritable fs = (le-trans p (S .places), (event-writable (length es) (c .producer) few x, (event-writable (length es) (c .consumer) few y, tt))) in
-      takes-line C-letter fs w (rw (
+      let w : AllWritable fs = (le-trans p (S .places), (event-below (length es) (10 ^ mostDigits) (c .producer) few x, (event-below (length es) (10 ^ mostDigits) (c .consumer) few y, tt))) in
+      takes-line C-letter fs (rw (
         row-back C-letter fs w,
         event-field (c .producer),
         event-field (c .consumer),
@@ -89,8 +83,8 @@ module _ (lim : Limits) (N : Net) (S : Printed lim N) (k : ℕ) where
   mark-taken : (x : MarkKind) (c e : ℕ) (r s : RunRecord) → c < 10 ^ mostDigits → e < 10 ^ mostDigits → enterMark lim k (record { kind = x; condition = c; event = e }) r ≡ gives s
       → Takes (enterLine lim N) k r (markLineOf x c e) (suc k) s
   unfolding markLineOf enterLine enterRow isOne isThree isTwo alike markIn _>>_ refuse_at_when_
-  mark-taken Before c e r s l h q = takes-line B-letter (Number c ∷ Number e ∷ []) (l, (h, tt)) (rw (row-back B-letter (Number c ∷ Number e ∷ []) (l, (h, tt))) q)
-  mark-taken After c e r s l h q = takes-line A-letter (Number c ∷ Number e ∷ []) (l, (h, tt)) (rw (row-back A-letter (Number c ∷ Number e ∷ []) (l, (h, tt))) q)
+  mark-taken Before c e r s l h q = takes-line B-letter (Number c ∷ Number e ∷ []) (rw (row-back B-letter (Number c ∷ Number e ∷ []) (l, (h, tt))) q)
+  mark-taken After c e r s l h q = takes-line A-letter (Number c ∷ Number e ∷ []) (rw (row-back A-letter (Number c ∷ Number e ∷ []) (l, (h, tt))) q)
 
 -- ---- the whole record
 

@@ -12,7 +12,7 @@ use Rattle.spec.specs.declared.Class.{Class}
 use Rattle.spec.specs.declared.Field.{Field}
 use Rattle.lists.specs.Laws.{here}
 use Rattle.runs.specs.Bytes.{Letter}
-use Rattle.runs.specs.Fields.{AllWritable, body}
+use Rattle.runs.specs.Fields.{body}
 use Rattle.runs.specs.Answers.{of-gives, of-bind}
 use Rattle.runs.specs.Texts.{ended, line-back, lineBytes, text-is}
 
@@ -23,10 +23,10 @@ pub record Takes {S : Type 0} (f : ℕ → Line → S → Answer S) (k : ℕ) (s
   pub reads : (rest : List ℕ) → byLines f k (linesOf (text ++ rest)) s ≡ byLines f j (linesOf rest) t
 
 module _ {S : Type 0} {f : ℕ → Line → S → Answer S} where
-  pub takes-line : {c : Char} {K : Class} → Letter c K → (fs : List Field) → AllWritable fs
+  pub takes-line : {c : Char} {K : Class} → Letter c K → (fs : List Field)
       → {k : ℕ} {s t : S} → f k (ended (body c fs)) s ≡ gives t → Takes f k s (line c fs) (suc k) t
   unfolding byLines _>>=_
-  takes-line L fs w h = record { reads = λ rest. rw (line-back L fs w rest, h) }
+  takes-line L fs h = record { reads = λ rest. rw (line-back L fs rest, h) }
 
   pub takes-append : {k j i : ℕ} {s t u : S} {x y : List ℕ} → Takes f k s x j t → Takes f j t y i u → Takes f k s (x ++ y) i u
   takes-append {k} {s} {x} {y} p q = record { reads = λ rest. ap (λ (z : List ℕ). byLines f k (linesOf z) s) (append-assoc x y rest) ∙ p .reads (y ++ rest) ∙ q .reads rest }

@@ -94,7 +94,7 @@ module _ (N : Net) (R : RunRecord) (L : NetLimits N) (W : WellFormed N R) (F : F
 -- ---- an arrangement: 2 bytes for a line, 4 for an event
 
 module _ (n : ℕ) (lines : List (List ℕ)) (A : Arrangement n lines) where
-  arranged-below : (e : ℕ) → In e (flat lines) → e < n
+  pub arranged-below : (e : ℕ) → In e (flat lines) → e < n
   arranged-below e m = first-inside n lines A (length lines) e (rw (take-length lines) m)
 
   pub arranged-length : length (flat lines) ≡ n

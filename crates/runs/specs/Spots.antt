@@ -1,230 +1,99 @@
--- The numbers and spots of what the program refuses: a number is below 100 and a spot at most 3,137, so that the line
--- `X,number,spot`, whose fields have at most four digits, shows both whole.
-use mathlib.Core.Path.{_≡_, refl, sym, ap, _∙_, subst}
-use mathlib.Core.Logic.{inl, inr}
-use Prim.Native.Nat.{ℕ, suc, _+_, _*_, _≤_, _<_, zero-le}
+-- The numbers and spots of refusals: each operation meets those of its list alone, within their ranges. So the line
+-- `X,number,spot` that the program prints, whose fields have at most four digits, shows both whole.
+use mathlib.Core.Path.{_≡_, refl, ap, _∙_}
+use Prim.Native.Nat.{ℕ, _≤_, _<_, zero-le}
 use native.Mathlib.Nat.{le-refl}
 use native.Mathlib.Omega.{arith}
-use mathlib.Core.Bool.{Bool, true, false, cond}
-use mathlib.Core.Option.{Option, none, some}
-use mathlib.Core.List.{List, [], _∷_, _++_, map, List·Memᴰ·head, List·Memᴰ·tail, List·Memᴰ·not-nil}
-use lib.ListN.{length, length-append, length-map}
-use lib.Dec.{eqb, ltb, leb}
-use borrow.Author.Tests.{eq-eqb, eqb-true, ltb-true, ltb-false, leb-false}
-use Rattle.spec.specs.Lists.{In, upTo, count, lowest}
-use Rattle.spec.specs.Answer.{Answer, gives, refuses, _>>=_, _>>_, refuse_at_when_, refuse_at?_, found}
-use Rattle.spec.specs.Text.{Line, linesOf, byLines, rowOf, mostDigits, fieldOf, digits, line}
-use Rattle.spec.specs.Forms.{isAlone, isOne, isTwo, valueOf, numbersOf}
-use Rattle.spec.specs.Net.{Net, Arc, places, kindCode, isArc, joined, withPlace, withTransition, withArc, addPlace, addTransition, addArc, addRow, addLine, emptyNet, lacking, whole, netOf}
+use mathlib.Core.Bool.{_&&_}
+use mathlib.Core.List.{List, [], _∷_, _++_, Memᴰ·append-left, Memᴰ·append-right}
+use lib.Dec.{ltb, leb}
+use borrow.Author.Tests.{ltb-true, leb-true}
+use Rattle.spec.specs.Lists.{In, every, first}
+use Rattle.spec.specs.Answer.{Answer, gives, refuses, _>>=_, found}
+use Rattle.spec.specs.Text.{linesOf, mostDigits, fieldOf, digits, line}
+use Rattle.spec.specs.Net.{places, netOf, readNet}
 use Rattle.spec.specs.Record.{RunRecord, bench}
-use Rattle.spec.specs.Build.{Run, start, inStep, playStep, isStepLine, logLine, playLog, built}
-use Rattle.spec.specs.Program.{inputOf, parted, printed, program}
-use Rattle.spec.specs.declared.ArcKind.{ArcKind}
-use Rattle.spec.specs.declared.ArcKind.the-variants.{Input, Output, Inhibitor}
-use Rattle.spec.specs.declared.Class.the-variants.{LetterP, LetterT, LetterI, LetterO, LetterH}
+use Rattle.spec.specs.Build.{built, build}
+use Rattle.spec.specs.Check.{readRecord, accepts, checkWithin, check}
+use Rattle.spec.specs.Arrange.{arrange}
+use Rattle.spec.specs.Replay.{readArrangement, replay}
+use Rattle.spec.specs.Line.{lineAt, chosenText, refusedLine}
+use Rattle.spec.specs.Program.{inputOf, parted, printed, program, programInto}
+use Rattle.spec.specs.Refusals.{Refusal, refusal, netRefusals, logRefusals, recordRefusals, arrangementRefusals, buildRefusals, checkRefusals, replayRefusals, arrangeRefusals, lineRefusals, inputRefusals, programRefusals, Among, Refuses, Refusals}
 use Rattle.spec.specs.declared.Field.the-variants.{Number}
-use Rattle.spec.specs.declared.Row.{Row}
-use Rattle.lists.specs.Laws.{true-or-false, clash, and-true, true-and, or-false, not-is-false, count-cons, count-none, count-true, count-false, any-none, sumOf-le, sumOf-one, length-upTo, in-upTo}
-use Rattle.lists.specs.Among.{first-found}
-use Rattle.lists.specs.Grouped.{length-by}
-use Rattle.runs.specs.Bytes.{S-letter}
+use Rattle.lists.specs.Laws.{there, and-true, every-in}
 use Rattle.runs.specs.Digits.{number-back}
-use Rattle.runs.specs.Answers.{of-gives, not-refused}
-use Rattle.runs.specs.Texts.{ended-list}
+use Rattle.runs.specs.NetLimits.{net-limits}
+use Rattle.runs.specs.Exactness.{exactness}
+use Rattle.runs.specs.Within.{listed, Within, given-within, when-within, wider, bind-within, refuses-listed, found-within}
+use Rattle.runs.specs.ReaderSpots.{net-within, log-within, record-within, arrangement-within}
 
--- ---- answers
+-- ---- the operations
 
--- what is given has P; a refusal has a number below 100 and a spot of at most m
-record Within {A : Type 0} (P : A → Type 0) (m : ℕ) (x : Answer A) : Type 0 where
-  given : (a : A) → x ≡ gives a → P a
-  refused : (n s : ℕ) → x ≡ refuses n s → (n < 100) × (s ≤ m)
+-- "net's; check's but 30", among the refusals of an operation
+accepts-within : (rs : List Refusal) → ((r : Refusal) → In r netRefusals → In r rs) → ((r : Refusal) → In r recordRefusals → In r rs) → (net text : List ℕ)
+    → Within (λ a. (readNet net ≡ gives (a .net)) × (readRecord bench (a .net) text ≡ gives (a .run))) rs (accepts bench net text)
+unfolding accepts readNet
+accepts-within rs i j net text =
+    bind-within (readNet net) _ (wider rs i (net-within (linesOf net))) (λ N e u.
+    bind-within (readRecord bench N text) _ (wider rs j (record-within N text (net-limits net N e .places))) (λ R q v. given-within (e, q)))
 
-module _ {A : Type 0} {P : A → Type 0} {m : ℕ} where
-  given-within : {a : A} → P a → Within P m (gives a)
-  given-within p = record { given = λ b e. subst P (of-gives e) p; refused = λ n s e. not-refused (sym e) }
+build-within : (net log : List ℕ) (room : ℕ) → Within (λ b. Unit) buildRefusals (build net log room)
+unfolding build readNet first
+build-within net log room =
+    when-within 20 0 _ _ (λ t. listed buildRefusals 20 refl (zero-le, zero-le)) λ l.
+    bind-within (readNet net) _ (wider buildRefusals (λ r m. there (Memᴰ·append-left logRefusals m)) (net-within (linesOf net))) (λ N e u.
+    bind-within (built bench N (linesOf log)) _ (wider buildRefusals (λ r m. there (Memᴰ·append-right netRefusals m)) (log-within N (linesOf log))) (λ r q v. given-within tt))
 
-  refused-within : {n s : ℕ} → (n < 100) × (s ≤ m) → Within P m (refuses n s)
-  refused-within {n} {s} h = record {
-    given = λ a e. not-refused e;
-    refused = λ i j e. let p : n ≡ i = cc in let q : s ≡ j = cc in (omega (arith, h .0), omega (arith, h .1));
-  }
+check-within : (net text : List ℕ) (room : ℕ) → Within (λ c. Unit) checkRefusals (check net text room)
+unfolding check checkWithin first
+check-within net text room =
+    when-within 30 0 _ _ (λ t. listed checkRefusals 30 refl (zero-le, zero-le)) λ l.
+    bind-within (accepts bench net text) _ (accepts-within checkRefusals (λ r m. there (Memᴰ·append-left recordRefusals m)) (λ r m. there (Memᴰ·append-right netRefusals m)) net text) (λ a e p. given-within tt)
 
-  when-within : (n s : ℕ) (t : Bool) (x : Answer A) → n < 100 → s ≤ m → (t ≡ false → Within P m x) → Within P m (refuse n at s when t >> x)
-  unfolding refuse_at_when_ _>>_
-  when-within n s true x l h w = refused-within (l, h)
-  when-within n s false x l h w = w refl
+arrange-within : (net text : List ℕ) (room : ℕ) → Within (λ a. Unit) arrangeRefusals (arrange net text room)
+unfolding arrange first
+arrange-within net text room =
+    when-within 50 0 _ _ (λ t. listed arrangeRefusals 50 refl (zero-le, zero-le)) λ l.
+    bind-within (accepts bench net text) _ (accepts-within arrangeRefusals (λ r m. there (Memᴰ·append-left recordRefusals m)) (λ r m. there (Memᴰ·append-right netRefusals m)) net text) (λ a e p. given-within tt)
 
-  lowest-within : (n : ℕ) (o : Option ℕ) (x : Answer A) → n < 100 → ((s : ℕ) → o ≡ some s → s ≤ m) → Within P m x → Within P m (refuse n at? o >> x)
-  unfolding refuse_at?_ _>>_
-  lowest-within n none x l h w = w
-  lowest-within n (some s) x l h w = refused-within (l, h s refl)
+replay-within : (net text arrangement : List ℕ) (room : ℕ) → Within (λ x. Unit) replayRefusals (replay net text arrangement room)
+unfolding replay first
+replay-within net text arrangement room =
+    let rest = recordRefusals ++ arrangementRefusals in
+    when-within 40 0 _ _ (λ t. listed replayRefusals 40 refl (zero-le, zero-le)) λ l.
+    bind-within (accepts bench net text) _ (accepts-within replayRefusals (λ r m. there (Memᴰ·append-left rest m)) (λ r m. there (Memᴰ·append-right netRefusals (Memᴰ·append-left arrangementRefusals m))) net text) (λ a e p.
+    let I = exactness .checks net (a .net) (p .0) text (a .run) .0 (p .1) .1 in
+    bind-within (readArrangement (a .run) arrangement) _ (wider replayRefusals (λ r m. there (Memᴰ·append-right netRefusals (Memᴰ·append-right recordRefusals m)))
+    (arrangement-within (a .net) (a .run) I arrangement)) (λ gs q v. given-within tt))
 
-  cond-within : (t : Bool) (x y : Answer A) → Within P m x → Within P m y → Within P m (cond t x y)
-  cond-within true x y v w = v
-  cond-within false x y v w = w
+line-within : (net second : List ℕ) (choice asked : ℕ) → Within (λ p. Unit) (lineRefusals asked) (refusedLine net second choice asked)
+unfolding refusedLine first
+line-within net second choice asked =
+    bind-within (found 46 asked (lineAt (chosenText net second choice) asked)) _ (found-within 46 asked _ (listed (lineRefusals asked) 46 refl (le-refl asked, le-refl asked))) (λ l e p. given-within tt)
 
-bind-within : {A B : Type 0} {P : A → Type 0} {Q : B → Type 0} {m : ℕ} (x : Answer A) (f : A → Answer B) → Within P m x → ((a : A) → P a → Within Q m (f a)) → Within Q m (x >>= f)
-unfolding _>>=_
-bind-within (gives a) f v w = w a (v .given a refl)
-bind-within (refuses n s) f v w = refused-within (v .refused n s refl)
+input-within : (input : List ℕ) → Within (λ q. Unit) inputRefusals (inputOf input)
+unfolding inputOf first
+input-within input =
+    let over : Among inputRefusals 10 0 = listed inputRefusals 10 refl (zero-le, zero-le) in
+    when-within 10 0 _ _ (λ t. over) λ e. found-within 10 0 (parted (linesOf input)) over
 
--- where every line keeps P, which speaks of the next line's number and of the state, so do the lines of a text
-lines-within : {S : Type 0} (f : ℕ → Line → S → Answer S) (P : ℕ → S → Type 0) (m : ℕ) → ((k : ℕ) (l : Line) (s : S) → P k s → Within (P (suc k)) m (f k l s))
-    → (k : ℕ) (ls : List Line) (s : S) → P k s → Within (λ t. (j : ℕ) × P j t) m (byLines f k ls s)
-unfolding byLines
-lines-within f P m step k [] s p = given-within (k, p)
-lines-within f P m step k (l ∷ ls) s p = bind-within (f k l s) _ (step k l s p) (λ t q. lines-within f P m step (suc k) ls t q)
+into-within : (input : List ℕ) (room : ℕ) → Within (λ b. Unit) (refusal 20 0 0 ∷ []) (programInto input room)
+unfolding programInto first
+into-within input room = when-within 20 0 _ _ (λ t. listed (refusal 20 0 0 ∷ []) 20 refl (zero-le, zero-le)) λ e. given-within tt
 
--- ---- nets
-
--- arcs between things below 32 by number: 3 · 32 · 32 of them
-abbrev arcCode : Arc → ℕ
-arcCode a = kindCode (a .kind) * 1024 + a .place * 32 + a .transition
-
-kinds : (x : ArcKind) → kindCode x ≤ 2
-kinds Input = omega arith
-kinds Output = omega arith
-kinds Inhibitor = omega arith
-
--- line k is next, and each line before it added a place, a transition or an arc that was not there
-record Drafted (k : ℕ) (n : Net) : Type 0 where
-  next : k ≡ 1 + places n + n .transitions + length (n .arcs)
-  places : places n ≤ 32
-  transitions : n .transitions ≤ 32
-  declared : (a : Arc) → In a (n .arcs) → (a .place < 32) × (a .transition < 32)
-  once : (c : ℕ) → count (λ a. eqb (arcCode a) c) (n .arcs) ≤ 1
-
-no-lines : Drafted 1 emptyNet
-unfolding emptyNet count
-no-lines = record { next = refl; places = zero-le; transitions = zero-le; declared = λ a i. absurd (List·Memᴰ·not-nil i); once = λ c. zero-le }
-
-module _ {k : ℕ} {n : Net} (D : Drafted k n) where
-  arcs-few : length (n .arcs) ≤ 3072
-  arcs-few = omega (
-    arith,
-    length-by arcCode 3072 (n .arcs) (λ a i. let z = D .declared a i in omega (arith, kinds (a .kind), z .0, z .1)),
-    sumOf-le _ (λ c. 1) (upTo 3072) (λ c i. D .once c),
-    sumOf-one (upTo 3072),
-    length-upTo 3072,
-  )
-
-  spot-few : k ≤ 3137
-  spot-few = omega (arith, D .next, D .places, D .transitions, arcs-few)
-
-  -- an arc that the net does not have has a number of its own
-  number-new : (x : ArcKind) (p t c : ℕ) → p < 32 → t < 32 → joined n x p t ≡ false → kindCode x * 1024 + p * 32 + t ≡ c → (a : Arc) → In a (n .arcs) → eqb (arcCode a) c ≡ false
-  unfolding joined isArc
-  number-new x p t c h l e q a i = elim (true-or-false (eqb (arcCode a) c)) [
-    | inl r ↦
-        let b = D .declared a i in
-        let z : arcCode a ≡ c = eqb-true (arcCode a) c r in
-        let f : kindCode (a .kind) ≡ kindCode x = omega (arith, b .0, b .1) in
-        let g : a .place ≡ p = omega (arith, b .0, b .1) in
-        clash (true-and (true-and (eq-eqb _ _ f) (eq-eqb _ _ g)) (eq-eqb (a .transition) t (omega arith))) (any-none (isArc x p t) (n .arcs) e a i)
-    | inr r ↦ r
-  ]
-
-  arc-once : (x : ArcKind) (p t : ℕ) → p < 32 → t < 32 → joined n x p t ≡ false → (c : ℕ) → count (λ a. eqb (arcCode a) c) (withArc x p t n .arcs) ≤ 1
-  unfolding withArc
-  arc-once x p t h l e c =
-      let m = count-cons (λ a. eqb (arcCode a) c) (record { kind = x; place = p; transition = t }) (n .arcs) in
-      elim (true-or-false (eqb (kindCode x * 1024 + p * 32 + t) c)) [
-        | inl q ↦ omega (arith, m, count-true q, count-none (λ a. eqb (arcCode a) c) (n .arcs) (number-new x p t c h l e (eqb-true _ c q)))
-        | inr q ↦ omega (arith, m, count-false q, D .once c)
-      ]
-
-  place-within : (v : ℕ) → Within (Drafted (suc k)) 3137 (addPlace k v n)
-  unfolding addPlace withPlace
-  place-within v = when-within 12 k _ _ (omega arith) spot-few λ e. given-within (record {
-    next = omega (arith, D .next, length-append (n .tokens) (v ∷ []));
-    places = omega (arith, length-append (n .tokens) (v ∷ []), leb-false 32 (places n) (or-false (leb 32 (places n)) _ e .0));
-    transitions = D .transitions;
-    declared = D .declared;
-    once = D .once;
-  })
-
-  transition-within : Within (Drafted (suc k)) 3137 (addTransition k n)
-  unfolding addTransition withTransition
-  transition-within = when-within 12 k _ _ (omega arith) spot-few λ e. given-within (record {
-    next = omega (arith, D .next);
-    places = D .places;
-    transitions = omega (arith, leb-false 32 (n .transitions) e);
-    declared = D .declared;
-    once = D .once;
-  })
-
-  arc-within : (x : ArcKind) (p t : ℕ) → Within (Drafted (suc k)) 3137 (addArc x k p t n)
-  unfolding addArc withArc
-  arc-within x p t = when-within 13 k _ _ (omega arith) spot-few λ d. when-within 14 k _ _ (omega arith) spot-few λ e.
-      let z = and-true (ltb p (places n)) (ltb t (n .transitions)) (not-is-false _ d) in
-      let h : p < 32 = omega (arith, ltb-true p (places n) (z .0), D .places) in
-      let l : t < 32 = omega (arith, ltb-true t (n .transitions) (z .1), D .transitions) in
-      given-within (record {
-        next = omega (arith, D .next);
-        places = D .places;
-        transitions = D .transitions;
-        declared = λ a i. elim i [ List·Memᴰ·head q ↦ rw q (h, l) | List·Memᴰ·tail j ↦ D .declared a j ];
-        once = arc-once x p t h l e;
-      })
-
-  line-within : (l : Line) → Within (Drafted (suc k)) 3137 (addLine k l n)
-  unfolding addLine addRow
-  line-within l =
-      let r : Row = rowOf mostDigits (l .bytes) in
-      let a : ℕ = valueOf (r .first) in
-      let b : ℕ = valueOf (r .second) in
-      when-within 11 k _ _ (omega arith) spot-few λ e.
-      cond-within (isOne LetterP r) _ _ (place-within a) (cond-within (isAlone LetterT r) _ _ transition-within
-      (cond-within (isTwo LetterI r) _ _ (arc-within Input a b) (cond-within (isTwo LetterO r) _ _ (arc-within Output b a)
-      (cond-within (isTwo LetterH r) _ _ (arc-within Inhibitor a b) (refused-within {n = 11} (omega arith, spot-few))))))
-
-  whole-within : Within (λ m. Unit) 3137 (whole n)
-  unfolding whole lowest
-  whole-within = lowest-within 15 _ _ (omega arith)
-      (λ s e. omega (arith, in-upTo (n .transitions) (first-found (lacking n) (upTo (n .transitions)) e .0), D .transitions)) (given-within tt)
-
-net-within : (ls : List Line) → Within (λ n. Unit) 3137 (netOf ls)
-unfolding netOf
-net-within ls = bind-within (byLines addLine 1 ls emptyNet) whole (lines-within addLine Drafted 3137 (λ k l n D. line-within D l) 1 ls emptyNet no-lines) (λ n D. whole-within (D .1))
-
--- A net that is refused: the lines before line s declared at most 32 places, 32 transitions and 3,072 arcs, one each; or
--- transition s, below 32, lacks an input or an output.
-pub net-spot : (ls : List Line) (n s : ℕ) → netOf ls ≡ refuses n s → (n < 100) × (s ≤ 3137)
-net-spot ls = net-within ls .refused
-
--- ---- logs
-
--- line k is next, and each line before it has one event or more
-record Played (k : ℕ) (r : Run) : Type 0 where
-  next : k ≤ 1 + length (r .events)
-  events : length (r .events) ≤ 128
-
-module _ (N : Net) (m : ℕ) (wide : 129 ≤ m) where
-  step-within : (k : ℕ) (l : Line) (r : Run) → Played k r → Within (Played (suc k)) m (logLine bench N k l r)
-  unfolding logLine isStepLine playStep bench
-  step-within k l r D =
-      let spot : k ≤ m = omega (arith, D .next, D .events) in
-      let ts : List ℕ = numbersOf mostDigits (l .bytes) in
-      when-within 21 k _ _ (omega arith) spot λ a. when-within 22 k _ _ (omega arith) spot λ b. when-within 23 k _ _ (omega arith) spot λ c.
-      when-within 24 k _ _ (omega arith) spot λ d. when-within 25 k _ _ (omega arith) spot λ e. when-within 26 k _ _ (omega arith) spot λ f.
-      when-within 27 k _ _ (omega arith) spot λ g.
-      let more : length (r .events ++ map (inStep k) ts) ≡ length (r .events) + length ts = omega (arith, length-append (r .events) (map (inStep k) ts), length-map ts (inStep k)) in
-      given-within (record {
-        next = omega (arith, D .next, more, ended-list S-letter l (not-is-false _ a) .1);
-        events = omega (arith, more, ltb-false 128 (length (r .events) + length ts) c);
-      })
-
-  log-within : (ls : List Line) → Within (λ r. (j : ℕ) × Played j r) m (playLog bench N ls)
-  unfolding playLog
-  log-within ls = lines-within (logLine bench N) Played m step-within 1 ls (start N) (unfold start in (record { next = le-refl 1; events = zero-le }))
-
-  built-within : (ls : List Line) → Within (λ r. Unit) m (built bench N ls)
-  unfolding built
-  built-within ls = bind-within (playLog bench N ls) _ (log-within ls) (λ r p. given-within tt)
-
--- A log that is refused: the lines before line s have at most 128 events, one or more each.
-pub log-spot : (N : Net) (ls : List Line) (n s : ℕ) → playLog bench N ls ≡ refuses n s → (n < 100) × (s ≤ 129)
-log-spot N ls = log-within N 129 (le-refl 129) ls .refused
+pub refusals : Refusals
+unfolding readNet every
+refusals = record {
+  net = λ text. refuses-listed refl (net-within (linesOf text));
+  build = λ net log room. refuses-listed refl (build-within net log room);
+  check = λ net text room. refuses-listed refl (check-within net text room);
+  replay = λ net text arrangement room. refuses-listed refl (replay-within net text arrangement room);
+  arrange = λ net text room. refuses-listed refl (arrange-within net text room);
+  line = λ net second choice asked. refuses-listed refl (line-within net second choice asked);
+  input = λ input. refuses-listed refl (input-within input);
+  program = λ input room. refuses-listed refl (into-within input room);
+}
 
 -- ---- the program
 
@@ -239,20 +108,22 @@ pub program-prints : (input : List ℕ) → program input ≡ printed (answerTo 
 unfolding program answerTo
 program-prints input = refl
 
-found-within : {A : Type 0} {m : ℕ} (n : ℕ) (o : Option A) → n < 100 → Within (λ a. Unit) m (found n 0 o)
-unfolding found
-found-within n none l = refused-within (l, zero-le)
-found-within n (some a) l = given-within tt
+-- an input that is refused: by rule 10, for its net or for its log
+pub program-refuses : (input : List ℕ) → Refuses programRefusals (answerTo input)
+unfolding answerTo every
+program-refuses input = refuses-listed refl (
+    bind-within (inputOf input) _ (wider programRefusals (λ r m. Memᴰ·append-left (netRefusals ++ logRefusals) m) (input-within input)) (λ q e u.
+    bind-within (netOf (q .net)) _ (wider programRefusals (λ r m. Memᴰ·append-right inputRefusals (Memᴰ·append-left logRefusals m)) (net-within (q .net))) (λ N d v.
+    wider programRefusals (λ r m. Memᴰ·append-right inputRefusals (Memᴰ·append-right netRefusals m)) (log-within N (q .log)))))
 
-input-within : (input : List ℕ) → Within (λ q. Unit) 3137 (inputOf input)
-unfolding inputOf
-input-within input = when-within 10 0 _ _ (omega arith) zero-le λ e. found-within 10 (parted (linesOf input)) (omega arith)
-
--- An input that is refused, by rule 10 with spot 0, for its net or for its log.
+-- numbers below 100 and spots of at most 3,137
 pub program-spot : (input : List ℕ) (n s : ℕ) → answerTo input ≡ refuses n s → (n < 100) × (s ≤ 3137)
-unfolding answerTo
-program-spot input =
-    bind-within (inputOf input) _ (input-within input) (λ q u. bind-within (netOf (q .net)) _ (net-within (q .net)) (λ n v. built-within n 3137 (omega arith) (q .log))) .refused
+unfolding every
+program-spot input n s h =
+    let a = program-refuses input .among n s h in
+    let r = a .which in
+    let z = and-true (ltb (r .number) 100) (leb (r .most) 3137) (every-in (λ r. ltb (r .number) 100 && leb (r .most) 3137) programRefusals refl r (a .listed)) in
+    (omega (arith, a .number, ltb-true (r .number) 100 (z .0)), omega (arith, a .most, leb-true (r .most) 3137 (z .1)))
 
 -- So the line that the program prints shows the whole number and the whole spot: both fields are read back.
 pub refusal-back : (input : List ℕ) (n s : ℕ) → answerTo input ≡ refuses n s

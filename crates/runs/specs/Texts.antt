@@ -15,7 +15,7 @@ use Rattle.spec.specs.declared.Field.{Field}
 use Rattle.spec.specs.declared.Field.the-variants.{Number}
 use Rattle.lists.specs.Laws.{here, there, and-true}
 use Rattle.runs.specs.Bytes.{lineEnd-is, Letter}
-use Rattle.runs.specs.Fields.{Lacks, AllWritable, field-lacks, body}
+use Rattle.runs.specs.Fields.{Lacks, field-lacks, body}
 use Rattle.runs.specs.LineForms.{list-is}
 
 -- ---- the lines of a text
@@ -32,23 +32,23 @@ unfolding linesOf onFirst
 first-line [] rest w = rw line-ends
 first-line (b ∷ bs) rest w = rw (w b here, first-line bs rest (λ x m. w x (there m)))
 
-fields-lack : (fs : List Field) → AllWritable fs → Lacks LineEnd (fieldsBytes fs)
+fields-lack : (fs : List Field) → Lacks LineEnd (fieldsBytes fs)
 unfolding fieldsBytes alike
-fields-lack [] w b m = absurd (List·Memᴰ·not-nil m)
-fields-lack (f ∷ fs) w b (List·Memᴰ·head e) = rw e (unfold isA classOf named inDigits in refl)
-fields-lack (f ∷ fs) w b (List·Memᴰ·tail m) = elim (List·Memᴰ·append-cases (fieldBytes f) m) [
-  | inl i ↦ field-lacks LineEnd refl refl f (w .0) b i
-  | inr i ↦ fields-lack fs (w .1) b i
+fields-lack [] b m = absurd (List·Memᴰ·not-nil m)
+fields-lack (f ∷ fs) b (List·Memᴰ·head e) = rw e (unfold isA classOf named inDigits in refl)
+fields-lack (f ∷ fs) b (List·Memᴰ·tail m) = elim (List·Memᴰ·append-cases (fieldBytes f) m) [
+  | inl i ↦ field-lacks LineEnd refl refl f b i
+  | inr i ↦ fields-lack fs b i
 ]
 
-body-lacks : {c : Char} {k : Class} → Letter c k → (fs : List Field) → AllWritable fs → Lacks LineEnd (body c fs)
+body-lacks : {c : Char} {k : Class} → Letter c k → (fs : List Field) → Lacks LineEnd (body c fs)
 unfolding body
-body-lacks L fs w b (List·Memᴰ·head e) = rw e (L .noEnd)
-body-lacks L fs w b (List·Memᴰ·tail m) = fields-lack fs w b m
+body-lacks L fs b (List·Memᴰ·head e) = rw e (L .noEnd)
+body-lacks L fs b (List·Memᴰ·tail m) = fields-lack fs b m
 
-pub line-back : {c : Char} {k : Class} → Letter c k → (fs : List Field) → AllWritable fs → (rest : List ℕ) → linesOf (line c fs ++ rest) ≡ ended (body c fs) ∷ linesOf rest
+pub line-back : {c : Char} {k : Class} → Letter c k → (fs : List Field) (rest : List ℕ) → linesOf (line c fs ++ rest) ≡ ended (body c fs) ∷ linesOf rest
 unfolding line body
-line-back {c} L fs w rest = ap linesOf (append-assoc (body c fs) (10 ∷ []) rest) ∙ first-line (body c fs) rest (body-lacks L fs w)
+line-back {c} L fs rest = ap linesOf (append-assoc (body c fs) (10 ∷ []) rest) ∙ first-line (body c fs) rest (body-lacks L fs)
 
 -- a line's bytes with its end
 unfoldable pub lineBytes : Line → List ℕ

@@ -1,26 +1,20 @@
--- The statements that are owed: the third demand as one record, and beside it what exactly is accepted, of the first and the
--- second, and that what is computed is what the papers say. They are types here; the crate `runs` has a proof of each.
+-- The third demand as one record. It is a type here; the crate `runs` has its proof.
 use mathlib.Core.Path.{_≡_}
 use mathlib.Core.Logic.{_≢_, _↔_, _⊎_}
 use Prim.Native.Nat.{ℕ, _+_, _*_, _≤_, _<_}
-use mathlib.Core.Bool.{Bool, true, false}
-use mathlib.Core.List.{List, [], _∷_, _++_}
+use mathlib.Core.List.{List, []}
 use lib.ListN.{length, getD}
 use Rattle.spec.specs.Answer.{Answer, gives, refuses}
-use Rattle.spec.specs.Net.{Net, places, readNet}
-use Rattle.spec.specs.NetText.{Declaration, netBytes, declared, Allowed, Complete}
-use Rattle.spec.specs.Step.{tokensAt, EnabledAt, short, inhibited}
-use Rattle.spec.specs.Record.{RunRecord, bench, recordBytes}
-use Rattle.spec.specs.Order.{StrictlyBefore, NotLater, strictlyBefore, notLater}
-use Rattle.spec.specs.Process.{Process, WellFormed}
-use Rattle.spec.specs.Build.{recordFor, build}
+use Rattle.spec.specs.Net.{Net, readNet}
+use Rattle.spec.specs.Step.{tokensAt}
+use Rattle.spec.specs.Record.{RunRecord, bench}
+use Rattle.spec.specs.Order.{StrictlyBefore, NotLater}
+use Rattle.spec.specs.Build.{build}
 use Rattle.spec.specs.Check.{Checked, readRecord, check}
 use Rattle.spec.specs.Arrangement.{index}
-use Rattle.spec.specs.Arrange.{Chain, Arranged, arrange, arrangementBytes, levels}
-use Rattle.spec.specs.Replay.{Replayed, readArrangement, replay}
+use Rattle.spec.specs.Arrange.{Arranged, arrange, arrangementBytes}
+use Rattle.spec.specs.Replay.{Replayed, replay}
 use Rattle.spec.specs.Runs.{EnabledSequence, KeepsOrder, WithinLimits, markingAt, asSteps, eventLines, logBytes}
-
--- ---- the third demand
 
 -- Below, N is the net that a net text declares and R the record that a record text has; `room` is the size of the buffer
 -- that is lent.
@@ -79,59 +73,3 @@ pub record RunIsRecorded (net : List ℕ) (N : Net) (steps : List (List ℕ)) : 
 pub record Demand : Type 0 where
   pub order-of-runs : (net : List ℕ) (N : Net) → readNet net ≡ gives N → (text : List ℕ) (R : RunRecord) → readRecord bench N text ≡ gives R → OrderOfRuns net text N R
   pub runs-recorded : (net : List ℕ) (N : Net) → readNet net ≡ gives N → (steps : List (List ℕ)) → EnabledSequence N steps → WithinLimits N steps → RunIsRecorded net N steps
-
--- ---- the second demand, and of the first: "Input that meets no refusal named in the papers is accepted, by each operation."
-
--- the text is that of declarations, each allowed below those above it, and N is the net that they declare
-pub record IsNet (text : List ℕ) (N : Net) : Type 0 where
-  pub lines : List Declaration
-  pub written : text ≡ netBytes lines
-  pub sound : (above below : List Declaration) (d : Declaration) → lines ≡ above ++ d ∷ below → Allowed (declared above) d
-  pub complete : Complete N
-  pub named : N ≡ declared lines
-
--- "a well-formed log of known transitions becomes a record exactly when each step is enabled in its turn and the limits
--- hold, and the record is the one document 01 names."
-pub record Builds (N : Net) (log bytes : List ℕ) : Type 0 where
-  pub steps : List (List ℕ)
-  pub written : log ≡ logBytes steps
-  pub enabled : EnabledSequence N steps
-  pub within : WithinLimits N steps
-  pub named : bytes ≡ recordBytes (recordFor N steps)
-
--- "Likewise a proposed record is accepted exactly when it is a process by the definition there.": the text is that of a
--- record of the stated size, whose numbers name something
-pub record IsProcess (N : Net) (text : List ℕ) (R : RunRecord) : Type 0 where
-  pub written : text ≡ recordBytes R
-  pub events : length (R .events) ≤ 128
-  pub conditions : length (R .conditions) ≤ 512
-  pub marks : length (R .marks) ≤ 4096
-  pub wellFormed : WellFormed N R
-  pub process : Process N R
-
--- the text is that of an arrangement that keeps the order
-pub record IsArrangement (R : RunRecord) (text : List ℕ) (lines : List (List ℕ)) : Type 0 where
-  pub written : text ≡ arrangementBytes lines
-  pub keeps : KeepsOrder R lines
-
-pub record Exactness : Type 0 where
-  pub reads : (text : List ℕ) (N : Net) → (readNet text ≡ gives N) ↔ IsNet text N
-  pub builds : (net : List ℕ) (N : Net) → readNet net ≡ gives N → (log bytes : List ℕ) (room : ℕ) → 48256 ≤ room → (build net log room ≡ gives bytes) ↔ Builds N log bytes
-  pub checks : (net : List ℕ) (N : Net) → readNet net ≡ gives N → (text : List ℕ) (R : RunRecord) → (readRecord bench N text ≡ gives R) ↔ IsProcess N text R
-  pub replays : (net : List ℕ) (N : Net) → readNet net ≡ gives N → (text : List ℕ) (R : RunRecord) → readRecord bench N text ≡ gives R
-      → (arrangement : List ℕ) (lines : List (List ℕ)) → (readArrangement R arrangement ≡ gives lines) ↔ IsArrangement R arrangement lines
-
--- ---- what is computed is what the papers say
-
--- the level of an event is the number of strict pairs in the longest chain of the closed order that ends at it
-pub record Longest (R : RunRecord) (e : ℕ) : Type 0 where
-  pub attained : Chain R (getD (levels R) e 0) e
-  pub most : (k : ℕ) → Chain R k e → k ≤ getD (levels R) e 0
-
-pub record Computed : Type 0 where
-  -- 24 and 25 are the two halves of "enabled"
-  pub enabled : (N : Net) (m step : List ℕ) → ((short N m step ≡ false) × (inhibited N m step ≡ false)) ↔ EnabledAt N m step
-  -- the computed closed order is that of paths
-  pub strict : (N : Net) (R : RunRecord) → WellFormed N R → (e f : ℕ) → (strictlyBefore R e f ≡ true) ↔ StrictlyBefore R e f
-  pub weak : (N : Net) (R : RunRecord) → WellFormed N R → (e f : ℕ) → (notLater R e f ≡ true) ↔ NotLater R e f
-  pub longest : (N : Net) (R : RunRecord) → WellFormed N R → Process N R → (e : ℕ) → e < length (R .events) → Longest R e

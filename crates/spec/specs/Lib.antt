@@ -18,7 +18,10 @@ pub mod Program
 pub mod Buffer
 pub mod Values
 pub mod Runs
+pub mod Exactness
+pub mod Computed
 pub mod Demand
+pub mod Refusals
 pub mod Quoted
 pub mod Cases
 pub mod Traps

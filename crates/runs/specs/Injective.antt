@@ -1,0 +1,306 @@
+-- Two with the same text are the same. A text is read as rows, for each line the class of its letter and its fields, and a row
+-- gives back what it was written from, if its fields are read as they were written. They are where each can be written; and where
+-- each is read with fewer digits than can be written, since of a longer number all the digits that can be are.
+use mathlib.Core.Path.{_≡_, refl, sym, ap, ap₂, _∙_, subst}
+use mathlib.Core.Logic.{_⊎_, inl, inr}
+use Prim.Native.Nat.{ℕ, _^_, _<_}
+use Prim.Native.Char.{Char}
+use native.Mathlib.Nat.{le-refl}
+use mathlib.Core.Bool.{Bool, true, false, cond}
+use mathlib.Core.List.{List, [], _∷_, _++_, map, append-nil, append-assoc, map-map, map-id, Memᴰ·map, Memᴰ·of-map, List·Memᴰ·append-cases, head-eq-of-cons-eq, tail-eq-of-cons-eq}
+use lib.ListN.{getD}
+use Rattle.spec.specs.Lists.{In, flat}
+use Rattle.spec.specs.Text.{linesOf, alike, mostDigits, letterIn, fieldsOf, line}
+use Rattle.spec.specs.Forms.{valueOf}
+use Rattle.spec.specs.NetText.{Declaration, place, transition, arc, declarationLine, netBytes}
+use Rattle.spec.specs.Record.{RunRecord, Condition, Mark, eventField, eventLine, conditionLine, markLineOf, markLine, recordBytes}
+use Rattle.spec.specs.Check.{eventOf}
+use Rattle.spec.specs.Arrange.{groupLine, arrangementBytes}
+use Rattle.spec.specs.Runs.{stepLine, logBytes}
+use Rattle.spec.specs.Exactness.{LinesBelow, DeclarationBelow, DeclarationsBelow, RecordBelow, OneReading}
+use Rattle.spec.specs.declared.ArcKind.the-variants.{Input, Output, Inhibitor}
+use Rattle.spec.specs.declared.Class.{Class}
+use Rattle.spec.specs.declared.Class.the-variants.{LetterP, LetterT, LetterI, LetterO, LetterE, LetterC, LetterB, LetterA}
+use Rattle.spec.specs.declared.Field.{Field}
+use Rattle.spec.specs.declared.Field.the-variants.{Number, Absent}
+use Rattle.spec.specs.declared.MarkKind.{MarkKind}
+use Rattle.spec.specs.declared.MarkKind.the-variants.{Before, After}
+use Rattle.lists.specs.Laws.{here, there, clash, map-same, flat-in}
+use Rattle.runs.specs.Bytes.{Letter, P-letter, T-letter, I-letter, O-letter, H-letter, S-letter, E-letter, C-letter, B-letter, A-letter, G-letter}
+use Rattle.runs.specs.Fields.{FieldsBelow, AllSmall, again, again-all, smalls-writable, smalls-kept, letter-back, fields-again}
+use Rattle.runs.specs.LineForms.{event-back, event-below, numbers-below, values}
+use Rattle.runs.specs.Texts.{line-back}
+
+-- ---- texts as rows
+
+-- the class of a line's letter, and its fields
+abbrev pub Read : Type 0
+Read = Class × List Field
+
+unfoldable pub rowsIn : List ℕ → List Read
+rowsIn text = map (λ l. (letterIn (l .bytes), fieldsOf mostDigits (l .bytes))) (linesOf text)
+
+-- Two that their texts tell apart: the numbers of both can be written, or those of the second have fewer digits than can be.
+-- P b says of one that its numbers are below b.
+abbrev pub Apart : {X : Type 0} → (ℕ → X → Type 0) → X → X → Type 0
+Apart P x y = (P (10 ^ mostDigits) x × P (10 ^ mostDigits) y) ⊎ P 1000 y
+
+apart : {X Y : Type 0} (P : ℕ → X → Type 0) (Q : ℕ → Y → Type 0) (f : X → Y) → ((b : ℕ) (x : X) → P b x → Q b (f x)) → (x y : X) → Apart P x y → Apart Q (f x) (f y)
+apart P Q f h x y (inl p) = inl (h _ x (p .0), h _ y (p .1))
+apart P Q f h x y (inr p) = inr (h _ y p)
+
+-- a line in the making: its letter, and its fields
+pub record Form : Type 0 where
+  pub letter : Char
+  pub class : Class
+  pub used : Letter letter class
+  pub fields : List Field
+
+abbrev formed : {c : Char} {k : Class} → Letter c k → List Field → Form
+formed {c} {k} L fs = record { letter = c; class = k; used = L; fields = fs }
+
+-- how the elements of a type are written, each as one line, and what is made of such a line's row
+pub record Format {A : Type 0} (print : A → List ℕ) : Type 0 where
+  pub form : A → Form
+  pub written : (x : A) → print x ≡ line (form x .letter) (form x .fields)
+  pub back : Read → A
+  pub kept : (x : A) → back (form x .class, form x .fields) ≡ x
+
+module _ {A : Type 0} {print : A → List ℕ} (F : Format print) where
+  abbrev pub fieldsFor : A → List Field
+  fieldsFor x = F .form x .fields
+
+  -- the row of an element's line, as it is read
+  abbrev pub row : A → Read
+  row x = (F .form x .class, map again (fieldsFor x))
+
+  row-back : (x : A) (rest : List ℕ) → rowsIn (print x ++ rest) ≡ row x ∷ rowsIn rest
+  unfolding rowsIn
+  row-back x rest =
+      let L = F .form x .used in
+      let fs = fieldsFor x in
+      rw (F .written x, line-back L fs rest, letter-back L fs, fields-again L fs)
+
+  pub rows-back : (xs : List A) (rest : List ℕ) → rowsIn (flat (map print xs) ++ rest) ≡ map row xs ++ rowsIn rest
+  unfolding flat
+  rows-back [] rest = refl
+  rows-back (x ∷ xs) rest = ap rowsIn (append-assoc (print x) (flat (map print xs)) rest) ∙ row-back x _ ∙ ap (λ rs. row x ∷ rs) (rows-back xs rest)
+
+  rows : (xs : List A) → rowsIn (flat (map print xs)) ≡ map row xs
+  unfolding rowsIn linesOf
+  rows xs = ap rowsIn (sym (append-nil (flat (map print xs)))) ∙ rows-back xs [] ∙ append-nil (map row xs)
+
+  pub rows-same : (xs ys : List A) → flat (map print xs) ≡ flat (map print ys) → map row xs ≡ map row ys
+  rows-same xs ys e = sym (rows xs) ∙ ap rowsIn e ∙ rows ys
+
+  -- the fields of an element are read as they were written
+  abbrev Legible : A → Type 0
+  Legible x = map again (fieldsFor x) ≡ fieldsFor x
+
+  unread : (xs : List A) → ((x : A) → In x xs → Legible x) → map (F .back) (map row xs) ≡ xs
+  unread xs h = map-map (F .back) row xs ∙ map-same _ (λ x. x) xs (λ x m. ap (λ fs. F .back (F .form x .class, fs)) (h x m) ∙ F .kept x) ∙ map-id xs
+
+  legible-same : (xs ys : List A) → ((x : A) → In x xs → Legible x) → ((y : A) → In y ys → Legible y) → map row xs ≡ map row ys → xs ≡ ys
+  legible-same xs ys h k e = sym (unread xs h) ∙ ap (map (F .back)) e ∙ unread ys k
+
+  abbrev ElementsBelow : ℕ → List A → Type 0
+  ElementsBelow b xs = (x : A) → In x xs → FieldsBelow b (fieldsFor x)
+
+  -- where only the fields of ys are known to be small, each row of xs is one of ys, and what is read small was written so
+  pub same : (xs ys : List A) → Apart ElementsBelow xs ys → map row xs ≡ map row ys → xs ≡ ys
+  same xs ys (inl h) e = legible-same xs ys (λ x m. again-all (fieldsFor x) (h .0 x m)) (λ y m. again-all (fieldsFor y) (h .1 y m)) e
+  same xs ys (inr s) e = legible-same xs ys written-small read-small e
+    where
+      read-small : (y : A) → In y ys → Legible y
+      read-small y m = again-all (fieldsFor y) (smalls-writable (fieldsFor y) (s y m))
+
+      written-small : (x : A) → In x xs → Legible x
+      written-small x m =
+          let z = Memᴰ·of-map row ys (subst (λ rs. In (row x) rs) e (Memᴰ·map row m)) in
+          smalls-kept (fieldsFor x) (subst AllSmall (sym (read-small (z .0) (z .1)) ∙ ap (λ r. r .1) (z .2)) (s (z .0) (z .1)))
+
+-- ---- lists of numbers: steps and arrangements' lines
+
+abbrev numbers : {print : List ℕ → List ℕ} {c : Char} {k : Class} → Letter c k → ((ns : List ℕ) → print ns ≡ line c (map Number ns)) → Format print
+numbers L w = record { form = λ ns. formed L (map Number ns); written = w; back = λ r. map valueOf (r .1); kept = values }
+
+-- ---- declarations
+
+abbrev declaration-form : Declaration → Form
+declaration-form (place v) = formed P-letter (Number v ∷ [])
+declaration-form transition = formed T-letter []
+declaration-form (arc Input p t) = formed I-letter (Number p ∷ Number t ∷ [])
+declaration-form (arc Output p t) = formed O-letter (Number t ∷ Number p ∷ [])
+declaration-form (arc Inhibitor p t) = formed H-letter (Number p ∷ Number t ∷ [])
+
+-- the number of a field, from 0
+abbrev numberAt : List Field → ℕ → ℕ
+numberAt fs i = valueOf (getD fs i Absent)
+
+unfoldable declaration-back : Read → Declaration
+declaration-back r =
+    let u = numberAt (r .1) 0 in
+    let v = numberAt (r .1) 1 in
+    cond (alike (r .0) LetterP) (place u) (cond (alike (r .0) LetterT) transition
+    (cond (alike (r .0) LetterI) (arc Input u v) (cond (alike (r .0) LetterO) (arc Output v u) (arc Inhibitor u v))))
+
+declarations : Format declarationLine
+unfolding declarationLine declaration-back alike
+declarations = record { form = declaration-form; written = written; back = declaration-back; kept = kept }
+  where
+    written : (d : Declaration) → declarationLine d ≡ line (declaration-form d .letter) (declaration-form d .fields)
+    written (place v) = refl
+    written transition = refl
+    written (arc Input p t) = refl
+    written (arc Output p t) = refl
+    written (arc Inhibitor p t) = refl
+
+    kept : (d : Declaration) → declaration-back (declaration-form d .class, declaration-form d .fields) ≡ d
+    kept (place v) = refl
+    kept transition = refl
+    kept (arc Input p t) = refl
+    kept (arc Output p t) = refl
+    kept (arc Inhibitor p t) = refl
+
+-- ---- records
+
+events : Format eventLine
+unfolding eventLine
+events = record { form = λ t. formed E-letter (Number t ∷ []); written = λ t. refl; back = λ r. numberAt (r .1) 0; kept = λ t. refl }
+
+unfoldable condition-back : Read → Condition
+condition-back r = record { place = numberAt (r .1) 0; producer = eventOf (getD (r .1) 1 Absent); consumer = eventOf (getD (r .1) 2 Absent) }
+
+conditions : Format conditionLine
+unfolding conditionLine condition-back
+conditions = record {
+  form = λ c. formed C-letter (Number (c .place) ∷ eventField (c .producer) ∷ eventField (c .consumer) ∷ []);
+  written = λ c. refl;
+  back = condition-back;
+  kept = λ c. rw (event-back (c .producer), event-back (c .consumer));
+}
+
+abbrev mark-form : MarkKind → ℕ → ℕ → Form
+mark-form Before c e = formed B-letter (Number c ∷ Number e ∷ [])
+mark-form After c e = formed A-letter (Number c ∷ Number e ∷ [])
+
+unfoldable mark-back : Read → Mark
+mark-back r = record { kind = cond (alike (r .0) LetterB) Before After; condition = numberAt (r .1) 0; event = numberAt (r .1) 1 }
+
+marks : Format markLine
+unfolding markLine markLineOf mark-back alike
+marks = record { form = λ m. mark-form (m .kind) (m .condition) (m .event); written = λ m. written (m .kind) _ _; back = mark-back; kept = λ m. kept (m .kind) _ _ }
+  where
+    written : (x : MarkKind) (c e : ℕ) → markLineOf x c e ≡ line (mark-form x c e .letter) (mark-form x c e .fields)
+    written Before c e = refl
+    written After c e = refl
+
+    kept : (x : MarkKind) (c e : ℕ) → mark-back (mark-form x c e .class, mark-form x c e .fields) ≡ record { kind = x; condition = c; event = e }
+    kept Before c e = refl
+    kept After c e = refl
+
+-- two lists in which the elements that pass a test stand in front of those that do not
+parts-same : {A : Type 0} (p : A → Bool) (xs ys vs ws : List A) → ((x : A) → In x xs → p x ≡ true) → ((y : A) → In y ys → p y ≡ false) → ((v : A) → In v vs → p v ≡ true)
+    → ((w : A) → In w ws → p w ≡ false) → xs ++ ys ≡ vs ++ ws → (xs ≡ vs) × (ys ≡ ws)
+parts-same p [] ys [] ws a b c d e = (refl, e)
+parts-same p [] ys (v ∷ vs) ws a b c d e = clash (c v here) (b v (rw e here))
+parts-same p (x ∷ xs) ys [] ws a b c d e = clash (a x here) (d x (rw (← e) here))
+parts-same p (x ∷ xs) ys (v ∷ vs) ws a b c d e =
+    let z = parts-same p xs ys vs ws (λ u m. a u (there m)) b (λ u m. c u (there m)) d (tail-eq-of-cons-eq e) in
+    (ap₂ (λ u us. u ∷ us) (head-eq-of-cons-eq e) (z .0), z .1)
+
+-- rows of one letter or another
+lettered : {A : Type 0} {print : A → List ℕ} (F : Format print) (k : Class) (b : Bool) → ((x : A) → alike (F .form x .class) k ≡ b) → (xs : List A) (r : Read) → In r (map (row F) xs)
+    → alike (r .0) k ≡ b
+lettered F k b h xs r m = let z = Memᴰ·of-map (row F) xs m in subst (λ r. alike (r .0) k ≡ b) (z .2) (h (z .0))
+
+marks-lettered : (k : Class) → alike LetterB k ≡ false → alike LetterA k ≡ false → (ms : List Mark) (r : Read) → In r (map (row marks) ms) → alike (r .0) k ≡ false
+unfolding marks
+marks-lettered k b a = lettered marks k false (λ m. go (m .kind) (m .condition) (m .event))
+  where
+    go : (x : MarkKind) (c e : ℕ) → alike (mark-form x c e .class) k ≡ false
+    go Before c e = b
+    go After c e = a
+
+record-rows : (R : RunRecord) → rowsIn (recordBytes R) ≡ map (row events) (R .events) ++ (map (row conditions) (R .conditions) ++ map (row marks) (R .marks))
+unfolding recordBytes
+record-rows R =
+    let cs = flat (map conditionLine (R .conditions)) in
+    let ms = flat (map markLine (R .marks)) in
+    ap rowsIn (append-assoc (flat (map eventLine (R .events))) cs ms) ∙ rows-back events (R .events) (cs ++ ms)
+    ∙ ap (λ rs. map (row events) (R .events) ++ rs) (rows-back conditions (R .conditions) ms ∙ ap (λ rs. map (row conditions) (R .conditions) ++ rs) (rows marks (R .marks)))
+
+-- records with the same text have the same rows, group by group
+groups-same : (R S : RunRecord) → recordBytes R ≡ recordBytes S
+    → (map (row events) (R .events) ≡ map (row events) (S .events))
+    × (map (row conditions) (R .conditions) ≡ map (row conditions) (S .conditions))
+    × (map (row marks) (R .marks) ≡ map (row marks) (S .marks))
+unfolding events conditions alike
+groups-same R S e =
+    let z = parts-same (λ r. alike (r .0) LetterE) _ _ _ _ (first R) (others R) (first S) (others S) (sym (record-rows R) ∙ ap rowsIn e ∙ record-rows S) in
+    let y = parts-same (λ r. alike (r .0) LetterC) _ _ _ _ (second R) (third R) (second S) (third S) (z .1) in
+    (z .0, y .0, y .1)
+  where
+    first : (R : RunRecord) (r : Read) → In r (map (row events) (R .events)) → alike (r .0) LetterE ≡ true
+    first R = lettered events LetterE true (λ t. refl) (R .events)
+
+    others : (R : RunRecord) (r : Read) → In r (map (row conditions) (R .conditions) ++ map (row marks) (R .marks)) → alike (r .0) LetterE ≡ false
+    others R r m = elim (List·Memᴰ·append-cases (map (row conditions) (R .conditions)) m) [
+      | inl i ↦ lettered conditions LetterE false (λ c. refl) (R .conditions) r i
+      | inr i ↦ marks-lettered LetterE refl refl (R .marks) r i
+    ]
+
+    second : (R : RunRecord) (r : Read) → In r (map (row conditions) (R .conditions)) → alike (r .0) LetterC ≡ true
+    second R = lettered conditions LetterC true (λ c. refl) (R .conditions)
+
+    third : (R : RunRecord) (r : Read) → In r (map (row marks) (R .marks)) → alike (r .0) LetterC ≡ false
+    third R = marks-lettered LetterC refl refl (R .marks)
+
+-- ---- the four kinds of texts
+
+lists-same : {print : List ℕ → List ℕ} {c : Char} {k : Class} (L : Letter c k) (w : (ns : List ℕ) → print ns ≡ line c (map Number ns)) (s t : List (List ℕ)) → Apart LinesBelow s t
+    → flat (map print s) ≡ flat (map print t) → s ≡ t
+lists-same L w s t h e =
+    same (numbers L w) s t (apart LinesBelow (ElementsBelow (numbers L w)) (λ s. s) (λ b s h ns m. numbers-below b ns (λ n i. h n (flat-in s m i))) s t h) (rows-same (numbers L w) s t e)
+
+pub logs-same : (s t : List (List ℕ)) → Apart LinesBelow s t → logBytes s ≡ logBytes t → s ≡ t
+unfolding logBytes stepLine
+logs-same = lists-same S-letter (λ ns. refl)
+
+pub arrangements-same : (s t : List (List ℕ)) → Apart LinesBelow s t → arrangementBytes s ≡ arrangementBytes t → s ≡ t
+unfolding arrangementBytes groupLine
+arrangements-same = lists-same G-letter (λ ns. refl)
+
+declaration-below : (b : ℕ) (d : Declaration) → DeclarationBelow b d → FieldsBelow b (declaration-form d .fields)
+declaration-below b (place v) h = (h, tt)
+declaration-below b transition h = tt
+declaration-below b (arc Input p t) h = (h .0, (h .1, tt))
+declaration-below b (arc Output p t) h = (h .1, (h .0, tt))
+declaration-below b (arc Inhibitor p t) h = (h .0, (h .1, tt))
+
+pub nets-same : (ds es : List Declaration) → Apart DeclarationsBelow ds es → netBytes ds ≡ netBytes es → ds ≡ es
+unfolding netBytes declarations
+nets-same ds es h e = same declarations ds es (apart DeclarationsBelow (ElementsBelow declarations) (λ ds. ds) (λ b ds h d m. declaration-below b d (h d m)) ds es h) (rows-same declarations ds es e)
+
+mark-below : (b : ℕ) (x : MarkKind) (c e : ℕ) → c < b → e < b → FieldsBelow b (mark-form x c e .fields)
+mark-below b Before c e l h = (l, (h, tt))
+mark-below b After c e l h = (l, (h, tt))
+
+pub records-same : (R S : RunRecord) → Apart RecordBelow R S → recordBytes R ≡ recordBytes S → R ≡ S
+unfolding events conditions marks
+records-same R S h e =
+    let z = groups-same R S e in
+    let es : R .events ≡ S .events = same events _ _ (apart RecordBelow (ElementsBelow events) (λ R. R .events) (λ b R h t m. (h .transitions t m, tt)) R S h) (z .0) in
+    let cs : R .conditions ≡ S .conditions = same conditions _ _ (apart RecordBelow (ElementsBelow conditions) (λ R. R .conditions)
+    (λ b R h c m. (h .places c m, (event-below b b (c .producer) (le-refl b) (h .producers c m), (event-below b b (c .consumer) (le-refl b) (h .consumers c m), tt)))) R S h) (z .1) in
+    let ms : R .marks ≡ S .marks = same marks _ _ (apart RecordBelow (ElementsBelow marks) (λ R. R .marks)
+    (λ b R h m i. mark-below b (m .kind) (m .condition) (m .event) (h .conditions m i) (h .events m i)) R S h) (z .2) in
+    λ i. record { events = es i; conditions = cs i; marks = ms i }
+
+pub one-reading : OneReading
+one-reading = record {
+  nets = λ ds es a b. nets-same ds es (inl (a, b));
+  logs = λ s t a b. logs-same s t (inl (a, b));
+  records = λ R S a b. records-same R S (inl (a, b));
+  arrangements = λ s t a b. arrangements-same s t (inl (a, b));
+}

@@ -1,0 +1,104 @@
+-- The refusals that each operation can meet, in the paper's order, each with its least and its greatest spot (01, "Refusals by
+-- operation"); and the statement that an operation meets no other. The statement is a type here; the crate `runs` has its proof.
+use mathlib.Core.Path.{_≡_}
+use mathlib.Core.Logic.{_≢_}
+use Prim.Native.Nat.{ℕ, _≤_}
+use mathlib.Core.List.{List, [], _∷_, _++_}
+use Rattle.spec.specs.Lists.{In}
+use Rattle.spec.specs.Answer.{Answer, refuses}
+use Rattle.spec.specs.Net.{readNet}
+use Rattle.spec.specs.Build.{build}
+use Rattle.spec.specs.Check.{check}
+use Rattle.spec.specs.Arrange.{arrange}
+use Rattle.spec.specs.Replay.{replay}
+use Rattle.spec.specs.Line.{refusedLine}
+use Rattle.spec.specs.Program.{inputOf, programInto}
+
+pub record Refusal : Type 0 where
+  pub number : ℕ
+  pub least : ℕ
+  pub most : ℕ
+
+abbrev pub refusal : ℕ → ℕ → ℕ → Refusal
+refusal n a b = record { number = n; least = a; most = b }
+
+-- "per line 11 malformed, 12 limit passed, 13 undeclared number, 14 arc repeated (spot: line); then 15 transition lacking input
+-- or output (spot: lowest such)": 32 places, 32 transitions and 3 × 32 × 32 arcs take 3,136 lines; an arc repeated stands below
+-- a place, a transition and an arc
+abbrev pub netRefusals : List Refusal
+netRefusals = refusal 11 1 3137 ∷ refusal 12 1 3137 ∷ refusal 13 1 3137 ∷ refusal 14 4 3137 ∷ refusal 15 0 31 ∷ []
+
+-- "per line 21 malformed, 22 unknown transition, 23 over 128 events, 24 too few tokens, 25 inhibited, 26 over 512 conditions,
+-- 27 over 4,096 marks (spot: line)": each line has an event, and 128 are the most
+abbrev pub logRefusals : List Refusal
+logRefusals =
+    refusal 21 1 129 ∷ refusal 22 1 129 ∷ refusal 23 1 129 ∷ refusal 24 1 128 ∷ refusal 25 1 128 ∷ refusal 26 1 128 ∷ refusal 27 1 128 ∷ []
+
+-- "per line 31 malformed or group out of order, 32 limit passed, 33 undeclared number, 34 condition and event marked already
+-- (spot: line); then 35 initial count (lowest place), 36 inputs or outputs, 37 mark missing or undue, 38 B on initial or A on
+-- unconsumed, 39 event strictly before itself (36 to 39: lowest event)": 128 events, 512 conditions and 4,096 marks take 4,736
+-- lines; no limit is passed before line 129, and a second mark stands below an event, a condition and the first one
+abbrev pub recordRefusals : List Refusal
+recordRefusals =
+    refusal 31 1 4737 ∷ refusal 32 129 4737 ∷ refusal 33 1 4736 ∷ refusal 34 4 4736
+    ∷ refusal 35 0 31 ∷ refusal 36 0 127 ∷ refusal 37 0 127 ∷ refusal 38 0 127 ∷ refusal 39 0 127 ∷ []
+
+-- "per line 41 malformed, 42 unknown event, 43 event repeated, 44 order broken (spot: line); then 45 event missing (lowest)":
+-- each line has an event of its own; where the order is broken two are left
+abbrev pub arrangementRefusals : List Refusal
+arrangementRefusals = refusal 41 1 129 ∷ refusal 42 1 129 ∷ refusal 43 1 129 ∷ refusal 44 1 127 ∷ refusal 45 0 127 ∷ []
+
+-- ---- by operation
+
+-- "Build: 20 buffer under 48,256 bytes (spot 0); net's; per line .."
+abbrev pub buildRefusals : List Refusal
+buildRefusals = refusal 20 0 0 ∷ netRefusals ++ logRefusals
+
+-- "Check: 30 buffer under 16,384 bytes (spot 0); net's; per line ..; then .."
+abbrev pub checkRefusals : List Refusal
+checkRefusals = refusal 30 0 0 ∷ netRefusals ++ recordRefusals
+
+-- "Replay: 40 under 4,128 counts (spot 0); net's; check's but 30; per line ..; then .."
+abbrev pub replayRefusals : List Refusal
+replayRefusals = refusal 40 0 0 ∷ netRefusals ++ (recordRefusals ++ arrangementRefusals)
+
+-- "Arrange: 50 buffer under 768 bytes (spot 0); net's; check's but 30."
+abbrev pub arrangeRefusals : List Refusal
+arrangeRefusals = refusal 50 0 0 ∷ netRefusals ++ recordRefusals
+
+-- "Refused line: 46 choice over 1 or no such line (spot: the line number asked)"
+abbrev pub lineRefusals : ℕ → List Refusal
+lineRefusals asked = refusal 46 asked asked ∷ []
+
+-- "Program: 10 input over 65,536 bytes or no `=` line (spot 0).", and what it prints after `X`: that, net's or a log line's
+abbrev pub inputRefusals : List Refusal
+inputRefusals = refusal 10 0 0 ∷ []
+
+abbrev pub programRefusals : List Refusal
+programRefusals = inputRefusals ++ (netRefusals ++ logRefusals)
+
+-- ---- no other is met
+
+-- number n at spot s is among the refusals
+pub record Among (rs : List Refusal) (n s : ℕ) : Type 0 where
+  pub which : Refusal
+  pub listed : In which rs
+  pub number : n ≡ which .number
+  pub least : which .least ≤ s
+  pub most : s ≤ which .most
+
+-- every refusal that the answer can be is among them, and none has number 0: where that is returned, the input was accepted
+pub record Refuses {A : Type 0} (rs : List Refusal) (x : Answer A) : Type 0 where
+  pub among : (n s : ℕ) → x ≡ refuses n s → Among rs n s
+  pub nonzero : (s : ℕ) → x ≢ refuses 0 s
+
+pub record Refusals : Type 0 where
+  pub net : (text : List ℕ) → Refuses netRefusals (readNet text)
+  pub build : (net log : List ℕ) (room : ℕ) → Refuses buildRefusals (build net log room)
+  pub check : (net text : List ℕ) (room : ℕ) → Refuses checkRefusals (check net text room)
+  pub replay : (net text arrangement : List ℕ) (room : ℕ) → Refuses replayRefusals (replay net text arrangement room)
+  pub arrange : (net text : List ℕ) (room : ℕ) → Refuses arrangeRefusals (arrange net text room)
+  pub line : (net second : List ℕ) (choice asked : ℕ) → Refuses (lineRefusals asked) (refusedLine net second choice asked)
+  pub input : (input : List ℕ) → Refuses inputRefusals (inputOf input)
+  -- the buffer into which the program is printed
+  pub program : (input : List ℕ) (room : ℕ) → Refuses (refusal 20 0 0 ∷ []) (programInto input room)
