@@ -5,8 +5,7 @@ use Prim.Native.Nat.{ℕ, _+_, _-_, _*_, _≤_, _<_}
 use native.Mathlib.Nat.{le-of-eq, le-trans}
 use native.Mathlib.Omega.{arith}
 use mathlib.Core.List.{List, _++_}
-use lib.ListN.{length, getD, take, drop, length-append, List·getD-append}
-use lib.Seq.{take-append-seam}
+use lib.ListN.{length, getD, take, drop, length-append}
 use Rattle.spec.specs.Answer.{Answer, gives, refuses, returned}
 use Rattle.spec.specs.Net.{Net, readNet}
 use Rattle.spec.specs.Record.{RunRecord, bench}
@@ -25,6 +24,7 @@ use Rattle.pti.specs.Calls.{BuildCall, CheckCall, ReplayCall, ArrangeCall}
 use Rattle.demands.specs.Demand.{Arranged, Replayed, Checked, NetCounted, Buffers, StatedSizes, OrderOfCalls, OrderPromised, RunOfCalls, RunPromised}
 use Rattle.demands.specs.declared.Calls.{Calls}
 use Rattle.demands.specs.declared.RunCalls.{RunCalls}
+use Rattle.demands.proofs.Given.{numbers-given, left-given, start-is, entry-is}
 
 -- ---- the sizes of an accepted record and its arrangements
 
@@ -34,27 +34,6 @@ events-few N text R h = accepted-record bench N text R h .0 .fits .events
 
 lines-most : (N : Net) (text : List ℕ) (R : RunRecord) → readRecord bench N text ≡ gives R → (lines : List (List ℕ)) → KeepsOrder R lines → length lines ≤ 128
 lines-most N text R h lines K = le-trans (lines-few (length (R .events)) lines (K .arranged)) (events-few N text R h)
-
--- ---- a call whose answer is given
-
-module _ {A : Type 0} (values : A → ℕ × ℕ × ℕ) (written : A → List ℕ) {x : Answer A} {a : A} (g : x ≡ gives a) where
-  numbers-given : {r : Numbers} → r ≡ numbersOf (returned values x) → r ≡ numbersOf (gives (values a))
-  unfolding returned
-  numbers-given p = p ∙ ap (λ y. numbersOf (returned values y)) g
-
-  left-given : (old : List ℕ) {new : List ℕ} → new ≡ leaves written x old → new ≡ over (written a) old
-  unfolding leaves
-  left-given old p = p ∙ ap (λ y. leaves written y old) g
-
--- the written values stand at the start of the buffer
-start-is : (ws old : List ℕ) {new : List ℕ} {k : ℕ} → new ≡ over ws old → k ≡ length ws → take k new ≡ ws
-unfolding over
-start-is ws old p q = rw (p, q) (take-append-seam ws (drop (length ws) old))
-
--- an entry of what was written
-entry-is : (ws old : List ℕ) {new : List ℕ} (i : ℕ) → new ≡ over ws old → i < length ws → getD new i 0 ≡ getD ws i 0
-unfolding over
-entry-is ws old i p h = rw p (List·getD-append ws (drop (length ws) old) 0 i h)
 
 -- ---- of an accepted record
 

@@ -1,4 +1,6 @@
-// The third demand as the promise of functions that make the calls: what each call returned and what it left in the buffers.
+// The second and the third demand as the promises of functions that make the calls: what each call returned, and what it left in
+// the buffers.
+ghost use Rattle.demands.specs.Exactly.{ReadsExactly, BuildsExactly, ChecksExactly, ArrangesExactly, ReplaysExactly};
 ghost use Rattle.demands.specs.Demand.{buffers, OrderPromised, RunPromised};
 use pti::pti_arrange;
 use pti::pti_build;
@@ -6,6 +8,46 @@ use pti::pti_check;
 use pti::pti_read_net;
 use pti::pti_replay;
 use spec::Numbers;
+
+// Reading a net.
+pub fn net_read(net: &[u8]) -> Numbers
+    ensures { λ r. ⌜ ReadsExactly (now (net .entry)) r ⌝ }
+{
+    pti_read_net(net)
+}
+
+// Building the record of a log.
+pub fn log_built(net: &[u8], log: &[u8], out: &mut [u8]) -> Numbers
+    ensures { λ r. ⌜ BuildsExactly (now (net .entry)) (now (log .entry)) (now (out .entry)) r (now (out .exit)) ⌝ }
+{
+    pti_build(net, log, out)
+}
+
+// Checking a record.
+pub fn record_checked(net: &[u8], text: &[u8], table: &mut [u8]) -> Numbers
+    ensures { λ r. ⌜ ChecksExactly (now (net .entry)) (now (text .entry)) (now (table .entry)) r (now (table .exit)) ⌝ }
+{
+    pti_check(net, text, table)
+}
+
+// Arranging a record.
+pub fn record_arranged(net: &[u8], text: &[u8], out: &mut [u8]) -> Numbers
+    ensures { λ r. ⌜ ArrangesExactly (now (net .entry)) (now (text .entry)) (now (out .entry)) r (now (out .exit)) ⌝ }
+{
+    pti_arrange(net, text, out)
+}
+
+// Replaying an arrangement.
+pub fn arrangement_replayed(
+    net: &[u8],
+    text: &[u8],
+    arrangement: &[u8],
+    rows: &mut [u16],
+) -> Numbers
+    ensures { λ r. ⌜ ReplaysExactly (now (net .entry)) (now (text .entry)) (now (arrangement .entry)) (now (rows .entry)) r (now (rows .exit)) ⌝ }
+{
+    pti_replay(net, text, arrangement, rows)
+}
 
 // What the calls on one net, one record and one arrangement returned.
 pub struct Calls {

@@ -18,7 +18,7 @@ use Rattle.spec.specs.Check.{readRecord, accepts, checkWithin, check}
 use Rattle.spec.specs.Arrange.{arrange}
 use Rattle.spec.specs.Replay.{readArrangement, replay}
 use Rattle.spec.specs.Line.{lineAt, chosenText, refusedLine}
-use Rattle.spec.specs.Program.{inputOf, parted, printed, program, programInto}
+use Rattle.spec.specs.Program.{inputOf, parted, printed, program}
 use Rattle.spec.specs.Refusals.{Refusal, refusal, netRefusals, logRefusals, recordRefusals, arrangementRefusals, buildRefusals, checkRefusals, replayRefusals, arrangeRefusals, lineRefusals, inputRefusals, programRefusals, Among, Refuses, Refusals}
 use Rattle.spec.specs.declared.Field.the-variants.{Number}
 use Rattle.lists.specs.Laws.{there, and-true, every-in}
@@ -78,10 +78,6 @@ input-within input =
     let over : Among inputRefusals 10 0 = listed inputRefusals 10 refl (zero-le, zero-le) in
     when-within 10 0 _ _ (λ t. over) λ e. found-within 10 0 (parted (linesOf input)) over
 
-into-within : (input : List ℕ) (room : ℕ) → Within (λ b. Unit) (refusal 20 0 0 ∷ []) (programInto input room)
-unfolding programInto first
-into-within input room = when-within 20 0 _ _ (λ t. listed (refusal 20 0 0 ∷ []) 20 refl (zero-le, zero-le)) λ e. given-within tt
-
 pub refusals : Refusals
 unfolding readNet every
 refusals = record {
@@ -92,7 +88,6 @@ refusals = record {
   arrange = λ net text room. refuses-listed refl (arrange-within net text room);
   line = λ net second choice asked. refuses-listed refl (line-within net second choice asked);
   input = λ input. refuses-listed refl (input-within input);
-  program = λ input room. refuses-listed refl (into-within input room);
 }
 
 -- ---- the program

@@ -12,7 +12,7 @@ use Rattle.spec.specs.Check.{check}
 use Rattle.spec.specs.Arrange.{arrange}
 use Rattle.spec.specs.Replay.{replay}
 use Rattle.spec.specs.Line.{refusedLine}
-use Rattle.spec.specs.Program.{inputOf, programInto}
+use Rattle.spec.specs.Program.{inputOf}
 
 pub record Refusal : Type 0 where
   pub number : ℕ
@@ -100,5 +100,3 @@ pub record Refusals : Type 0 where
   pub arrange : (net text : List ℕ) (room : ℕ) → Refuses arrangeRefusals (arrange net text room)
   pub line : (net second : List ℕ) (choice asked : ℕ) → Refuses (lineRefusals asked) (refusedLine net second choice asked)
   pub input : (input : List ℕ) → Refuses inputRefusals (inputOf input)
-  -- the buffer into which the program is printed
-  pub program : (input : List ℕ) (room : ℕ) → Refuses (refusal 20 0 0 ∷ []) (programInto input room)

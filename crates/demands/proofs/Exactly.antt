@@ -1,0 +1,80 @@
+-- Exactness of calls, from the exactness of the operations: a call's number is 0 exactly where its operation gives something.
+use mathlib.Core.Path.{_≡_, refl, sym, ap, _∙_, subst}
+use mathlib.Core.Logic.{_↔_}
+use Prim.Native.Nat.{ℕ, _≤_}
+use mathlib.Core.List.{List, []}
+use lib.ListN.{length}
+use Rattle.spec.specs.Answer.{Answer, gives}
+use Rattle.spec.specs.Net.{Net, readNet}
+use Rattle.spec.specs.NetText.{Declaration, netBytes, declared, Complete}
+use Rattle.spec.specs.Record.{RunRecord, recordBytes}
+use Rattle.spec.specs.Build.{recordFor, build}
+use Rattle.spec.specs.Check.{checked, check}
+use Rattle.spec.specs.Arrange.{arranged, arrange, arrangementBytes}
+use Rattle.spec.specs.Replay.{replayed, replay}
+use Rattle.spec.specs.Runs.{logBytes}
+use Rattle.spec.specs.Buffer.{leaves, buildLeaves, checkLeaves, replayLeaves, arrangeLeaves}
+use Rattle.spec.specs.Values.{netValues, byteValues, checkValues, replayValues, arrangeValues, netReturns}
+use Rattle.spec.specs.Exactness.{EachAllowed}
+use Rattle.spec.specs.declared.Numbers.{Numbers}
+use Rattle.runs.specs.Operations.{operations, nothing-else}
+use Rattle.runs.specs.Spots.{refusals}
+use Rattle.pti.specs.Calls.{BuildCall, CheckCall, ReplayCall, ArrangeCall}
+use Rattle.demands.specs.Exactly.{Exactly, ReadsExactly, BuildsExactly, ChecksExactly, ArrangesExactly, ReplaysExactly}
+use Rattle.demands.proofs.Given.{zero-given, exactly}
+
+pub reads-exactly : (net : List ℕ) {r : Numbers} → r ≡ netReturns net → ReadsExactly net r
+reads-exactly net {r} e ds q =
+    let F = refusals .net net in
+    let E = exactly netValues (readNet net) F e (λ n. []) (declared ds) {old = []} refl
+    (λ (p : EachAllowed ds × Complete (declared ds)). ap readNet q ∙ operations .reads ds (declared ds) .1 (p .0, p .1, refl))
+    (λ N g. let z = operations .reads ds N .0 (sym (ap readNet q) ∙ g) in (z .0, subst Complete (z .2) (z .1))) in
+    (E .accepted, E .returns)
+
+module _ (net log old : List ℕ) {r : Numbers} {new : List ℕ} (c : BuildCall net log old r new) where
+  pub builds-exactly : BuildsExactly net log old r new
+  unfolding buildLeaves
+  builds-exactly = record {
+    builds = λ N steps hN q room.
+        let X = build net log (length old) in
+        let O = operations .builds net N hN steps (length old) room in
+        exactly byteValues X (refusals .build net log (length old)) (c .answer) (λ b. b) (recordBytes (recordFor N steps)) (c .buffer)
+        (λ p. ap (λ (t : List ℕ). build net t (length old)) q ∙ O (recordBytes (recordFor N steps)) .1 (p .0, p .1, refl))
+        (λ b g. let z = O b .0 (sym (ap (λ (t : List ℕ). build net t (length old)) q) ∙ g) in (z .0, z .1));
+    nothing-else = λ z. let w = zero-given byteValues (build net log (length old)) (refusals .build net log (length old)) (c .answer) z in nothing-else .builds net log (length old) (w .0) (w .1);
+  }
+
+module _ (net text old : List ℕ) {r : Numbers} {new : List ℕ} where
+  pub checks-exactly : CheckCall net text old r new → ChecksExactly net text old r new
+  unfolding checkLeaves
+  checks-exactly c = record {
+    checks = λ N R hN q room.
+        let O = operations .checks net N hN R (length old) room in
+        exactly checkValues (check net text (length old)) (refusals .check net text (length old)) (c .answer) (λ k. k .table) (checked R) (c .buffer)
+        (λ p. ap (λ (t : List ℕ). check net t (length old)) q ∙ O (checked R) .1 (p, refl))
+        (λ k g. O k .0 (sym (ap (λ (t : List ℕ). check net t (length old)) q) ∙ g) .0);
+    nothing-else = λ z. let w = zero-given checkValues (check net text (length old)) (refusals .check net text (length old)) (c .answer) z in nothing-else .checks net text (length old) (w .0) (w .1);
+  }
+
+  pub arranges-exactly : ArrangeCall net text old r new → ArrangesExactly net text old r new
+  unfolding arrangeLeaves
+  arranges-exactly c = record {
+    arranges = λ N R hN q room.
+        let O = operations .arranges net N hN R (length old) room in
+        exactly arrangeValues (arrange net text (length old)) (refusals .arrange net text (length old)) (c .answer) (λ a. a .bytes) (arranged R) (c .buffer)
+        (λ p. ap (λ (t : List ℕ). arrange net t (length old)) q ∙ O (arranged R) .1 (p, refl))
+        (λ a g. O a .0 (sym (ap (λ (t : List ℕ). arrange net t (length old)) q) ∙ g) .0);
+    nothing-else = λ z. let w = zero-given arrangeValues (arrange net text (length old)) (refusals .arrange net text (length old)) (c .answer) z in nothing-else .arranges net text (length old) (w .0) (w .1);
+  }
+
+  pub replays-exactly : (arrangement : List ℕ) → ReplayCall net text arrangement old r new → ReplaysExactly net text arrangement old r new
+  unfolding replayLeaves
+  replays-exactly arrangement c = record {
+    replays = λ N R lines hN q s room.
+        let O = operations .replays net N hN R lines (length old) room in
+        let same : replay net text arrangement (length old) ≡ replay net (recordBytes R) (arrangementBytes lines) (length old) = rw (q, s) refl in
+        exactly replayValues (replay net text arrangement (length old)) (refusals .replay net text arrangement (length old)) (c .answer) (λ x. x .counts) (replayed N R lines) (c .buffer)
+        (λ p. same ∙ O (replayed N R lines) .1 (p .0, p .1, refl))
+        (λ x g. let z = O x .0 (sym same ∙ g) in (z .0, z .1));
+    nothing-else = λ z. let w = zero-given replayValues (replay net text arrangement (length old)) (refusals .replay net text arrangement (length old)) (c .answer) z in nothing-else .replays net text arrangement (length old) (w .0) (w .1);
+  }
