@@ -11,8 +11,8 @@ copy() { # NAME: the theorem crates without the computed cases, in $work/NAME
   local dir=$work/$1
   mkdir -p "$dir/crates"
   cp -r "$top"/crates/{spec,lists,order,runs} "$dir/crates/"
-  rm -rf "$dir"/crates/*/must-fail "$dir"/crates/spec/specs/{Cases,Traps,Quoted}.antt "$dir"/crates/runs/specs/Drive.antt
-  sed -i '/^pub mod \(Cases\|Traps\|Quoted\)$/d' "$dir/crates/spec/specs/Lib.antt"
+  rm -rf "$dir"/crates/*/must-fail "$dir"/crates/spec/specs/{Cases,Traps,Refusals,Bounds,Quoted}.antt "$dir"/crates/runs/specs/Drive.antt
+  sed -i '/^pub mod \(Cases\|Traps\|Refusals\|Bounds\|Quoted\)$/d' "$dir/crates/spec/specs/Lib.antt"
   sed -i '/^pub mod Drive$/d' "$dir/crates/runs/specs/Lib.antt"
   grep -E '^(spec|lists|order|runs):' "$top/crates.txt" > "$dir/crates.txt"
 }

@@ -21,3 +21,5 @@ pub mod Demand
 pub mod Quoted
 pub mod Cases
 pub mod Traps
+pub mod Refusals
+pub mod Bounds
