@@ -27,10 +27,24 @@ unfoldable pub drive : List ℕ
 unfolding text
 drive = text "P,1 P,0 P,1 P,0 P,0 T T T I,0,0 O,0,1 I,1,1 O,1,4 I,2,2 O,2,3 H,1,2"
 
+-- the record of case a
+unfoldable pub recordA : List ℕ
+unfolding text
+recordA = text "E,0 E,1 E,2 C,0,-,0 C,2,-,2 C,1,0,1 C,4,1,- C,3,2,- A,2,2"
+
 -- the record of case b
 unfoldable pub recordB : List ℕ
 unfolding text
 recordB = text "E,0 E,2 C,0,-,0 C,2,-,1 C,1,0,- C,3,1,- B,2,1"
+
+-- the net and the record of case k
+unfoldable pub netK : List ℕ
+unfolding text
+netK = text "P,1 P,0 T I,0,0 O,0,1 H,0,0"
+
+unfoldable pub recordK : List ℕ
+unfolding text
+recordK = text "E,0 C,0,-,0 C,1,0,- A,0,0"
 
 -- the check's table, the events' pairs listed by 128 × e + f
 table : List (ℕ × ℕ) → Checked → Bool
@@ -78,14 +92,14 @@ caseJ =
     (replay drive recordB (text "G,1 G,0") 4128)
 
 caseK : Bool
-caseK = refused 39 0 (check (text "P,1 P,0 T I,0,0 O,0,1 H,0,0") (text "E,0 C,0,-,0 C,1,0,- A,0,0") 16384)
+caseK = refused 39 0 (check netK recordK 16384)
 
 pub cases : Bool
 cases = caseA && caseB && caseC && caseD && caseE && caseF && caseG && caseH && caseI && caseJ && caseK
 
 -- opens every definition of document 01
 unfoldable pub openAll : Unit {0}
-unfolding openLists openAnswer openText openForms openNet openStep openRecord openOrder openProcess openBuild openCheck openArrange openReplay openLine openProgram openBuffer openQuoted drive recordB
+unfolding openLists openAnswer openText openForms openNet openStep openRecord openOrder openProcess openBuild openCheck openArrange openReplay openLine openProgram openBuffer openQuoted drive recordA recordB netK recordK
 openAll = tt
 
 pub cases-hold : cases ≡ true

@@ -25,3 +25,5 @@ pub mod Refusals
 pub mod Quoted
 pub mod Cases
 pub mod Traps
+pub mod RefusalOrder
+pub mod Bounds

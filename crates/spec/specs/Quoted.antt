@@ -7,6 +7,7 @@ use mathlib.Core.List.{List, [], _∷_, _++_, map}
 use lib.ListN.{set, replicate}
 use lib.Dec.{eqb}
 use Rattle.spec.specs.Answer.{Answer, gives, refuses}
+use Rattle.spec.specs.declared.Limits.{Limits}
 
 -- the bytes of a quoted text
 unfoldable pub ascii : String → List ℕ
@@ -46,6 +47,14 @@ unfoldable pub given : {A : Type 0} → (A → Bool) → Answer A → Bool
 given p (gives a) = p a
 given p (refuses m r) = false
 
+-- the answer is no refusal
+unfoldable pub passes : {A : Type 0} → Answer A → Bool
+passes a = given (λ v. true) a
+
+-- limits that are met sooner than document 01's: so many events, conditions and marks
+unfoldable pub atMost : ℕ → ℕ → ℕ → Limits
+atMost e c m = record { events = e; conditions = c; marks = m }
+
 -- `size` zeros but for the entries listed, each with its place
 unfoldable pub zerosBut : ℕ → List (ℕ × ℕ) → List ℕ
 zerosBut size [] = replicate size 0
@@ -53,5 +62,5 @@ zerosBut size (p ∷ ps) = set (zerosBut size ps) (p .0) (p .1)
 
 -- opens every definition of this module, for what computes with them
 unfoldable pub openQuoted : Unit {0}
-unfolding ascii text unended same refused given zerosBut
+unfolding ascii text unended same refused given passes atMost zerosBut
 openQuoted = tt

@@ -162,7 +162,7 @@ rowOf most line =
 unfoldable pub digit : ℕ → ℕ
 digit d = code "0" + d
 
--- the last `most` digits of a number, without leading zeros
+-- a number of at most `most` digits without leading zeros; of a greater one the last `most`, which can begin with zeros
 unfoldable pub digits : ℕ → ℕ → List ℕ
 digits zero n = []
 digits (suc most) n = cond (ltb n 10) (digit n ∷ []) (digits most (n / 10) ++ digit (n % 10) ∷ [])
