@@ -119,7 +119,14 @@ fn is_late(w: &[u64; 512], d: usize, x: u8, k: u8, line: Set) -> bool
 }
 
 // 44: whether some event is late for one of line k.
-fn breaks(w: &[u64; 512], stands: &[u8; 128], n: usize, k: u8, events: &[u8; 128], count: usize) -> bool
+fn breaks(
+    w: &[u64; 512],
+    stands: &[u8; 128],
+    n: usize,
+    k: u8,
+    events: &[u8; 128],
+    count: usize,
+) -> bool
     requires { ⌜ (n ≤ 128) × Good (now w) × (length (now events) ≡ 128) × (count ≤ 128) × ((i : ℕ) → i < count → getD (now events) i 0 < 128) ⌝ }
     ensures { λ r. ⌜ r ≡ breaksIn (now (w .entry)) (now (stands .entry)) n k (take count (now (events .entry))) ⌝ }
 {
