@@ -1,6 +1,6 @@
 -- The relation of a record's bytes is that of its pairs.
 use mathlib.Core.Path.{_≡_, refl, sym, ap, _∙_}
-use Prim.Native.Nat.{ℕ, _+_, _*_, _≤_, _<_, max, zero-le}
+use Prim.Native.Nat.{ℕ, _+_, _≤_, _<_, zero-le}
 use native.Mathlib.Nat.{le-trans, le-antisymm, le-of-eq}
 use native.Mathlib.Omega.{arith}
 use mathlib.Core.Bool.{Bool, true, false, _&&_, cond}
@@ -16,7 +16,7 @@ use Rattle.spec.specs.Order.{Pair, pairs, isPair}
 use Rattle.spec.specs.declared.MarkKind.{MarkKind}
 use Rattle.spec.specs.declared.MarkKind.the-variants.{Before, After}
 use Rattle.lists.specs.Laws
-use Rattle.order.specs.Below.{maxBelow, max-above, max-least}
+use Rattle.order.specs.Below.{max-above, max-least}
 use Rattle.runs.specs.Sources.{between, condition-pair, before-pair, after-pair, each-pair}
 use Rattle.runs.specs.Values.{weight, valueAt, pairAt, pair-above}
 use Rattle.net.specs.declared.Net.{Net}

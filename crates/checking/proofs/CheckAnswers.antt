@@ -4,7 +4,7 @@ use Prim.Native.Nat.{ℕ, _≤_, _<_}
 use mathlib.Core.List.{List}
 use lib.ListN.{length}
 use borrow.Author.Tests.{lt-ltb, le-ltb}
-use Rattle.spec.specs.Answer.{Answer, gives, refuses, _>>=_, _>>_, refuse_at_when_, returned}
+use Rattle.spec.specs.Answer.{gives, refuses, _>>=_, _>>_, refuse_at_when_, returned}
 use Rattle.spec.specs.Check.{accepts, Accepted as AcceptedD, checked, checkWithin}
 use Rattle.spec.specs.Buffer.{leaves, checkLeaves}
 use Rattle.spec.specs.declared.Limits.{Limits}
@@ -22,7 +22,6 @@ use Rattle.accepting.specs.declared.Refusal.{Refusal}
 use Rattle.accepting.specs.declared.Verdict.the-variants.{Given, Refused}
 use Rattle.accepting.specs.declared.Accepted.{Accepted}
 use Rattle.accepting.proofs.Accepting.{accepted-process}
-use Rattle.spec.specs.Values.{checkValues}
 use Rattle.checking.specs.Checking.{Checks}
 use Rattle.checking.specs.declared.CheckAnswer.the-variants.{Checked, BufferShort, Refused as CheckRefused}
 use Rattle.checking.proofs.CheckTable.{table-written, pairs-counted}
@@ -34,10 +33,6 @@ module _ (lim : Limits) (net text : List ℕ) where
       let w = accepted-process lim net text b e in
       subst (λ (n : ℕ). Ready n t × Order n (cellOf t)) (sym (k .bytes .events)) (k .bytes .order .ready, order-same _ (cellOf t) (orderOf (b .run)) (k .bytes .order .cell) (order (b .net) (b .run) (w .0) (w .1)))
   order-given a t q (refusing n p e y) = not-refused (sym y ∙ ap verdictOf q)
-
-  pub few-events : (a : Accepted) (t : List ℕ) → a .verdict ≡ Given → Accepts lim net text a t → a .events ≤ 128
-  few-events a t q (giving b e y k) = k .bytes .few
-  few-events a t q (refusing n p e y) = not-refused (sym y ∙ ap verdictOf q)
 
   -- ---- 30
 

@@ -1,8 +1,7 @@
 -- The bytes that the check writes, and the independent pairs that it counts, are those of the record.
 use mathlib.Core.Path.{_≡_, refl, sym, ap, ap₂, _∙_}
 use Prim.Native.Nat.{ℕ, zero, suc, _+_, _-_, _*_, _/_, _%_, _≤_, _<_}
-use mathlib.Core.Logic.{_⊎_, inl, inr}
-use native.Mathlib.Nat.{mul-suc, mul-zero, div-add-mod, mod-lt}
+use native.Mathlib.Nat.{mul-suc, mul-zero, div-add-mod}
 use native.Mathlib.Decide.{decLe}
 use native.Mathlib.Omega.{arith}
 use mathlib.Core.Bool.{Bool, true, false, not, _&&_, cond}
@@ -10,18 +9,17 @@ use mathlib.Core.List.{List, _++_, map}
 use lib.ListN.{length, getD, drop, length-append, length-drop, List·getD-append}
 use lib.Seq.{ext-getD, getD-append-add, getD-drop}
 use lib.Dec.{eqb, ltb}
-use borrow.Author.Tests.{ltb-true, ltb-false, le-ltb}
+use borrow.Author.Tests.{ltb-true}
 use Rattle.spec.specs.Lists.{count, upTo, from, flat, sum}
 use Rattle.spec.specs.Net.{Net as NetD}
 use Rattle.spec.specs.Record.{RunRecord}
 use Rattle.spec.specs.Process.{Process, WellFormed}
 use Rattle.spec.specs.Check.{related, tableAt, tableBytes, independent, independentPairs as pairsD}
 use Rattle.spec.specs.Buffer.{over}
-use Rattle.lists.specs.Laws.{and-true, and-false, length-map, length-upTo, upTo-snoc, in-upTo, flat-map-snoc, getD-table, getD-table-rows, map-same, count-same}
+use Rattle.lists.specs.Laws.{length-map, length-upTo, upTo-snoc, in-upTo, flat-map-snoc, getD-table, getD-table-rows, map-same, count-same}
 use Rattle.lists.specs.Mapped.{Mapped}
 use Rattle.reach.specs.Rows.{cellOf}
 use Rattle.order.specs.Diamond.{entry}
-use Rattle.runs.specs.Values.{orderOf}
 use Rattle.runs.specs.Closure.{related-is}
 use Rattle.row_facts.specs.Pairs.{independentIn, independentsBelow, independentPairs}
 use Rattle.accepting.specs.Relation.{HoldsOrder}

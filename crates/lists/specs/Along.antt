@@ -1,17 +1,17 @@
 -- Tests and sums over the elements of a list that a loop meets one after the other.
-use Prim.Native.Nat.{ℕ, _+_, _≤_, _<_}
-use mathlib.Core.Path.{_≡_, refl, ap, _∙_}
+use Prim.Native.Nat.{ℕ, _+_, _<_}
+use mathlib.Core.Path.{_≡_, refl, _∙_}
 use mathlib.Core.Bool.{Bool, true, false, _||_}
 use mathlib.Core.List.{List, [], _∷_, _++_}
 use native.Mathlib.Nat.{zero-add}
 use native.Mathlib.Numerals.{add-one}
 use native.Mathlib.Omega.{arith}
-use lib.ListN.{length, getD, take, drop, drop-of-length-le}
+use lib.ListN.{length, getD, take, drop}
 use lib.Dec.{ltb}
-use lib.Seq.{take-suc, getD-take, length-take-le, drop-cons}
+use lib.Seq.{take-suc, drop-cons}
 use borrow.Author.Tests.{lt-ltb}
 use Rattle.spec.specs.Lists.{In, any, every, sumOf, asCount}
-use Rattle.lists.specs.Laws.{here, there, at-in, any-in, sumOf-append}
+use Rattle.lists.specs.Laws.{here, there, sumOf-append}
 
 -- ---- a list known by its first element and the others
 
@@ -68,37 +68,7 @@ module _ {A : Type 0} (d : A) where
   unfolding sumOf
   sumOf-more f xs i h = rw (take-more xs i h) (sumOf-append f (take i xs) (getD xs i d ∷ []) ∙ omega arith)
 
-  any-append : (q : A → Bool) (s t : List A) → any q (s ++ t) ≡ (any q s || any q t)
-  unfolding any
-  any-append q [] t = refl
-  any-append q (x ∷ s) t = go (q x) (any-append q s t)
-    where
-      go : (b : Bool) → any q (s ++ t) ≡ (any q s || any q t) → (b || any q (s ++ t)) ≡ ((b || any q s) || any q t)
-      go true h = refl
-      go false h = h
-
-  pub none-more : (q : A → Bool) (xs : List A) (i : ℕ) → i < length xs → q (getD xs i d) ≡ false → any q (take i xs) ≡ false → any q (take (i + 1) xs) ≡ false
-  unfolding any
-  none-more q xs i h e n = rw (take-more xs i h, any-append q (take i xs) (getD xs i d ∷ []), n, e)
-
-  pub any-taken : (q : A → Bool) (xs : List A) (i n : ℕ) → i < n → n ≤ length xs → q (getD xs i d) ≡ true → any q (take n xs) ≡ true
-  any-taken q xs i n h l e =
-      any-in q (getD (take n xs) i d) (take n xs) (at-in d (take n xs) i (omega (arith, length-take-le n xs l))) (ap q (getD-take n xs i d h) ∙ e)
-
 -- ---- what is left of a list from a position on
 
 pub rest-at : (s : List ℕ) (i : ℕ) → i < length s → drop i s ≡ getD s i 0 ∷ drop (i + 1) s
 rest-at s i h = rw (add-one i) (drop-cons s i 0 h)
-
-module _ (q : ℕ → Bool) (s : List ℕ) (i : ℕ) where
-  pub every-on : i < length s → q (getD s i 0) ≡ true → every q (drop (i + 1) s) ≡ every q (drop i s)
-  unfolding every
-  every-on h e = rw (rest-at s i h, e)
-
-  pub every-not : i < length s → q (getD s i 0) ≡ false → every q (drop i s) ≡ false
-  unfolding every
-  every-not h e = rw (rest-at s i h, e)
-
-  pub every-end : length s ≤ i → every q (drop i s) ≡ true
-  unfolding every
-  every-end h = rw (drop-of-length-le s h)

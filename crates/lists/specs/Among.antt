@@ -1,13 +1,13 @@
--- Tests and counts over a list by the places of its elements, and an element that alone passes a test.
-use Prim.Native.Nat.{ℕ, suc, _+_, _≤_, _<_}
+-- Tests and counts over a list by the places of its elements, and the first element that passes a test.
+use Prim.Native.Nat.{ℕ, _+_, _<_}
 use mathlib.Core.Path.{_≡_, refl, sym, ap, _∙_}
 use mathlib.Core.Bool.{Bool, true, false, _||_, cond}
-use mathlib.Core.Option.{Option, none, some}
-use mathlib.Core.List.{List, [], _∷_, map, List·Memᴰ·head, List·Memᴰ·tail}
+use mathlib.Core.Option.{some}
+use mathlib.Core.List.{List, [], _∷_, _++_, map, List·Memᴰ·head, List·Memᴰ·tail}
 use native.Mathlib.Omega.{arith}
 use lib.ListN.{length, getD}
 use Rattle.spec.specs.Lists.{In, any, count, first, upTo}
-use Rattle.lists.specs.Laws.{count-cons, count-in, count-true, count-map, count-same, in-upTo, tabled}
+use Rattle.lists.specs.Laws.{or-false, count-map, count-same, in-upTo, tabled}
 
 -- a count over a list is one over the places in it
 pub count-places : {A : Type 0} (d : A) (xs : List A) (n : ℕ) (p : A → Bool) (q : ℕ → Bool) → n ≡ length xs → ((i : ℕ) → i < n → q i ≡ p (getD xs i d)) → count q (upTo n) ≡ count p xs
@@ -27,16 +27,6 @@ any-or p q (x ∷ xs) = rw (any-or p q xs) (go (p x) (q x) (any p xs) (any q xs)
     go false true false d = refl
     go false false c d = refl
 
--- the only element that passes is the first one
-pub first-only : {A : Type 0} (p : A → Bool) (x : A) (xs : List A) → In x xs → p x ≡ true → count p xs ≤ 1 → first p xs ≡ some x
-unfolding first
-first-only p x (y ∷ xs) (List·Memᴰ·head e) h l = rw (sym (ap p e) ∙ h) (ap some (sym e))
-first-only p x (y ∷ xs) (List·Memᴰ·tail m) h l = go (p y) refl (λ k. first-only p x xs m h k)
-  where
-    go : (b : Bool) → p y ≡ b → (count p xs ≤ 1 → first p xs ≡ some x) → cond b (some y) (first p xs) ≡ some x
-    go true q r = absurd (omega (arith, count-cons p y xs, count-true q, count-in p x xs m h))
-    go false q r = r (omega (arith, count-cons p y xs))
-
 -- the first element that passes
 pub first-found : {A : Type 0} (p : A → Bool) {x : A} (xs : List A) → first p xs ≡ some x → In x xs × (p x ≡ true)
 unfolding first
@@ -46,3 +36,9 @@ first-found p {x} (y ∷ xs) h = go (p y) refl h (λ k. first-found p xs k)
     go : (b : Bool) → p y ≡ b → cond b (some y) (first p xs) ≡ some x → (first p xs ≡ some x → In x xs × (p x ≡ true)) → In x (y ∷ xs) × (p x ≡ true)
     go true q k r = let e : x ≡ y = cc in (List·Memᴰ·head e, ap p e ∙ q)
     go false q k r = let z = r k in (List·Memᴰ·tail (z .0), z .1)
+
+-- behind elements that do not pass
+pub first-past : {A : Type 0} (p : A → Bool) (xs ys : List A) → any p xs ≡ false → first p (xs ++ ys) ≡ first p ys
+unfolding any first
+first-past p [] ys h = refl
+first-past p (x ∷ xs) ys h = let r = or-false (p x) (any p xs) h in rw (r .0) (first-past p xs ys (r .1))

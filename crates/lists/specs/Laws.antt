@@ -217,11 +217,6 @@ module _ {A : Type 0} where
   pub count-all : (p : A → Bool) (xs : List A) → ((x : A) → In x xs → p x ≡ true) → count p xs ≡ length xs
   count-all p xs h = count-sum p xs ∙ sumOf-same _ (λ x. 1) xs (λ x m. count-true (h x m)) ∙ sumOf-one xs
 
-  -- a test that is joined to one that does not look at the element
-  pub sumOf-when : (b : Bool) (p : A → Bool) (xs : List A) → sumOf (λ x. asCount (b && p x)) xs ≡ cond b (sumOf (λ x. asCount (p x)) xs) 0
-  sumOf-when true p xs = refl
-  sumOf-when false p xs = sumOf-zero _ xs (λ x m. count-false {b = false} refl)
-
 pub sumOf-map : {A B : Type 0} (f : B → ℕ) (g : A → B) (xs : List A) → sumOf f (map g xs) ≡ sumOf (λ x. f (g x)) xs
 unfolding sumOf
 sumOf-map f g [] = refl
@@ -462,10 +457,6 @@ unfolding from
 getD-from a zero i d h = absurd (not-suc-le-zero h)
 getD-from a (suc k) zero d h = omega arith
 getD-from a (suc k) (suc i) d h = getD-from (suc a) k i d (le-of-suc-le-suc h) ∙ omega arith
-
-pub getD-upTo : (n i d : ℕ) → i < n → getD (upTo n) i d ≡ i
-unfolding upTo
-getD-upTo n i d h = getD-from 0 n i d h ∙ omega arith
 
 pub in-from : (x a k : ℕ) → In x (from a k) → (a ≤ x) × (x < a + k)
 in-from x a k m =

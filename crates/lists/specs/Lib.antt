@@ -7,7 +7,6 @@ pub mod Running
 pub mod Along
 pub mod Tables
 pub mod Grouped
-pub mod First
 pub mod Parts
 pub mod Among
 pub mod Stretch

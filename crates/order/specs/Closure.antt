@@ -1,5 +1,5 @@
 -- The closed order of a relation between events, computed (Warshall, with the loop at the middle event taken in): it is closed.
-use mathlib.Core.Path.{sym, subst}
+use mathlib.Core.Path.{_≡_, refl, sym, subst}
 use Prim.Native.Nat.{ℕ, zero, suc, _≤_, _<_, max}
 use native.Mathlib.Nat.{le-refl, le-trans, not-suc-le-zero, eq-or-lt-of-le, le-of-suc-le-suc, max-le}
 use native.Mathlib.Omega.{arith}
@@ -86,3 +86,19 @@ close-bound pair h zero e f = h e f
 close-bound pair h (suc k) e f =
     let r : (e f : ℕ) → close pair k e f ≤ 2 = close-bound pair h k in
     max-le (r e f) (join-bound _ _ (max-le (r e k) (join-bound _ _ (r e k) (r k k))) (r k f))
+
+-- ---- relations that agree below n
+
+-- the events below n stand to each other alike
+abbrev pub Same : ℕ → (ℕ → ℕ → ℕ) → (ℕ → ℕ → ℕ) → Type 0
+Same n c d = (e f : ℕ) → e < n → f < n → c e f ≡ d e f
+
+-- the step reads entries below n only
+step-same : (n : ℕ) (c d : ℕ → ℕ → ℕ) (k : ℕ) → k < n → Same n c d → Same n (step c k) (step d k)
+unfolding step col
+step-same n c d k m h e f l q = rw (h e f l q, h e k l m, h k k m m, h k f m q) refl
+
+pub close-same : (n : ℕ) (c d : ℕ → ℕ → ℕ) → Same n c d → (k : ℕ) → k ≤ n → Same n (close c k) (close d k)
+unfolding close
+close-same n c d h zero l = h
+close-same n c d h (suc k) l = step-same n (close c k) (close d k) k l (close-same n c d h k (omega arith))

@@ -13,6 +13,4 @@ pub mod Exact
 pub mod Extend
 pub mod Scan
 pub mod Table
-pub mod InPlace
-pub mod Levelling
 pub mod Examples

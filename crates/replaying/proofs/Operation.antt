@@ -7,7 +7,7 @@ use native.Mathlib.Omega.{arith}
 use lib.ListN.{length, getD}
 use borrow.Author.Tests.{lt-ltb, le-ltb}
 use Rattle.spec.specs.Lists.{sum}
-use Rattle.spec.specs.Answer.{Answer, gives, refuses, _>>=_, _>>_, refuse_at_when_, returned}
+use Rattle.spec.specs.Answer.{gives, refuses, _>>=_, _>>_, refuse_at_when_, returned}
 use Rattle.spec.specs.Record.{bench}
 use Rattle.spec.specs.Process.{WellFormed}
 use Rattle.spec.specs.Check.{accepts, Accepted as AcceptedD}

@@ -2,12 +2,12 @@
 use mathlib.Core.Path.{_≡_, refl, sym, ap, _∙_}
 use mathlib.Core.Bool.{Bool, true, false}
 use mathlib.Core.List.{List}
-use Prim.Native.Nat.{ℕ, zero, suc, _+_, _-_, _≤_, _<_}
+use Prim.Native.Nat.{ℕ, _+_, _-_, _≤_, _<_}
 use native.Mathlib.Numerals.{add-one}
 use native.Mathlib.Omega.{arith}
 use Rattle.order.specs.Below.{sumBelow, sum-suc}
 use Rattle.order.specs.Order.{Order}
-use Rattle.row_facts.specs.Pairs.{strictIn, onCycle, independentPairs}
+use Rattle.row_facts.specs.Pairs.{onCycle, independentPairs}
 use Rattle.bit_sets.specs.Sets.{has}
 use Rattle.bit_sets.specs.Sums.{sum-zero}
 use Rattle.reach.specs.declared.Row.{Row}

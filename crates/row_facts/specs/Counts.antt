@@ -1,16 +1,15 @@
 -- The strict pairs in rows of bits.
-use mathlib.Core.Path.{_≡_, refl, sym, ap, _∙_}
-use mathlib.Core.Bool.{Bool, true, false}
+use mathlib.Core.Path.{_≡_, sym, ap, _∙_}
+use mathlib.Core.Bool.{true, false}
 use mathlib.Core.List.{List}
-use Prim.Native.Nat.{ℕ, _+_, _-_, _*_, _≤_, _<_}
+use Prim.Native.Nat.{ℕ, _+_, _-_, _≤_, _<_}
 use native.Mathlib.Decide.{decLe}
 use native.Mathlib.Omega.{arith}
 use borrow.Author.Tests.{le-leb, lt-leb}
 use Rattle.spec.specs.Lists.{asCount}
 use Rattle.order.specs.Below.{sumBelow}
-use Rattle.row_facts.specs.Pairs.{strictIn, onCycle}
+use Rattle.row_facts.specs.Pairs.{strictIn}
 use Rattle.bit_sets.specs.Sets.{has, has-most}
-use Rattle.bit_sets.specs.declared.Set.{Set}
 use Rattle.bit_sets.specs.Sums.{sum-same, sum-pad}
 use Rattle.reach.specs.declared.Row.{Row}
 use Rattle.reach.specs.Rows.{valueOf, Sub, rowOf, cellOf, Good}

@@ -1,19 +1,19 @@
 -- Entries of the table raised one after the other.
 use mathlib.Core.Path.{_≡_, refl, sym, ap, _∙_, subst}
 use mathlib.Core.Logic.{_≢_}
-use Prim.Native.Nat.{ℕ, _+_, _*_, _≤_, _<_, max}
+use Prim.Native.Nat.{ℕ, _+_, _≤_, max}
 use native.Mathlib.Nat.{max-zero}
 use native.Mathlib.Decide.{ℕ-discrete}
 use native.Mathlib.Numerals.{add-one}
 use native.Mathlib.Omega.{arith}
-use mathlib.Core.Bool.{Bool, true, false, _&&_, cond, and-false}
+use mathlib.Core.Bool.{and-false}
 use mathlib.Core.List.{List}
-use lib.ListN.{length, getD, set, length-set}
+use lib.ListN.{getD}
 use lib.Dec.{eqb}
 use borrow.Author.Tests.{eq-eqb, ne-eqb}
 use Rattle.spec.specs.Lists.{upTo, from, greatest}
 use Rattle.order.specs.Below.{maxBelow, max-suc}
-use Rattle.reach.specs.Rows.{cellOf, Good, Raised as RaisedOne}
+use Rattle.reach.specs.Rows.{cellOf, Raised as RaisedOne}
 use Rattle.record.specs.declared.Counts.{Counts}
 use Rattle.record.specs.Holds.{conditionOf}
 use Rattle.row_pairs.specs.Relation.{pairIn, conditionPairIn, markPairIn, overall, relationIn, Raised, Filled}

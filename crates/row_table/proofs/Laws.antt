@@ -1,10 +1,9 @@
 -- Eight entries at a time, and the rows of the table.
-use mathlib.Core.Path.{_≡_, refl, sym, ap, ap₂, _∙_, subst}
+use mathlib.Core.Path.{_≡_, refl, sym, ap, ap₂, _∙_}
 use mathlib.Core.List.{List}
 use Prim.Native.Nat.{ℕ, _+_, _-_, _*_, _/_, _%_, _^_, _≤_, _<_, min}
 use mathlib.Core.Logic.{_≢_}
 use native.Mathlib.Decide.{ℕ-discrete, decLe}
-use lib.Dec.{eqb, ltb}
 use borrow.Author.Tests.{eq-eqb, ne-eqb, lt-ltb, le-ltb}
 use Rattle.lists.specs.Mapped.{Mapped}
 use Rattle.order.specs.Table.{cell-row, cell-column}
@@ -14,7 +13,7 @@ use Rattle.bit_sets.specs.declared.Set.{Set}
 use Rattle.reach.specs.declared.Row.{Row}
 use Rattle.reach.specs.Rows.{valueOf, rowOf, cellOf}
 use native.Mathlib.Omega.{arith}
-use lib.ListN.{length, getD, set, length-set}
+use lib.ListN.{length, getD, set}
 use lib.Bits.{bitAnd}
 use Rattle.bit_sets.specs.Bits.{bit, bit-most}
 use Rattle.row_table.specs.Spread.{spread, octet, byte-0, byte-1, byte-2, byte-3, byte-4, byte-5, byte-6, byte-7}

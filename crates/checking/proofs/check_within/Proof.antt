@@ -1,4 +1,3 @@
-use native.Mathlib.Omega.{arith}
 use borrow.Author.Needs.{needs}
 use Rattle.accepting.proofs.Fresh.{fresh}
 use Rattle.checking.proofs.CheckAnswers.{order-given, short-checks, refused-checks, given-checks}

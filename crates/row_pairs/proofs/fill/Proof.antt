@@ -1,5 +1,4 @@
 use native.Mathlib.Omega.{arith}
-use borrow.Author.Needs.{needs}
 use Rattle.row_pairs.proofs.Raising.{filled}
 use Rattle.row_pairs.proofs.fill.Statement.{statement}
 use Rattle.row_pairs.proofs.fill.Tie as tie

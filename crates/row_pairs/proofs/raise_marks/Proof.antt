@@ -1,8 +1,7 @@
-use Prim.Native.Nat.{ℕ, _-_, _≤_}
+use Prim.Native.Nat.{_-_, _≤_}
 use native.Mathlib.Omega.{arith}
 use mathlib.Core.Path.{_≡_, refl}
 use lib.ListN.{length}
-use borrow.Author.Needs.{needs}
 use Rattle.row_pairs.specs.Relation.{Raised, overall, markPairIn}
 use Rattle.row_pairs.proofs.Raising.{overall-none, overall-more, overall-end}
 use Rattle.row_pairs.proofs.raise_marks.Statement.{statement}
