@@ -90,7 +90,7 @@ ofBuild =
     && inLog 22 1 drive (line "S" (replicate 128 (Number 0) ++ Number 3 ∷ []))
     -- 23 before 24,
     && inLogOf (atMost 1 9 9) 23 1 drive (text "S,0,0")
-    -- 24 before 25, over all places: place 1, which inhibits, is lower than place 2, which is short
+    -- 24 before 25, also where the place that inhibits (1) is lower than the one that is short (2),
     && inLog 24 2 drive (text "S,0 S,2,0")
     && inLog 24 2 drive (text "S,0 S,2,2")
     -- 25 before 26,

@@ -1,8 +1,7 @@
--- Cases that a to k leave open, computed too: each would pass a wrong reading of document 01. The order of the refusals and their
--- spots stand in `RefusalOrder`, the limits and sizes in `Bounds`.
+-- What a to k leave open, computed too: each case fails under a reading of document 01 that a to k would let pass. The order of
+-- the refusals and their spots stand in `RefusalOrder`, the limits and sizes in `Bounds`.
 use mathlib.Core.Path.{_≡_, refl}
 use Prim.Native.Nat.{ℕ, _+_, _*_}
-use Prim.Native.Char.{code}
 use mathlib.Core.Bool.{Bool, true, _&&_}
 use mathlib.Core.List.{List, [], _∷_, _++_, map}
 use lib.ListN.{take, drop, replicate}
@@ -266,6 +265,7 @@ replayings =
     -- "each event of the record once in all": in a line and over the lines
     && refused 43 1 (replay drive recordB (text "G,1,1") 4128)
     && refused 43 2 (replay drive recordB (text "G,1 G,1") 4128)
+    && refused 43 1 (replay drive recordB (line "G" (replicate 200 (Number 1))) 4128)
     -- "strict predecessors stand in earlier lines and weak ones no later"
     && refused 44 1 (replay drive recordA (text "G,0,1 G,2") 4128)
     && refused 44 2 (replay drive recordA (text "G,0 G,1,2") 4128)
