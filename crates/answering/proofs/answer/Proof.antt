@@ -1,3 +1,4 @@
+use native.Mathlib.Omega.{arith}
 use borrow.Author.Needs.{needs}
 use Rattle.printing.proofs.Printing.{printed-within}
 use Rattle.answering.proofs.Parts.{read-within, all-printed}
@@ -8,8 +9,8 @@ pub answer-spec : {M : Type 1} → statement M
 answer-spec = tie.close (tie.spec
     (λ c κs. search needs)
     (λ c. search needs)
-    (λ c κs. let n = c .before .before .before .before in read-within _ (n .before .before .read-all .ensures) (n .n .given .1))
-    (λ c κs. printed-within _ _ (c .before .before .print-first .ensures))
+    (λ c κs. let n = c .before .before .before .before in omega (arith, read-within _ (n .before .before .read-all .ensures) (n .n .given .1)))
+    (λ c κs. omega (arith, printed-within _ _ (c .before .before .print-first .ensures)))
     (λ c. search needs)
     (λ c. search needs)
     (λ c. search needs)
