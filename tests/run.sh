@@ -6,6 +6,7 @@
 #   comparison    library and simulator on written-out, fixed and generated cases, every lent byte included
 #   brute force   demand 3 on every run of small nets, all arrangements of each
 #   guarded       the comparison again with pages around every lent part that may not be touched, and the stack of each call
+#   peer          the unverified program that the library is measured against, held to the same comparison
 #
 #   tests/run.sh           400,000 generated cases, 200 nets, in about a minute
 #   tests/run.sh --long    ten times as many of each, from another seed
@@ -70,11 +71,13 @@ from_c() {
 limited() { timeout $((600 * times)) "$compare" "$@" --seed "$seed"; }
 brute() { limited brute --nets $((200 * times)) --runs $((400 * times)); }
 compared() { limited compare --cases $((400000 * times)); }
+peer() { limited compare --peer --cases $((100000 * times)); }
 guarded() { limited guarded --cases $((20000 * times)); }
 
 timed() {
   package build --profile timed
   "$CARGO_TARGET_DIR/timed/compare" bench
+  tests/peer/bench.sh
 }
 
 stage "unit tests" package test --release
@@ -89,6 +92,7 @@ else
   brute=$!
   stage "c" from_c
   stage "comparison" compared
+  stage "peer" peer
   stage "guarded" guarded
   wait "$brute" || { cat "$brute_log"; echo "tests/run.sh: the brute force failed"; exit 1; }
   cat "$brute_log"

@@ -11,6 +11,7 @@ mod gen;
 mod guarded;
 mod loaded;
 mod model;
+mod rival;
 mod rng;
 mod sim;
 mod vectors;
@@ -26,7 +27,7 @@ const USAGE: &str = "usage: compare compare [--cases N] [--seed S] [--only vecto
        compare repeat OPERATION [--events N] [--times N]
        compare print < INPUT      what the program prints for that input, by the simulator
 Options of compare, guarded and brute: --subject FILE.so judges that library in place of the one linked;
-of compare: --reference FILE.so holds the subject to it in place of the simulator.
+of compare: --peer judges the peer, and --reference FILE.so holds the subject to it in place of the simulator.
 Built without the feature lib and without --subject, brute and bench judge the simulator and compare refuses.";
 
 const NO_LIBRARY: &str = "there is no library in this build to compare with the simulator: \
@@ -57,7 +58,8 @@ fn run(words: &[String]) -> Result<bool, String> {
     let mut options = Options { words: rest.to_vec() };
     match command.as_str() {
         "compare" => {
-            let subject = options.library("--subject")?;
+            let peer: Option<&'static dyn Subject> = if options.flag("--peer") { Some(&rival::Peer) } else { None };
+            let subject = peer.or(options.library("--subject")?);
             let reference = options.library("--reference")?;
             let plan = compare::Plan {
                 sources: options.sources()?,
