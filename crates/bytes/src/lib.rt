@@ -1,9 +1,11 @@
-// Bytes cleared, and 128 of them copied.
+// Bytes cleared, and 128 of them copied or counted.
 ghost use mathlib.Core.Path.{_≡_};
 ghost use Prim.Native.Nat.{ℕ, _+_, _<_, _≤_};
-ghost use lib.ListN.{length, getD};
+ghost use lib.ListN.{length, getD, take, drop};
+ghost use Rattle.spec.specs.Lists.{asCount};
 ghost use Rattle.lists.specs.Mapped.{Mapped};
 ghost use Rattle.bytes.specs.Changes.{zeros};
+ghost use Rattle.bytes.specs.Counts.{countOf};
 
 // The first n entries at 0.
 pub fn clear(a: &mut [u8], n: usize)
@@ -29,4 +31,25 @@ pub fn bytes_at(t: &[u8], at: usize) -> [u8; 128]
         f += 1;
     }
     r
+}
+
+// 1 where a test holds, else 0.
+fn one_if(t: bool) -> u8
+    ensures { λ r. ⌜ (r ≡ asCount t) × (r ≤ 1) ⌝ }
+{
+    if t { 1 } else { 0 }
+}
+
+// How many of the 128 bytes from a position on are b. One byte holds the sum, so that the compiler adds 16 of them at a time.
+pub fn count_at(b: u8, s: &[u8], at: usize) -> usize
+    requires { ⌜ at + 128 ≤ length (now s) ⌝ }
+    ensures { λ r. ⌜ (r ≡ countOf b (take 128 (drop at (now (s .entry))))) × (r ≤ 128) ⌝ }
+{
+    let mut n: u8 = 0;
+    let mut i: usize = 0;
+    while i < 128 {
+        n += one_if(s[at + i] == b);
+        i += 1;
+    }
+    n as usize
 }

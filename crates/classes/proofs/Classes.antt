@@ -1,15 +1,18 @@
 -- Laws on the classes of bytes.
-use Prim.Native.Nat.{ℕ, zero, suc, _+_, _-_, _≤_, _<_}
+use Prim.Native.Nat.{ℕ, _-_, _≤_, _<_}
 use mathlib.Core.Path.{_≡_, refl, sym, ap, _∙_}
-use mathlib.Core.Bool.{Bool, true, false, _&&_, cond}
+use mathlib.Core.Bool.{Bool, true, false, not, _&&_, _||_, cond}
 use mathlib.Core.List.{List, [], _∷_}
+use native.Mathlib.Decide.{ℕ-discrete}
 use native.Mathlib.Omega.{arith}
 use lib.Dec.{leb, eqb}
-use borrow.Author.Tests.{le-leb, leb-true, ne-eqb}
+use borrow.Author.Tests.{le-leb, leb-true, eq-eqb, eqb-true, ne-eqb}
+use Rattle.spec.specs.Lists.{every}
 use Rattle.spec.specs.declared.Class.{Class}
-use Rattle.spec.specs.declared.Class.the-variants.{Digit, Foreign}
+use Rattle.spec.specs.declared.Class.the-variants.{Digit, LineEnd, Foreign}
 use Rattle.spec.specs.declared.ByteClass.{ByteClass}
 use Rattle.spec.specs.Text.{named, classNames, inDigits, classOf, digitOf, byteClass, alike, isA}
+use Rattle.lists.specs.Laws.{and-true}
 use Rattle.classes.specs.Scan.{plainByte}
 
 pub not-below : {a b : ℕ} → a < b → b ≤ a → ⊥
@@ -73,3 +76,43 @@ module _ {r : ByteClass} (b : ℕ) (e : r ≡ byteClass b) where
 
   pub told-low : r .digit ≤ 9
   told-low = omega (arith, told-digit, digit-low b)
+
+-- ---- the line end is byte 10
+
+-- a name that is not the class's, but for byte c
+abbrev onlyFor : Class → ℕ → ℕ × Class → Bool
+onlyFor k c n = eqb (n .0) c || not (alike (n .1) k)
+
+-- a list that names the class for no byte but c names it for no other byte
+named-not : (k : Class) (c b : ℕ) (ns : List (ℕ × Class)) → alike Foreign k ≡ false → every (onlyFor k c) ns ≡ true → (b ≡ c → ⊥) → alike (named b ns) k ≡ false
+unfolding named every
+named-not k c b [] f h d = f
+named-not k c b (n ∷ ns) f h d =
+    let a = and-true (onlyFor k c n) (every (onlyFor k c) ns) h in go (eqb b (n .0)) refl (a .0) (named-not k c b ns f (a .1) d)
+  where
+    here : (s t : Bool) → eqb (n .0) c ≡ s → (s || not t) ≡ true → (n .0 ≡ c → ⊥) → t ≡ false
+    here true t q e u = absurd (u (eqb-true (n .0) c q))
+    here false true q e u = sym e
+    here false false q e u = refl
+
+    go : (t : Bool) → eqb b (n .0) ≡ t → onlyFor k c n ≡ true → alike (named b ns) k ≡ false → alike (cond t (n .1) (named b ns)) k ≡ false
+    go true q a r = here (eqb (n .0) c) (alike (n .1) k) refl a (λ e. d (eqb-true b (n .0) q ∙ e))
+    go false q a r = r
+
+end-not : (b : ℕ) → (b ≡ 10 → ⊥) → isA LineEnd b ≡ false
+unfolding isA classOf alike every
+end-not b d = go (inDigits b)
+  where
+    go : (t : Bool) → alike (cond t Digit (named b classNames)) LineEnd ≡ false
+    go true = refl
+    go false = named-not LineEnd 10 b classNames refl refl d
+
+end-is : isA LineEnd 10 ≡ true
+unfolding isA alike classOf named inDigits
+end-is = refl
+
+pub line-end : (b : ℕ) → isA LineEnd b ≡ eqb b 10
+line-end b = elim (ℕ-discrete b 10) [
+  | yes e ↦ ap (isA LineEnd) e ∙ end-is ∙ sym (eq-eqb b 10 e)
+  | no d ↦ end-not b d ∙ sym (ne-eqb b 10 d)
+]

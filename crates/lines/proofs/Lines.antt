@@ -3,7 +3,7 @@
 use Prim.Native.Nat.{ℕ, suc, _+_, _-_, _≤_, _<_}
 use mathlib.Core.Path.{_≡_, refl, ap, _∙_}
 use mathlib.Core.Bool.{Bool, true, false, cond}
-use mathlib.Core.List.{List, [], _∷_, _++_}
+use mathlib.Core.List.{List, [], _∷_}
 use native.Mathlib.Numerals.{add-one}
 use native.Mathlib.Omega.{arith}
 use lib.ListN.{length, drop, take, length-drop}
@@ -28,14 +28,6 @@ module _ (b : ℕ) (bs : List ℕ) where
   unfolding linesOf onFirst
   line-grows n ls r e = rw (e, r, leb·suc-suc (suc n) (length bs))
 
--- a byte that is no line end, in front of an ended line
-grown : (b : ℕ) (bs line : List ℕ) (ls : List Line) → isA LineEnd b ≡ false → linesOf bs ≡ record { bytes = line; ended = true } ∷ ls → linesOf (b ∷ bs) ≡ record { bytes = b ∷ line; ended = true } ∷ ls
-unfolding linesOf onFirst
-grown b bs line ls e r = rw (e, r)
-
-shorter : (b : ℕ) (bs : List ℕ) → isA LineEnd b ≡ false → before LineEnd (b ∷ bs) < suc (length bs) → before LineEnd bs < length bs
-shorter b bs e h = omega (arith, before-suc LineEnd b bs e)
-
 line-last : (b : ℕ) → isA LineEnd b ≡ false → linesOf (b ∷ []) ≡ firstLine (b ∷ []) (suc (before LineEnd [])) ∷ linesOf []
 unfolding linesOf onFirst before
 line-last b e = rw e
@@ -54,24 +46,6 @@ line-here s at e h q =
     let n = before LineEnd (drop at s) in
     lines-first (drop at s) (omega (arith, length-drop at s))
     ∙ rw (add-one e, q, within s at n (omega arith), beyond s at n (omega arith), ← width s at n (omega arith))
-
--- an ended line, whatever stands behind it
-closed-first : (bs rest : List ℕ) → before LineEnd bs < length bs → linesOf (take (suc (before LineEnd bs)) bs ++ rest) ≡ record { bytes = take (before LineEnd bs) bs; ended = true } ∷ linesOf rest
-closed-first [] rest h = absurd (omega arith)
-closed-first (b ∷ bs) rest h = go (isA LineEnd b) refl (λ k. closed-first bs rest k)
-  where
-    go : (t : Bool) → isA LineEnd b ≡ t → (before LineEnd bs < length bs → linesOf (take (suc (before LineEnd bs)) bs ++ rest) ≡ record { bytes = take (before LineEnd bs) bs; ended = true } ∷ linesOf rest)
-        → linesOf (take (suc (before LineEnd (b ∷ bs))) (b ∷ bs) ++ rest) ≡ record { bytes = take (before LineEnd (b ∷ bs)) (b ∷ bs); ended = true } ∷ linesOf rest
-    go true e r = rw (before-zero LineEnd b bs e) (unfold linesOf in (rw e))
-    go false e r = rw (before-suc LineEnd b bs e) (grown b (take (suc (before LineEnd bs)) bs ++ rest) (take (before LineEnd bs) bs) (linesOf rest) e (r (shorter b bs e h)))
-
-pub line-closes : (s : List ℕ) (at e : ℕ) (rest : List ℕ) → at < length s → e ≡ at + before LineEnd (drop at s) → ltb e (length s) ≡ true
-    → linesOf (take (e + 1 - at) (drop at s) ++ rest) ≡ record { bytes = take (e - at) (drop at s); ended = ltb e (length s) } ∷ linesOf rest
-line-closes s at e rest h q l =
-    let n = before LineEnd (drop at s) in
-    let a : e + 1 - at ≡ suc n = omega arith in
-    let b : e - at ≡ n = omega arith in
-    rw (a, b, l) (closed-first (drop at s) rest (omega (arith, ltb-true e (length s) l, length-drop at s)))
 
 -- the next line starts behind the first line end
 start-one : (bs : List ℕ) → before LineEnd bs < length bs → startAfter 1 bs ≡ suc (before LineEnd bs)
@@ -96,7 +70,5 @@ line-found s at e h q m = record {
   next = omega arith;
   lines = line-here s at e h q;
   last = λ l. omega (arith, ltb-false e (length s) l);
-  within = λ l. omega (arith, ltb-true e (length s) l);
-  closes = λ l rest. line-closes s at e rest h q l;
   skips = λ l. line-skips s at e h q l;
 }

@@ -2,7 +2,7 @@
 use Prim.Native.Nat.{ℕ, _+_, _-_, _≤_, _<_}
 use mathlib.Core.Path.{_≡_}
 use mathlib.Core.Bool.{Bool, true, false}
-use mathlib.Core.List.{List, _∷_, _++_}
+use mathlib.Core.List.{List, _∷_}
 use lib.ListN.{length, drop, take}
 use lib.Dec.{ltb}
 use Rattle.spec.specs.Text.{Line, linesOf}
@@ -31,6 +31,4 @@ pub record LineAt (s : List ℕ) (at : ℕ) (r : Span) : Type 0 where
   pub next : r .next ≤ length s + 1
   pub lines : linesOf (drop at s) ≡ lineOf (take (r .end - at) (drop at s)) (r .ended) ∷ linesOf (drop (r .next) s)
   pub last : r .ended ≡ false → length s < r .next
-  pub within : r .ended ≡ true → r .next ≤ length s
-  pub closes : r .ended ≡ true → (rest : List ℕ) → linesOf (take (r .next - at) (drop at s) ++ rest) ≡ lineOf (take (r .end - at) (drop at s)) (r .ended) ∷ linesOf rest
   pub skips : r .ended ≡ true → r .next ≡ at + startAfter 1 (drop at s)

@@ -10,8 +10,8 @@ use lib.ListN.{length, getD, take, drop}
 use lib.Dec.{ltb}
 use lib.Seq.{take-suc, drop-cons}
 use borrow.Author.Tests.{lt-ltb}
-use Rattle.spec.specs.Lists.{In, any, every, sumOf, asCount}
-use Rattle.lists.specs.Laws.{here, there, sumOf-append}
+use Rattle.spec.specs.Lists.{In, any, every, count, sumOf, asCount}
+use Rattle.lists.specs.Laws.{here, there, sumOf-append, count-sum}
 
 -- ---- a list known by its first element and the others
 
@@ -67,6 +67,9 @@ module _ {A : Type 0} (d : A) where
   pub sumOf-more : (f : A → ℕ) (xs : List A) (i : ℕ) → i < length xs → sumOf f (take (i + 1) xs) ≡ sumOf f (take i xs) + f (getD xs i d)
   unfolding sumOf
   sumOf-more f xs i h = rw (take-more xs i h) (sumOf-append f (take i xs) (getD xs i d ∷ []) ∙ omega arith)
+
+  pub count-more : (p : A → Bool) (xs : List A) (i : ℕ) → i < length xs → count p (take (i + 1) xs) ≡ count p (take i xs) + asCount (p (getD xs i d))
+  count-more p xs i h = omega (arith, count-sum p (take (i + 1) xs), count-sum p (take i xs), sumOf-more (λ x. asCount (p x)) xs i h)
 
 -- ---- what is left of a list from a position on
 

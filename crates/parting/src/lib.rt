@@ -1,9 +1,9 @@
 // The program's input: a net, a line `=`, a log.
 ghost use mathlib.Core.Path.{_≡_};
-ghost use Rattle.spec.specs.Program.{isParting};
-ghost use Rattle.lines.specs.Lines.{lineOf};
-ghost use Rattle.parting.specs.Parts.{Parts};
-use lines::line_at;
+ghost use Prim.Native.Nat.{_<_};
+ghost use lib.ListN.{length};
+ghost use Rattle.parting.specs.Parts.{startsAt, partsAt, Running, Parts};
+use bytes::count_at;
 
 // Where the net ends and where the log starts, or that no line is `=`.
 pub enum Parting {
@@ -11,29 +11,59 @@ pub enum Parting {
     Nothing,
 }
 
-// Whether a line is `=`.
-fn is_parting(l: &[u8], ended: bool) -> bool
-    ensures { λ r. ⌜ r ≡ isParting (lineOf (now (l .entry)) ended) ⌝ }
+// Whether a line starts at a position.
+fn starts_at(s: &[u8], at: usize) -> bool
+    requires { ⌜ at < length (now s) ⌝ }
+    ensures { λ r. ⌜ r ≡ startsAt (now (s .entry)) at ⌝ }
 {
-    if l.len() == 1 {
-        ended & (l[0] == b'=')
-    } else {
-        false
+    if at == 0 {
+        return true;
     }
+    s[at - 1] == 10
+}
+
+// Whether the line `=` starts at a position.
+fn parts_at(s: &[u8], at: usize) -> bool
+    requires { ⌜ at < length (now s) ⌝ }
+    ensures { λ r. ⌜ r ≡ partsAt (now (s .entry)) at ⌝ }
+{
+    if s[at] != b'=' {
+        return false;
+    }
+    let next = at + 1;
+    if s.len() <= next {
+        return false;
+    }
+    if s[next] != 10 {
+        return false;
+    }
+    starts_at(s, at)
+}
+
+// A position in front of the first line `=`: 128 bytes without a byte `=` are passed over at a time.
+fn skip(s: &[u8]) -> usize
+    ensures { λ r. ⌜ Running (now (s .entry)) r ⌝ }
+{
+    let mut at: usize = 0;
+    while at + 128 <= s.len() {
+        if 0 < count_at(b'=', s, at) {
+            break;
+        }
+        at += 128;
+    }
+    at
 }
 
 // The first line `=`.
 pub fn part_input(input: &[u8]) -> Parting
     ensures { λ r. ⌜ Parts (now (input .entry)) r ⌝ }
 {
-    let mut at: usize = 0;
+    let mut at = skip(input);
     while at < input.len() {
-        let l = line_at(input, at);
-        let end = l.end;
-        if is_parting(&input[at..end], l.ended) {
-            return Parting::At(at, l.next);
+        if parts_at(input, at) {
+            return Parting::At(at, at + 2);
         }
-        at = l.next;
+        at += 1;
     }
     Parting::Nothing
 }

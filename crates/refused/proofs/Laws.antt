@@ -1,111 +1,143 @@
--- Lines by their number, as the loop over a text meets them.
+-- Lines by their number: so many line ends passed over, in 128 bytes or line by line.
 use mathlib.Core.Path.{_≡_, refl, sym, ap, _∙_, subst}
 use Prim.Native.Nat.{ℕ, zero, suc, _+_, _-_, _≤_, _<_}
 use mathlib.Core.Bool.{Bool, true, false, cond}
-use mathlib.Core.Option.{Option, none, some}
+use mathlib.Core.Option.{none, some}
 use mathlib.Core.List.{List, [], _∷_}
 use native.Mathlib.Nat.{zero-add}
-use native.Mathlib.Numerals.{add-one}
 use native.Mathlib.Decide.{ℕ-discrete}
 use native.Mathlib.Omega.{arith}
 use lib.ListN.{length, take, drop, getElem?, drop-of-length-le, length-take, length-drop}
 use lib.Seq.{drop-drop}
-use Rattle.spec.specs.Text.{Line, linesOf, isA}
-use Rattle.spec.specs.Answer.{Answer, gives, refuses, _>>=_, found, returned}
+use Rattle.spec.specs.Lists.{count}
+use Rattle.spec.specs.Text.{Line, linesOf, onFirst, isA}
+use Rattle.spec.specs.Answer.{gives, refuses, _>>=_, found, returned}
 use Rattle.spec.specs.Line.{lineAt, lineStart, startAfter, chosenText, refusedLine, partOf}
 use Rattle.spec.specs.declared.Class.the-variants.{LineEnd}
+use Rattle.lists.specs.Laws.{count-true, count-false, count-cons, count-same}
+use Rattle.classes.proofs.Classes.{line-end}
+use Rattle.bytes.specs.Counts.{countOf}
 use Rattle.lines.specs.Lines.{LineAt}
 use Rattle.lines.specs.declared.Span.{Span}
 use denote.Ref.{RefT, ptr, now}
 use Rattle.spec.specs.Values.{lineValues}
-use Rattle.refused.specs.Shown.{Goes, Finds, placeIn, placeOf, answerOf}
+use Rattle.refused.specs.Shown.{Running, Goes, Finds, placeIn, placeOf, answerOf}
 use Rattle.refused.specs.declared.Found.{Found}
 use Rattle.refused.specs.declared.Found.the-variants.{At, Nothing}
 use Rattle.refused.specs.declared.LineAnswer.the-variants.{Shown, NoSuchLine}
 
--- one line end more
-next-start : (k : ℕ) (s : List ℕ) → startAfter (suc k) s ≡ startAfter k s + startAfter 1 (drop (startAfter k s) s)
+-- ---- line ends passed over
+
+start-nil : (k : ℕ) → startAfter k [] ≡ 0
 unfolding startAfter
-next-start zero s = omega arith
-next-start (suc k) [] = omega arith
-next-start (suc k) (b ∷ bs) = go (isA LineEnd b) (next-start k bs) (next-start (suc k) bs)
+start-nil zero = refl
+start-nil (suc k) = refl
+
+-- the first line end, then the others
+start-first : (k : ℕ) (s : List ℕ) → startAfter (suc k) s ≡ startAfter 1 s + startAfter k (drop (startAfter 1 s) s)
+unfolding startAfter
+start-first k [] = omega (arith, start-nil k)
+start-first k (b ∷ bs) = go (isA LineEnd b) (start-first k bs)
   where
-    go : (t : Bool) → startAfter (suc k) bs ≡ startAfter k bs + startAfter 1 (drop (startAfter k bs) bs)
-        → startAfter (suc (suc k)) bs ≡ startAfter (suc k) bs + startAfter 1 (drop (startAfter (suc k) bs) bs)
-        → suc (cond t (startAfter (suc k) bs) (startAfter (suc (suc k)) bs))
-        ≡ suc (cond t (startAfter k bs) (startAfter (suc k) bs)) + startAfter 1 (drop (cond t (startAfter k bs) (startAfter (suc k) bs)) bs)
-    go true p q = omega arith
-    go false p q = omega arith
+    go : (t : Bool) → startAfter (suc k) bs ≡ startAfter 1 bs + startAfter k (drop (startAfter 1 bs) bs)
+        → suc (cond t (startAfter k bs) (startAfter (suc k) bs)) ≡ suc (cond t 0 (startAfter 1 bs)) + startAfter k (drop (cond t 0 (startAfter 1 bs)) bs)
+    go true r = omega arith
+    go false r = omega arith
 
--- line k starts at `at`, and the lines from it on are those of the rest
-pub record Running (text : List ℕ) (line k at : ℕ) : Type 0 where
-  pub some : 1 ≤ k
-  pub low : k ≤ line
-  pub near : at ≤ length text + 1
-  pub start : at ≤ length text → at ≡ lineStart text k
-  pub rest : lineAt text line ≡ getElem? (linesOf (drop at text)) (line - k)
+-- behind b bytes n line ends stand in front of the line that m stand in front of
+record Passed (s : List ℕ) (m n b : ℕ) : Type 0 where
+  start : startAfter m s ≡ b + startAfter n (drop b s)
+  line : getElem? (linesOf s) m ≡ getElem? (linesOf (drop b s)) n
 
-start-next : (text : List ℕ) (k at : ℕ) → 1 ≤ k → at ≡ lineStart text k → lineStart text (k + 1) ≡ at + startAfter 1 (drop at text)
-unfolding lineStart
-start-next text zero at h e = absurd (omega arith)
-start-next text (suc k) at h e = rw (add-one (suc k), e) (next-start k text)
+abbrev ends : ℕ → List ℕ → ℕ
+ends b s = count (isA LineEnd) (take b s)
 
-line-first : (text : List ℕ) (line : ℕ) → 1 ≤ line → lineAt text line ≡ getElem? (linesOf text) (line - 1)
-unfolding lineAt
-line-first text zero h = absurd (omega arith)
-line-first text (suc k) h = let e : suc k - 1 ≡ k = omega arith in rw e
+on-first : (x n : ℕ) (ls : List Line) → getElem? (onFirst x ls) (suc n) ≡ getElem? ls (suc n)
+unfolding onFirst
+on-first x n [] = refl
+on-first x n (l ∷ ls) = refl
 
-first-start : (text : List ℕ) → _≡_ {A = ℕ} 0 (lineStart text 1)
-unfolding lineStart startAfter
-first-start text = refl
+module _ (x : ℕ) (xs : List ℕ) (m n b : ℕ) where
+  pass-end : isA LineEnd x ≡ true → Passed xs m n b → Passed (x ∷ xs) (suc m) n (suc b)
+  unfolding startAfter linesOf
+  pass-end q r = record { start = rw q (omega (arith, r .start)); line = rw q (r .line) }
 
-pub begun : (text : List ℕ) (line : ℕ) → (line ≡ 0 → ⊥) → Running text line 1 0
-begun text line h = record {
-  some = omega arith;
-  low = omega arith;
-  near = omega arith;
-  start = λ l. first-start text;
-  rest = line-first text line (omega arith);
-}
+  pass-byte : isA LineEnd x ≡ false → Passed xs (suc m) n b → Passed (x ∷ xs) (suc m) n (suc b)
+  unfolding startAfter linesOf
+  pass-byte q r = record { start = rw q (omega (arith, r .start)); line = rw q (on-first x m (linesOf xs) ∙ r .line) }
 
-pub no-line : (text : List ℕ) (line : ℕ) → line ≡ 0 → lineAt text line ≡ none
-unfolding lineAt
-no-line text line e = rw e
+-- some line end must be left: without one the line may have begun among the bytes
+passed : (b : ℕ) (s : List ℕ) (m n : ℕ) → b ≤ length s → m ≡ ends b s + suc n → Passed s m (suc n) b
+unfolding count
+passed zero s m n h e = let z : m ≡ suc n = omega arith in rw z (record { start = sym (zero-add _); line = refl })
+passed (suc b) [] m n h e = absurd (omega arith)
+passed (suc b) (x ∷ xs) zero n h e = absurd (omega arith)
+passed (suc b) (x ∷ xs) (suc m) n h e = go (isA LineEnd x) refl (λ k q. passed b xs k n (omega arith) q)
+  where
+    go : (t : Bool) → isA LineEnd x ≡ t → ((k : ℕ) → k ≡ ends b xs + suc n → Passed xs k (suc n) b) → Passed (x ∷ xs) (suc m) (suc n) (suc b)
+    go true q r = pass-end x xs m (suc n) b q (r m (omega (arith, count-cons (isA LineEnd) x (take b xs), count-true q)))
+    go false q r = pass-byte x xs m (suc n) b q (r (suc m) (omega (arith, count-cons (isA LineEnd) x (take b xs), count-false q)))
+
+-- ---- the search
 
 at-end : (text : List ℕ) (at i : ℕ) → length text ≤ at → getElem? (linesOf (drop at text)) i ≡ none
 unfolding linesOf
 at-end text at i h = rw (drop-of-length-le text h)
 
-module _ (text : List ℕ) (line k at : ℕ) (g : Running text line k at) where
+pub no-line : (text : List ℕ) (line : ℕ) → line ≡ 0 → lineAt text line ≡ none
+unfolding lineAt
+no-line text line e = rw e
+
+pub begun : (text : List ℕ) (line : ℕ) → 0 < line → Running text line (line - 1) 0
+unfolding lineAt lineStart
+begun text zero h = absurd (omega arith)
+begun text (suc k) h = let e : suc k - 1 ≡ k = omega arith in rw e (record { near = omega arith; start = λ l. sym (zero-add _); rest = refl })
+
+module _ (text : List ℕ) (line left at : ℕ) (g : Running text line left at) where
   -- no line is left
   pub ended : length text ≤ at → lineAt text line ≡ none
-  ended h = g .rest ∙ at-end text at (line - k) h
+  ended h = g .rest ∙ at-end text at left h
 
   module _ (r : Span) (h : at < length text) (l : LineAt text at r) where
     -- this is the line
-    pub here : k ≡ line → Goes text line at (r .end)
+    pub here : left ≡ 0 → Goes text line at (r .end)
+    unfolding startAfter
     here e = record {
       line = record { bytes = take (r .end - at) (drop at text); ended = r .ended };
-      is = g .rest ∙ let z : line - k ≡ 0 = omega arith in rw (z, l .lines);
-      start = g .start (omega arith) ∙ ap (lineStart text) e;
+      is = g .rest ∙ rw (e, l .lines);
+      start = let z : startAfter left (drop at text) ≡ 0 = rw e in omega (arith, g .start (omega arith));
       bytes = refl;
       order = l .start;
       inside = l .end;
     }
 
-    next : (k ≡ line → ⊥) → (b : Bool) → r .ended ≡ b → r .next ≤ length text → r .next ≡ lineStart text (k + 1)
-    next d true e p = l .skips e ∙ sym (start-next text k at (g .some) (g .start (omega arith)))
-    next d false e p = absurd (omega (arith, l .last e))
+    next : (n : ℕ) (b : Bool) → left ≡ suc n → r .ended ≡ b → r .next ≤ length text → lineStart text line ≡ r .next + startAfter n (drop (r .next) text)
+    next n true e q p =
+        let d : drop (startAfter 1 (drop at text)) (drop at text) ≡ drop (r .next) text = drop-drop _ at text ∙ ap (λ (i : ℕ). drop i text) (sym (l .skips q)) in
+        let f : startAfter left (drop at text) ≡ startAfter 1 (drop at text) + startAfter n (drop (r .next) text) = rw (e, start-first n (drop at text), d) in
+        omega (arith, g .start (omega arith), f, l .skips q)
+    next n false e q p = absurd (omega (arith, l .last q))
 
     -- the line is a later one
-    pub turn : (k ≡ line → ⊥) → Running text line (k + 1) (r .next)
-    turn d = record {
-      some = omega arith;
-      low = omega (arith, g .low);
+    pub turn : (left ≡ 0 → ⊥) → Running text line (left - 1) (r .next)
+    turn d = let e : left ≡ suc (left - 1) = omega (arith, d) in record {
       near = l .next;
-      start = next d (r .ended) refl;
-      rest = g .rest ∙ let z : line - k ≡ suc (line - (k + 1)) = omega (arith, g .low) in rw (z, l .lines);
+      start = next (left - 1) (r .ended) e refl;
+      rest = g .rest ∙ rw (l .lines) (ap (getElem? (_ ∷ linesOf (drop (r .next) text))) e);
     }
+
+  -- the line starts behind the next 128 bytes
+  pub leap : (c : ℕ) → at + 128 ≤ length text → c ≡ countOf 10 (take 128 (drop at text)) → c < left → Running text line (left - c) (at + 128)
+  leap c h q u =
+      let same : countOf 10 (take 128 (drop at text)) ≡ ends 128 (drop at text) = count-same _ _ (take 128 (drop at text)) (λ x m. sym (line-end x)) in
+      let e : left - c ≡ suc (left - c - 1) = omega arith in
+      let d : drop 128 (drop at text) ≡ drop (at + 128) text = drop-drop 128 at text in
+      let p : Passed (drop at text) left (suc (left - c - 1)) 128 = passed 128 (drop at text) left (left - c - 1) (simp length-drop (omega arith)) (omega (arith, same)) in
+      record {
+        near = omega arith;
+        start = λ l. rw (e, ← d) (omega (arith, g .start (omega arith), p .start));
+        rest = g .rest ∙ p .line ∙ ap (λ z. getElem? (linesOf z) (suc (left - c - 1))) d ∙ ap (getElem? (linesOf (drop (at + 128) text))) (sym e);
+      }
 
 -- ---- the chosen text
 

@@ -1,17 +1,24 @@
 -- What the refused line's functions promise.
 use mathlib.Core.Path.{_≡_}
 use Prim.Native.Nat.{ℕ, zero, suc, _+_, _-_, _≤_}
-use mathlib.Core.Option.{Option, none, some}
+use mathlib.Core.Option.{none, some}
 use mathlib.Core.List.{List}
-use lib.ListN.{length, take, drop}
+use lib.ListN.{length, take, drop, getElem?}
 use denote.Ref.{RefT, ptr}
 use Rattle.spec.specs.Answer.{Answer, gives, refuses}
-use Rattle.spec.specs.Text.{Line}
-use Rattle.spec.specs.Line.{Part, lineAt, lineStart}
+use Rattle.spec.specs.Text.{Line, linesOf}
+use Rattle.spec.specs.Line.{Part, lineAt, lineStart, startAfter}
 use Rattle.refused.specs.declared.Found.{Found}
 use Rattle.refused.specs.declared.Found.the-variants.{At, Nothing}
 use Rattle.refused.specs.declared.LineAnswer.{LineAnswer}
 use Rattle.refused.specs.declared.LineAnswer.the-variants.{Shown, NoSuchLine}
+
+-- the line with a number is the one that `left` line ends stand in front of, from a position on; a position behind the text
+-- tells only that there is no such line
+pub record Running (text : List ℕ) (line left at : ℕ) : Type 0 where
+  pub near : at ≤ length text + 1
+  pub start : at ≤ length text → lineStart text line ≡ at + startAfter left (drop at text)
+  pub rest : lineAt text line ≡ getElem? (linesOf (drop at text)) left
 
 -- line k of a text goes from s to e
 pub record Goes (text : List ℕ) (k s e : ℕ) : Type 0 where

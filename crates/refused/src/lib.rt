@@ -1,10 +1,12 @@
 // The refused line: the part of the net text or the second text that a line number names.
 ghost use mathlib.Core.Path.{_≡_};
+ghost use Prim.Native.Nat.{_<_};
 ghost use denote.Ref.{ptr};
 ghost use Rattle.spec.specs.Answer.{returned};
 ghost use Rattle.spec.specs.Line.{refusedLine, partOf, chosenText};
 ghost use Rattle.spec.specs.Values.{lineValues};
-ghost use Rattle.refused.specs.Shown.{Finds, answerOf, placeOf};
+ghost use Rattle.refused.specs.Shown.{Running, Finds, answerOf, placeOf};
+use bytes::count_at;
 use lines::line_at;
 
 // From where to where a line goes in its text, without its end.
@@ -19,6 +21,31 @@ pub enum LineAnswer {
     NoSuchLine(usize),
 }
 
+// A position, and how many line ends stand from it on in front of a line.
+pub struct Place {
+    pub left: usize,
+    pub at: usize,
+}
+
+// A position in front of the line with a number. 128 bytes are passed over at a time, as long as they have fewer line ends than
+// are left: the line then starts behind them.
+fn skip(text: &[u8], line: usize) -> Place
+    requires { ⌜ 0 < line ⌝ }
+    ensures { λ r. ⌜ Running (now (text .entry)) line (r .left) (r .at) ⌝ }
+{
+    let mut left = line - 1;
+    let mut at: usize = 0;
+    while at + 128 <= text.len() {
+        let c = count_at(10, text, at);
+        if left <= c {
+            break;
+        }
+        left -= c;
+        at += 128;
+    }
+    Place { left, at }
+}
+
 // The line with a number, from 1; an unended last piece counts as a line.
 fn find_line(text: &[u8], line: usize) -> Found
     ensures { λ r. ⌜ Finds (now (text .entry)) line r ⌝ }
@@ -26,14 +53,15 @@ fn find_line(text: &[u8], line: usize) -> Found
     if line == 0 {
         return Found::Nothing;
     }
-    let mut k: usize = 1;
-    let mut at: usize = 0;
+    let start = skip(text, line);
+    let mut left = start.left;
+    let mut at = start.at;
     while at < text.len() {
         let l = line_at(text, at);
-        if k == line {
+        if left == 0 {
             return Found::At(at, l.end);
         }
-        k += 1;
+        left -= 1;
         at = l.next;
     }
     Found::Nothing

@@ -1,7 +1,6 @@
 use Prim.Native.Nat.{ℕ, _-_, _≤_}
 use native.Mathlib.Omega.{arith}
 use mathlib.Core.Path.{_≡_, refl}
-use borrow.Author.Needs.{needs}
 use lib.ListN.{length, length-set}
 use Rattle.lists.specs.Mapped.{Mapped, mapped-none, mapped-more, mapped-end}
 use Rattle.bytes.specs.Changes.{zeros}
