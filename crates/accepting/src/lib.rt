@@ -5,26 +5,25 @@ ghost use lib.ListN.{length};
 ghost use Rattle.spec.specs.Answer.{returned};
 ghost use Rattle.spec.specs.Net.{Net as NetD};
 ghost use Rattle.spec.specs.Record.{RunRecord, bench};
-ghost use Rattle.net.specs.Holds.{answerOf as netAnswerOf};
+ghost use Rattle.net.specs.Holds.{answerOf as netAnswerOf, netAt, Blank as NetBlank};
 ghost use Rattle.net.specs.declared.Net.{Net as NetA};
-ghost use Rattle.record.specs.Reads.{answerOf as recordAnswerOf};
+ghost use Rattle.record.specs.Reads.{answerOf as recordAnswerOf, Blank as RecordBlank};
 ghost use Rattle.held.specs.Held.{Held, Sound};
-ghost use Rattle.accepting.specs.Relation.{Blank, Ordered};
-ghost use Rattle.accepting.specs.Accepting.{verdictOf, isGiven, nothing, Within, Found, Judges, AcceptsRecord, Accepts};
+ghost use Rattle.accepting.specs.Relation.{Blank, HasMarks, Ordered};
+ghost use Rattle.accepting.specs.Accepting.{verdictOf, isGiven, nothing, Within, Judges, Accepts, Keeps};
 use arc_rules::wrong_arcs;
 use arc_rules::wrong_initial;
-use bytes::bytes_at;
-use mark_rules::wrong_kinds;
+use mark_rules::walk_marks;
 use mark_rules::wrong_marks;
-use net::Net;
 use net::NetAnswer;
-use net::read_net;
+use net::read_into;
 use reach::close;
 use record::Counts;
 use record::RecordAnswer;
 use record::read_record;
 use row_facts::first_loop;
-use row_pairs::fill;
+use row_pairs::raise_conditions;
+use row_pairs::raise_marks;
 use spec::Limits;
 
 // Why a net and a record are not accepted, with the spot: a line, or the lowest transition, place or event.
@@ -50,11 +49,10 @@ pub enum Verdict {
     Refused(Refusal),
 }
 
-// A net and a record that are accepted: the net, the events' transitions and the counts. The closed order is in the rows.
+// Whether a net and a record are accepted, and their counts. The net, the record's bytes and its closed order are in what was lent.
 pub struct Accepted {
     pub verdict: Verdict,
-    pub net: Net,
-    pub transitions: [u8; 128],
+    pub places: usize,
     pub events: usize,
     pub conditions: usize,
 }
@@ -72,14 +70,24 @@ pub fn bench() -> Limits
 
 // ---- the rules 35 to 39
 
-// 39: the closed order in the rows, and the lowest event that is strictly before itself, or the number of events.
+// 39: rows that have the pairs of the marks get those of the conditions and are closed; the lowest event that is strictly before
+// itself, or the number of events.
+fn close_pairs(s: Counts, rec: &[u8], w: &mut [u64; 512]) -> usize
+    requires { ⌜ Sound s (now rec) × HasMarks s (now rec) (now w) ⌝ }
+    ensures { λ r. ⌜ (length (now (w .exit)) ≡ length (now (w .entry))) × ((net : NetA) (N : NetD) (R : RunRecord) → Held net s (now (rec .entry)) N R → Ordered R (now (w .exit)) r) ⌝ }
+{
+    raise_conditions(rec, s.conditions, w);
+    close(w, s.events);
+    first_loop(w, s.events)
+}
+
+// The same from empty rows.
 pub fn order(s: Counts, rec: &[u8], w: &mut [u64; 512]) -> usize
     requires { ⌜ Sound s (now rec) × Blank (now w) ⌝ }
     ensures { λ r. ⌜ (length (now (w .exit)) ≡ length (now (w .entry))) × ((net : NetA) (N : NetD) (R : RunRecord) → Held net s (now (rec .entry)) N R → Ordered R (now (w .exit)) r) ⌝ }
 {
-    fill(s, rec, w);
-    close(w, s.events);
-    first_loop(w, s.events)
+    raise_marks(rec, s.marks, w);
+    close_pairs(s, rec, w)
 }
 
 // ---- accepting
@@ -94,27 +102,37 @@ fn given(v: Verdict) -> bool
 }
 
 // The rules 35 to 39, each over the whole record before the next. Where none is broken the closed order is in the rows.
-fn judge(net: Net, s: Counts, rec: &[u8], w: &mut [u64; 512]) -> Verdict
-    requires { ⌜ (net .places ≤ 32) × (net .transitions ≤ 32) × Sound s (now rec) × Blank (now w) ⌝ }
-    ensures { λ r. ⌜ (length (now (w .exit)) ≡ length (now (w .entry))) × Judges net s (now (rec .entry)) r (now (w .exit)) ⌝ }
+fn judge(
+    places: usize,
+    transitions: usize,
+    tokens: &[u16; 32],
+    arcs: &[u8; 3072],
+    s: Counts,
+    rec: &[u8],
+    w: &mut [u64; 512],
+) -> Verdict
+    requires { ⌜ (places ≤ 32) × (transitions ≤ 32) × Sound s (now rec) × Blank (now w) ⌝ }
+    ensures { λ r. ⌜ (length (now (w .exit)) ≡ length (now (w .entry))) × Judges (netAt places transitions (now (tokens .entry)) (now (arcs .entry))) s (now (rec .entry)) r (now (w .exit)) ⌝ }
 {
-    let p = wrong_initial(net, s, rec);
-    if p < net.places {
+    let mut produced = [0u16; 4128];
+    let p = wrong_initial(places, tokens, s, rec, &mut produced);
+    if p < places {
         return Verdict::Refused(Refusal::WrongInitial(p));
     }
-    let d = wrong_arcs(net, s, rec);
+    let d = wrong_arcs(places, arcs, s, rec, &produced);
     if d < s.events {
         return Verdict::Refused(Refusal::WrongArcs(d));
     }
-    let e = wrong_marks(net, s, rec);
+    let mut sums = [0u32; 128];
+    let f = walk_marks(s, rec, arcs, &mut sums, w);
+    let e = wrong_marks(places, transitions, arcs, s, rec, &sums);
     if e < s.events {
         return Verdict::Refused(Refusal::WrongMarks(e));
     }
-    let f = wrong_kinds(s, rec);
     if f < s.events {
         return Verdict::Refused(Refusal::WrongKind(f));
     }
-    let g = order(s, rec, w);
+    let g = close_pairs(s, rec, w);
     if g < s.events {
         return Verdict::Refused(Refusal::BeforeItself(g));
     }
@@ -148,51 +166,46 @@ fn of_record(a: RecordAnswer) -> Verdict
     }
 }
 
-fn refused(verdict: Verdict, net: Net) -> Accepted
-    ensures { λ r. ⌜ (r .verdict ≡ verdict) × (r .net ≡ net) ⌝ }
+fn refused(verdict: Verdict) -> Accepted
+    ensures { λ r. ⌜ r .verdict ≡ verdict ⌝ }
 {
     Accepted {
         verdict,
-        net,
-        transitions: [0u8; 128],
+        places: 0,
         events: 0,
         conditions: 0,
     }
 }
 
-// The record of a text, once the net is read.
-fn accept_record(lim: Limits, net: Net, text: &[u8], w: &mut [u64; 512]) -> Accepted
-    requires { ⌜ Within lim × Found net × Blank (now w) ⌝ }
-    ensures { λ r. ⌜ (length (now (w .exit)) ≡ length (now (w .entry))) × (r .net ≡ net) × AcceptsRecord lim net (now (text .entry)) r (now (w .exit)) ⌝ }
+// "net's; check's but 30": a net and a record, each in arrays that are all zero before, and the closed order in the rows, or the
+// first refusal.
+pub fn accept(
+    net: &[u8],
+    text: &[u8],
+    lim: Limits,
+    tokens: &mut [u16; 32],
+    arcs: &mut [u8; 3072],
+    rec: &mut [u8],
+    w: &mut [u64; 512],
+) -> Accepted
+    requires { ⌜ Within lim × NetBlank (now tokens) (now arcs) × RecordBlank (now rec) × Blank (now w) ⌝ }
+    ensures { λ r. ⌜ (length (now (w .exit)) ≡ length (now (w .entry))) × Accepts lim (now (net .entry)) (now (text .entry)) r (now (w .exit)) × Keeps lim (now (net .entry)) (now (text .entry)) r (now (tokens .exit)) (now (arcs .exit)) (now (rec .exit)) ⌝ }
 {
-    let mut rec = [0u8; 26240];
-    let read = read_record(lim, net.places, net.transitions, text, &mut rec);
-    let answer = read.answer;
-    let verdict = of_record(answer);
-    if !given(verdict) {
-        return refused(verdict, net);
+    let answer = read_into(net, tokens, arcs);
+    if let NetAnswer::Accepted(places, transitions) = answer {
+        let read = read_record(lim, places, transitions, text, rec);
+        let told = read.answer;
+        let verdict = of_record(told);
+        if !given(verdict) {
+            return refused(verdict);
+        }
+        let s = read.counts;
+        return Accepted {
+            verdict: judge(places, transitions, tokens, arcs, s, rec, w),
+            places,
+            events: s.events,
+            conditions: s.conditions,
+        };
     }
-    let s = read.counts;
-    Accepted {
-        verdict: judge(net, s, &rec, w),
-        net,
-        transitions: bytes_at(&rec, 0),
-        events: s.events,
-        conditions: s.conditions,
-    }
-}
-
-// "net's; check's but 30": a net and a record, the closed order in the rows, or the first refusal.
-pub fn accept(net: &[u8], text: &[u8], lim: Limits, w: &mut [u64; 512]) -> Accepted
-    requires { ⌜ Within lim × Blank (now w) ⌝ }
-    ensures { λ r. ⌜ (length (now (w .exit)) ≡ length (now (w .entry))) × Accepts lim (now (net .entry)) (now (text .entry)) r (now (w .exit)) ⌝ }
-{
-    let read = read_net(net);
-    let answer = read.answer;
-    let found = read.net;
-    let verdict = of_net(answer);
-    if !given(verdict) {
-        return refused(verdict, found);
-    }
-    accept_record(lim, found, text, w)
+    refused(of_net(answer))
 }

@@ -53,11 +53,10 @@ module _ (net text old : List ℕ) where
       pub given-ready : Accepts bench net text a t → Ready (a .events) t × Order (a .events) (cellOf t) × (length (arrangementBytes (arrangedLines (levelsIn (a .events) t))) ≤ length old)
       given-ready (refusing n s e y) = not-refused (sym y ∙ ap verdictOf q)
       given-ready (giving b e y H) =
-          let w = accepted-process bench net text b e in
-          let B = H .bytes in (
-            subst (λ (n : ℕ). Ready n t) (sym (B .events)) (B .order .ready),
-            order-held (b .net) (b .run) (w .0) (w .1) (a .events) t (B .events) (B .order),
-            le-trans (lines-held (b .net) (b .run) (w .0) (w .1) (a .events) t (B .events) (B .order) (B .few)) room,
+          let w = accepted-process bench net text b e in (
+            subst (λ (n : ℕ). Ready n t) (sym (H .events)) (H .order .ready),
+            order-held (b .net) (b .run) (w .0) (w .1) (a .events) t (H .events) (H .order),
+            le-trans (lines-held (b .net) (b .run) (w .0) (w .1) (a .events) t (H .events) (H .order) (H .few)) room,
           )
 
       -- and they are what is written
@@ -66,6 +65,6 @@ module _ (net text old : List ℕ) where
       given-arranges (refusing n s e y) W = not-refused (sym y ∙ ap verdictOf q)
       given-arranges {r} {new} (giving b e y H) W =
           let w = accepted-process bench net text b e in
-          let z = levels-held (b .net) (b .run) (w .0) (w .1) (a .events) t (H .bytes .events) (H .bytes .order) in
+          let z = levels-held (b .net) (b .run) (w .0) (w .1) (a .events) t (H .events) (H .order) in
           let X : WritesLines (levels (b .run)) old r new = rw (← z) W in
           arrange-is (gives (arranged (b .run))) (rw (le-ltb (length old) 768 room, e)) (ap answerOf (X .answer)) (X .buffer)

@@ -31,7 +31,7 @@ module _ (lim : Limits) (net text : List ℕ) where
   pub order-given : (a : Accepted) (t : List ℕ) → a .verdict ≡ Given → Accepts lim net text a t → Ready (a .events) t × Order (a .events) (cellOf t)
   order-given a t q (giving b e y k) =
       let w = accepted-process lim net text b e in
-      subst (λ (n : ℕ). Ready n t × Order n (cellOf t)) (sym (k .bytes .events)) (k .bytes .order .ready, order-same _ (cellOf t) (orderOf (b .run)) (k .bytes .order .cell) (order (b .net) (b .run) (w .0) (w .1)))
+      subst (λ (n : ℕ). Ready n t × Order n (cellOf t)) (sym (k .events)) (k .order .ready, order-same _ (cellOf t) (orderOf (b .run)) (k .order .cell) (order (b .net) (b .run) (w .0) (w .1)))
   order-given a t q (refusing n p e y) = not-refused (sym y ∙ ap verdictOf q)
 
   -- ---- 30
@@ -71,6 +71,6 @@ module _ (lim : Limits) (net text : List ℕ) where
     given-checks a t new k q (giving b e y z) c m =
         let w = accepted-process lim net text b e in
         rw (given b e) (record {
-          answer = rw (z .bytes .events, z .bytes .conditions, c, pairs-counted (b .net) (b .run) t (a .events) (w .0) (z .bytes .order) (z .bytes .events)) refl;
-          buffer = table-written (b .net) (b .run) t (a .events) (w .0) (z .bytes .order) (z .bytes .events) (w .1) out new h m;
+          answer = rw (z .events, z .conditions, c, pairs-counted (b .net) (b .run) t (a .events) (w .0) (z .order) (z .events)) refl;
+          buffer = table-written (b .net) (b .run) t (a .events) (w .0) (z .order) (z .events) (w .1) out new h m;
         })

@@ -1,7 +1,7 @@
 -- Entries of the table raised one after the other.
 use mathlib.Core.Path.{_≡_, refl, sym, ap, _∙_, subst}
 use mathlib.Core.Logic.{_≢_}
-use Prim.Native.Nat.{ℕ, _+_, _≤_, max}
+use Prim.Native.Nat.{ℕ, _+_, _≤_, _<_, max}
 use native.Mathlib.Nat.{max-zero}
 use native.Mathlib.Decide.{ℕ-discrete}
 use native.Mathlib.Numerals.{add-one}
@@ -83,11 +83,11 @@ module _ {t : List ℕ} (rec : List ℕ) (k : ℕ) where
   unfolding markPairIn
   none-raised x y = record { long = refl; good = λ g. g; cell = λ i j u v. rw (ne-eqb _ _ x, ne-eqb _ _ y) (sym (max-zero _)) }
 
-pub filled : {t₁ t₂ t₃ : List ℕ} (s : Counts) (rec : List ℕ) → ((i j : ℕ) → cellOf t₁ i j ≡ 0) → Raised t₁ (overall (conditionPairIn rec) (s .conditions)) t₂
-    → Raised t₂ (overall (markPairIn rec) (s .marks)) t₃ → Filled t₁ (relationIn s rec) t₃
+-- the marks' pairs in rows that had none, then the conditions'
+pub filled : {t₁ t₂ : List ℕ} (s : Counts) (rec : List ℕ) → ((i j : ℕ) → i < 128 → j < 128 → cellOf t₁ i j ≡ overall (markPairIn rec) (s .marks) i j) → Raised t₁ (overall (conditionPairIn rec) (s .conditions)) t₂ → Filled t₁ (relationIn s rec) t₂
 unfolding relationIn
-filled s rec z a b = record {
-  long = b .long ∙ a .long;
-  good = λ g. b .good (a .good g);
-  cell = λ i j k l. omega (arith, b .cell i j k l, a .cell i j k l, z i j);
+filled s rec m a = record {
+  long = a .long;
+  good = a .good;
+  cell = λ i j k l. omega (arith, a .cell i j k l, m i j k l);
 }

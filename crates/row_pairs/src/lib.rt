@@ -1,14 +1,12 @@
 // The pairs of a record, from its bytes, in rows of bits.
 ghost use mathlib.Core.Path.{_≡_};
 ghost use Prim.Native.Nat.{ℕ, _<_, _≤_};
-ghost use Rattle.reach.specs.Rows.{Good, cellOf, way};
+ghost use Rattle.reach.specs.Rows.{Good, way};
 ghost use lib.ListN.{length};
 ghost use Rattle.record.specs.Holds.{conditionOf};
-ghost use Rattle.held.specs.Held.{Sound};
-ghost use Rattle.row_pairs.specs.Relation.{pairIn, conditionPairIn, markPairIn, overall, relationIn, Raised, Filled};
+ghost use Rattle.row_pairs.specs.Relation.{pairIn, conditionPairIn, markPairIn, overall, Raised};
 use reach::raise;
 use record::CONSUMERS;
-use record::Counts;
 use record::EVENTS;
 use record::KINDS;
 use record::PRODUCERS;
@@ -35,7 +33,7 @@ fn raise_pair(w: &mut [u64; 512], e: usize, f: usize, strict: bool)
 }
 
 // The pairs of the conditions.
-fn raise_conditions(rec: &[u8], m: usize, w: &mut [u64; 512])
+pub fn raise_conditions(rec: &[u8], m: usize, w: &mut [u64; 512])
     requires { ⌜ (m ≤ 512) × (18048 ≤ length (now rec)) × (length (now w) ≡ 512) × Good (now w) ⌝ }
     ensures { λ _. ⌜ Raised (now (w .entry)) (overall (conditionPairIn (now (rec .entry))) m) (now (w .exit)) ⌝ }
 {
@@ -47,7 +45,7 @@ fn raise_conditions(rec: &[u8], m: usize, w: &mut [u64; 512])
 }
 
 // The pair of mark i.
-fn raise_mark(rec: &[u8], i: usize, w: &mut [u64; 512])
+pub fn raise_mark(rec: &[u8], i: usize, w: &mut [u64; 512])
     requires { ⌜ (i < 4096) × (conditionOf (now rec) i < 512) × (18048 ≤ length (now rec)) × (length (now w) ≡ 512) × Good (now w) ⌝ }
     ensures { λ _. ⌜ Raised (now (w .entry)) (markPairIn (now (rec .entry)) i) (now (w .exit)) ⌝ }
 {
@@ -65,7 +63,7 @@ fn raise_mark(rec: &[u8], i: usize, w: &mut [u64; 512])
 }
 
 // The pairs of the marks.
-fn raise_marks(rec: &[u8], k: usize, w: &mut [u64; 512])
+pub fn raise_marks(rec: &[u8], k: usize, w: &mut [u64; 512])
     requires { ⌜ (k ≤ 4096) × ((i : ℕ) → i < k → conditionOf (now rec) i < 512) × (18048 ≤ length (now rec)) × (length (now w) ≡ 512) × Good (now w) ⌝ }
     ensures { λ _. ⌜ Raised (now (w .entry)) (overall (markPairIn (now (rec .entry))) k) (now (w .exit)) ⌝ }
 {
@@ -74,13 +72,4 @@ fn raise_marks(rec: &[u8], k: usize, w: &mut [u64; 512])
         raise_mark(rec, i, w);
         i += 1;
     }
-}
-
-// Empty rows filled with the pairs of the record.
-pub fn fill(s: Counts, rec: &[u8], w: &mut [u64; 512])
-    requires { ⌜ Sound s (now rec) × (length (now w) ≡ 512) × Good (now w) × ((i j : ℕ) → cellOf (now w) i j ≡ 0) ⌝ }
-    ensures { λ _. ⌜ Filled (now (w .entry)) (relationIn s (now (rec .entry))) (now (w .exit)) ⌝ }
-{
-    raise_conditions(rec, s.conditions, w);
-    raise_marks(rec, s.marks, w);
 }
