@@ -1,19 +1,22 @@
 -- Entries of the table raised one after the other.
 use mathlib.Core.Path.{_≡_, refl, sym, ap, _∙_, subst}
+<<<<<<< HEAD
 use mathlib.Core.Logic.{_≢_}
+=======
+>>>>>>> leaf
 use Prim.Native.Nat.{ℕ, _+_, _≤_, _<_, max}
 use native.Mathlib.Nat.{max-zero}
 use native.Mathlib.Decide.{ℕ-discrete}
 use native.Mathlib.Numerals.{add-one}
 use native.Mathlib.Omega.{arith}
-use mathlib.Core.Bool.{and-false}
+use mathlib.Core.Bool.{Bool, true, false, cond, and-false, true≢false}
 use mathlib.Core.List.{List}
 use lib.ListN.{getD}
 use lib.Dec.{eqb}
-use borrow.Author.Tests.{eq-eqb, ne-eqb}
+use borrow.Author.Tests.{eq-eqb, ne-eqb, eqb-true}
 use Rattle.spec.specs.Lists.{upTo, from, greatest}
 use Rattle.order.specs.Below.{maxBelow, max-suc}
-use Rattle.reach.specs.Rows.{cellOf, Raised as RaisedOne}
+use Rattle.reach.specs.Rows.{cellOf, way, Raised as RaisedOne}
 use Rattle.record.specs.declared.Counts.{Counts}
 use Rattle.record.specs.Holds.{conditionOf}
 use Rattle.row_pairs.specs.Relation.{pairIn, conditionPairIn, markPairIn, overall, relationIn, Raised, Filled}
@@ -50,8 +53,8 @@ raise-one w w′ e f v r = record {
 
 -- ---- one after the other
 
-pub raised-as : {t t′ : List ℕ} {v w : ℕ → ℕ → ℕ} → ((i j : ℕ) → v i j ≡ w i j) → Raised t v t′ → Raised t w t′
-raised-as h r = record { long = r .long; good = r .good; cell = λ i j k l. r .cell i j k l ∙ ap (max _) (h i j) }
+raised-as : {t t′ : List ℕ} {v w : ℕ → ℕ → ℕ} → ((i j : ℕ) → i < 128 → v i j ≡ w i j) → Raised t v t′ → Raised t w t′
+raised-as h r = record { long = r .long; good = r .good; cell = λ i j k l. r .cell i j k l ∙ ap (max _) (h i j k) }
 
 pub overall-none : (t : List ℕ) (v : ℕ → ℕ → ℕ → ℕ) → Raised t (overall v 0) t
 unfolding overall maxBelow greatest upTo from
@@ -68,20 +71,23 @@ overall-end {t₀} {t} n v q m = subst (λ (z : ℕ). Raised t₀ (overall v z) 
 
 pub condition-raised : {t t′ : List ℕ} (rec : List ℕ) (c : ℕ) {e f : ℕ} → e ≡ getD rec (640 + c) 0 → f ≡ getD rec (1152 + c) 0 → Raised t (pairIn e f 2) t′ → Raised t (conditionPairIn rec c) t′
 unfolding conditionPairIn
-condition-raised rec c he hf r = raised-as (λ i j. rw (he, hf) refl) r
+condition-raised rec c he hf r = raised-as (λ i j _. rw (he, hf) refl) r
 
-module _ {t : List ℕ} (rec : List ℕ) (k : ℕ) where
-  pub before-raised : {t′ : List ℕ} {e c p : ℕ} → getD rec (1664 + k) 0 ≡ 1 → e ≡ getD rec (5760 + k) 0 → c ≡ conditionOf rec k → p ≡ getD rec (640 + c) 0 → Raised t (pairIn e p 1) t′ → Raised t (markPairIn rec k) t′
-  unfolding markPairIn
-  before-raised x he hc hp r = raised-as (λ i j. rw (x, he, hp, hc) refl) r
+-- the pair that the tests for B and for A pick is that of the mark; where both fail it is of no event
+picked : (before after : Bool) → (before ≡ true → after ≡ false) → (e p q i j : ℕ) → i < 128
+    → pairIn (cond before e (cond after q 128)) (cond before p e) (way after) i j ≡ cond before (pairIn e p 1 i j) (cond after (pairIn q e 2 i j) 0)
+picked true true h e p q i j l = absurd (true≢false (h refl))
+picked true false h e p q i j l = refl
+picked false true h e p q i j l = refl
+picked false false h e p q i j l = pair-away 128 e 1 i j (λ z. omega (arith, z .0))
 
-  pub after-raised : {t′ : List ℕ} {e c f : ℕ} → getD rec (1664 + k) 0 ≡ 2 → e ≡ getD rec (5760 + k) 0 → c ≡ conditionOf rec k → f ≡ getD rec (1152 + c) 0 → Raised t (pairIn f e 2) t′ → Raised t (markPairIn rec k) t′
-  unfolding markPairIn
-  after-raised x he hc hf r = raised-as (λ i j. rw (x, he, hf, hc) refl) r
-
-  pub none-raised : getD rec (1664 + k) 0 ≢ 1 → getD rec (1664 + k) 0 ≢ 2 → Raised t (markPairIn rec k) t
-  unfolding markPairIn
-  none-raised x y = record { long = refl; good = λ g. g; cell = λ i j u v. rw (ne-eqb _ _ x, ne-eqb _ _ y) (sym (max-zero _)) }
+pub mark-raised : {t t′ : List ℕ} (rec : List ℕ) (k : ℕ) {e c p q n from to : ℕ} → e ≡ getD rec (5760 + k) 0 → c ≡ conditionOf rec k → p ≡ getD rec (640 + c) 0 → q ≡ getD rec (1152 + c) 0
+    → n ≡ cond (eqb (getD rec (1664 + k) 0) 2) q 128 → from ≡ cond (eqb (getD rec (1664 + k) 0) 1) e n → to ≡ cond (eqb (getD rec (1664 + k) 0) 1) p e
+    → Raised t (pairIn from to (way (eqb (getD rec (1664 + k) 0) 2))) t′ → Raised t (markPairIn rec k) t′
+unfolding markPairIn
+mark-raised rec k he hc hp hq hn hf ht r =
+    let x = getD rec (1664 + k) 0 in
+    raised-as (λ i j l. rw (hf, hn, ht, hp, hq, he, hc) (picked (eqb x 1) (eqb x 2) (λ y. ne-eqb x 2 (λ z. omega (arith, eqb-true x 1 y))) _ _ _ i j l)) r
 
 -- the marks' pairs in rows that had none, then the conditions'
 pub filled : {t₁ t₂ : List ℕ} (s : Counts) (rec : List ℕ) → ((i j : ℕ) → i < 128 → j < 128 → cellOf t₁ i j ≡ overall (markPairIn rec) (s .marks) i j) → Raised t₁ (overall (conditionPairIn rec) (s .conditions)) t₂ → Filled t₁ (relationIn s rec) t₂

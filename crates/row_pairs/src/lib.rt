@@ -1,5 +1,6 @@
 // The pairs of a record, from its bytes, in rows of bits.
 ghost use mathlib.Core.Path.{_≡_};
+ghost use mathlib.Core.Bool.{cond};
 ghost use Prim.Native.Nat.{ℕ, _<_, _≤_};
 ghost use Rattle.reach.specs.Rows.{Good, way};
 ghost use lib.ListN.{length};
@@ -44,7 +45,14 @@ pub fn raise_conditions(rec: &[u8], m: usize, w: &mut [u64; 512])
     }
 }
 
-// The pair of mark i.
+// The first of two numbers, or the second one.
+fn pick(first: bool, x: usize, y: usize) -> usize
+    ensures { λ r. ⌜ r ≡ cond first x y ⌝ }
+{
+    if first { x } else { y }
+}
+
+// The pair of mark i. Its kind picks numbers and no way through the code, as no kind can be foreseen from the marks before it; 128 is no event.
 pub fn raise_mark(rec: &[u8], i: usize, w: &mut [u64; 512])
     requires { ⌜ (i < 4096) × (conditionOf (now rec) i < 512) × (18048 ≤ length (now rec)) × (length (now w) ≡ 512) × Good (now w) ⌝ }
     ensures { λ _. ⌜ Raised (now (w .entry)) (markPairIn (now (rec .entry)) i) (now (w .exit)) ⌝ }
@@ -52,14 +60,11 @@ pub fn raise_mark(rec: &[u8], i: usize, w: &mut [u64; 512])
     let k = rec[KINDS + i];
     let e = wide(rec[EVENTS + i]);
     let c = condition_of(rec, i);
-    if k == 1 {
-        raise_pair(w, e, wide(rec[PRODUCERS + c]), false);
-        return;
-    }
-    if k == 2 {
-        raise_pair(w, wide(rec[CONSUMERS + c]), e, true);
-        return;
-    }
+    let producer = wide(rec[PRODUCERS + c]);
+    let consumer = wide(rec[CONSUMERS + c]);
+    let from = pick(k == 1, e, pick(k == 2, consumer, 128));
+    let to = pick(k == 1, producer, e);
+    raise_pair(w, from, to, k == 2);
 }
 
 // The pairs of the marks.

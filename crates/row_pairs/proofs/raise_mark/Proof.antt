@@ -1,6 +1,7 @@
+-- `row_pairs::raise_mark` meets its contract: the pair that the kind picks is that of the mark.
 use native.Mathlib.Omega.{arith}
 use borrow.Author.Needs.{needs}
-use Rattle.row_pairs.proofs.Raising.{before-raised, after-raised, none-raised}
+use Rattle.row_pairs.proofs.Raising.{mark-raised}
 use Rattle.row_pairs.proofs.raise_mark.Statement.{statement}
 use Rattle.row_pairs.proofs.raise_mark.Tie as tie
 
@@ -15,13 +16,13 @@ raise-mark-spec = tie.close (tie.spec
     (λ c. omega arith)
     (λ c. omega arith)
     (λ c κs. tt)
-    (λ c κs. search needs)
-    (λ c. let w = c .before in let i = w .before .before .before in let d = i .before in
-    before-raised _ _ (i .if1 .taken) (d .before .wide .ensures .0) (d .condition-of .ensures) (w .wide2 .ensures .0) (c .raise-pair .ensures))
     (λ c. omega arith)
     (λ c. omega arith)
     (λ c κs. tt)
+    (λ c κs. tt)
+    (λ c κs. tt)
+    (λ c κs. tt)
     (λ c κs. search needs)
-    (λ c. let w = c .before in let j = w .before .before .before in let d = j .before .before in
-    after-raised _ _ (j .if2 .taken) (d .before .wide .ensures .0) (d .condition-of .ensures) (w .wide3 .ensures .0) (c .raise-pair2 .ensures))
-    (λ c. none-raised _ _ (c .before .if1 .left) (c .if2 .left)))
+    (λ c. let to = c .before .before in let from = to .before in let n = from .before in let q = n .before in let p = q .before .before in let d = p .before .before in
+    mark-raised _ _ (d .before .wide .ensures .0) (d .condition-of .ensures) (p .wide2 .ensures .0) (q .wide3 .ensures .0)
+    (n .pick .ensures) (from .pick2 .ensures) (to .pick3 .ensures) (c .raise-pair .ensures)))
