@@ -1,9 +1,5 @@
 -- Entries of the table raised one after the other.
 use mathlib.Core.Path.{_≡_, refl, sym, ap, _∙_, subst}
-<<<<<<< HEAD
-use mathlib.Core.Logic.{_≢_}
-=======
->>>>>>> leaf
 use Prim.Native.Nat.{ℕ, _+_, _≤_, _<_, max}
 use native.Mathlib.Nat.{max-zero}
 use native.Mathlib.Decide.{ℕ-discrete}
