@@ -114,12 +114,11 @@ fn judge(
     requires { ⌜ (places ≤ 32) × (transitions ≤ 32) × Sound s (now rec) × Blank (now w) ⌝ }
     ensures { λ r. ⌜ (length (now (w .exit)) ≡ length (now (w .entry))) × Judges (netAt places transitions (now (tokens .entry)) (now (arcs .entry))) s (now (rec .entry)) r (now (w .exit)) ⌝ }
 {
-    let mut produced = [0u16; 4128];
-    let p = wrong_initial(places, tokens, s, rec, &mut produced);
+    let p = wrong_initial(places, tokens, s, rec);
     if p < places {
         return Verdict::Refused(Refusal::WrongInitial(p));
     }
-    let d = wrong_arcs(places, arcs, s, rec, &produced);
+    let d = wrong_arcs(places, arcs, s, rec);
     if d < s.events {
         return Verdict::Refused(Refusal::WrongArcs(d));
     }

@@ -16,6 +16,7 @@ pub use checking::CheckAnswer;
 pub use checking::check;
 pub use net::NetAnswer;
 pub use net::NetRead;
+use net::net_answer;
 pub use net::read_net;
 use numbers::of_arrange;
 use numbers::of_build;
@@ -37,9 +38,7 @@ pub use spec::Numbers;
 pub extern "C" fn pti_read_net(net: &[u8]) -> Numbers
     ensures { λ r. ⌜ r ≡ netReturns (now (net .entry)) ⌝ }
 {
-    let read = read_net(net);
-    let answer = read.answer;
-    of_net(answer)
+    of_net(net_answer(net))
 }
 
 // Builds the record of a step log. a: bytes written.

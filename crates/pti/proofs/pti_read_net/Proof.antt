@@ -8,4 +8,4 @@ pub pti-read-net-spec : {M : Type 1} → statement M
 pti-read-net-spec = tie.close (tie.spec
     (λ c κs. search needs)
     (λ c κs. search needs)
-    (λ c. c .of-net .ensures ∙ ap numbersOf (c .before .read-net .ensures .answer)))
+    (λ c. c .of-net .ensures ∙ ap numbersOf (c .before .net-answer .ensures)))
