@@ -11,8 +11,8 @@ use std::ffi::{c_int, c_void};
 use std::hint::black_box;
 use std::ptr::{null, null_mut};
 
-/// More than any call may use, and a quarter of what a thread mostly has.
-const MOST: usize = 512 << 10;
+/// More than any call may use: what a small thread on a device has.
+const MOST: usize = 64 << 10;
 const ROOM: usize = 2 << 20;
 const PAINT: u8 = 0xA5;
 
