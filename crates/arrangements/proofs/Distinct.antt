@@ -1,6 +1,6 @@
 -- Lists in which no number stands twice, and how long they are.
 use Prim.Native.Nat.{ℕ, _+_, _≤_, _<_}
-use mathlib.Core.Path.{_≡_, refl, sym, ap, _∙_}
+use mathlib.Core.Path.{_≡_, refl, sym, ap, _∙_, subst}
 use mathlib.Core.Logic.{inl, inr}
 use mathlib.Core.Bool.{Bool, true, false, _||_, or-false as bool-or-false, or-assoc}
 use mathlib.Core.List.{List, [], _∷_, _++_, Memᴰ·append-right}
@@ -9,14 +9,18 @@ use native.Mathlib.Decide.{ℕ-discrete}
 use native.Mathlib.Omega.{arith}
 use lib.Dec.{eqb}
 use lib.ListN.{length}
-use borrow.Author.Tests.{eq-eqb, ne-eqb}
+use borrow.Author.Tests.{eq-eqb, ne-eqb, eqb-true}
 use Rattle.spec.specs.Lists.{In, any, count, asCount, upTo, member}
 use Rattle.spec.specs.Replay.{repeats}
-use Rattle.lists.specs.Laws.{here, there, clash, or-true, or-false, true-or-l, true-or-r, false-or, any-in, count-either, count-none, count-length, count-upTo, length-upTo, eqb-sym}
+use Rattle.lists.specs.Laws.{here, there, clash, true-or-false, or-true, or-false, true-or-l, true-or-r, false-or, any-in, any-found, count-either, count-none, count-length, count-upTo, length-upTo, eqb-sym}
 
 pub member-in : {x : ℕ} (xs : List ℕ) → In x xs → member x xs ≡ true
 unfolding member
 member-in {x} xs m = any-in (eqb x) x xs m (eq-eqb x x refl)
+
+pub in-member : {x : ℕ} (xs : List ℕ) → member x xs ≡ true → In x xs
+unfolding member
+in-member {x} xs h = let r = any-found (eqb x) xs h in subst (λ (y : ℕ). In y xs) (sym (eqb-true x (r .0) (r .2))) (r .1)
 
 pub member-snoc : (x : ℕ) (s : List ℕ) (v : ℕ) → member x (s ++ v ∷ []) ≡ (member x s || eqb x v)
 unfolding member any
@@ -42,6 +46,14 @@ module _ (v : ℕ) where
       let b = or-false (member x s) (repeats s) r in
       false-or (member-snoc x s v ∙ false-or (b .0) (eqb-sym x v ∙ a .0)) (repeats-more s (a .1) (b .1))
 
+-- a number of the second part is none of the first
+pub repeats-apart : {x : ℕ} (s t : List ℕ) → repeats (s ++ t) ≡ false → In x t → member x s ≡ false
+unfolding repeats member any
+repeats-apart [] t h m = refl
+repeats-apart {x} (y ∷ s) t h m =
+    let z = or-false (member y (s ++ t)) (repeats (s ++ t)) h in
+    false-or (ne-eqb x y (λ e. clash (member-in (s ++ t) (Memᴰ·append-right s (subst (λ (v : ℕ). In v t) e m))) (z .0))) (repeats-apart s t (z .1) m)
+
 -- ---- numbers below n
 
 module _ (n : ℕ) where
@@ -61,3 +73,12 @@ module _ (n : ℕ) where
   -- there are at most n of them
   pub distinct-few : (xs : List ℕ) → ((x : ℕ) → In x xs → x < n) → repeats xs ≡ false → length xs ≤ n
   distinct-few xs h r = omega (arith, distinct-count xs h r, count-length (λ e. member e xs) (upTo n), length-upTo n)
+
+-- more than n of them repeat one, and so do others with them
+pub repeats-right : (s t : List ℕ) → repeats t ≡ true → repeats (s ++ t) ≡ true
+unfolding repeats
+repeats-right [] t h = h
+repeats-right (x ∷ s) t h = true-or-r (member x (s ++ t)) (repeats-right s t h)
+
+pub too-many : (n : ℕ) (xs : List ℕ) → ((x : ℕ) → In x xs → x < n) → n < length xs → repeats xs ≡ true
+too-many n xs h l = elim (true-or-false (repeats xs)) [ inl a ↦ a | inr a ↦ absurd (omega (arith, distinct-few n xs h a)) ]

@@ -1,82 +1,30 @@
--- What the rows and the array of the events' lines say of late predecessors is what the definitions say.
-use Prim.Native.Nat.{ℕ, _+_, _-_, _≤_, _<_, min, max}
-use native.Mathlib.Numerals.{add-one}
+-- What the rows say of late predecessors, from the last line to the first, is what the definitions say.
+use Prim.Native.Nat.{ℕ, zero, suc, _+_, _-_, _≤_, _<_, min, max}
 use mathlib.Core.Path.{_≡_, refl, sym, ap, _∙_, subst}
-use mathlib.Core.Logic.{_≢_, inl, inr}
-use mathlib.Core.Bool.{Bool, true, false, not, _&&_, _||_, and-false}
+use mathlib.Core.Logic.{_≢_, _⊎_, inl, inr}
+use mathlib.Core.Bool.{Bool, true, false, not, _&&_, cond}
 use mathlib.Core.List.{List, [], _∷_, _++_, Memᴰ·append-left, Memᴰ·append-right, List·Memᴰ·append-cases, List·Memᴰ·eq-of-singleton, List·Memᴰ·not-nil}
 use native.Mathlib.Decide.{ℕ-discrete}
 use native.Mathlib.Omega.{arith}
-use lib.Dec.{ltb, leb}
-use lib.Seq.{take-suc}
-use borrow.Author.Tests.{lt-ltb, le-ltb, le-leb, lt-leb, ltb-true, ltb-false}
-use lib.ListN.{length, getD, take}
-use Rattle.spec.specs.Lists.{In, any, from, upTo, member}
+use lib.Dec.{ltb}
+use lib.Seq.{take-suc, take-length, drop-cons, drop-length, getD-take, getD-drop}
+use borrow.Author.Tests.{lt-ltb, le-leb, ltb-true, ltb-false, leb-true}
+use lib.ListN.{length, getD, take, drop, length-drop}
+use Rattle.spec.specs.Lists.{In, any, upTo, member, flat}
 use Rattle.spec.specs.Record.{RunRecord}
 use Rattle.spec.specs.Order.{strictlyBefore, notLater}
-use Rattle.spec.specs.Replay.{late, breaks}
+use Rattle.spec.specs.Replay.{repeats, late, breaks}
 use Rattle.bit_sets.specs.Sets.{has, has-most, First}
 use Rattle.bit_sets.specs.declared.Set.{Set}
 use Rattle.reach.specs.declared.Row.{Row}
 use Rattle.reach.specs.Rows.{cellOf, Good, Sub, rowOf, valueOf}
-use Rattle.lists.specs.Laws.{here, in-upTo, true-or-false, true-or-r, any-in, any-found, any-none, none-any}
-use Rattle.lists.specs.Search.{any-start, any-hit, any-on, any-end}
-use Rattle.lists.specs.Along.{any-agree}
-use Rattle.arrangements.specs.Lined.{TellsOrder, Stands, IsSet, Meets, lateIn, lateFor, breaksIn}
-use Rattle.arrangements.proofs.Distinct.{member-in}
+use Rattle.lists.specs.Laws.{here, at-in, flat-take-suc, in-upTo, upTo-in, true-or-false, true-or-l, true-or-r, true-and, and-true, or-true, not-is-true, clash, same-tests, any-in, any-found}
+use Rattle.arrangements.specs.Lined.{TellsOrder, Taken, IsSet, Meets, Unites, pathOf, strictOf, Lacks, WithLacking, Grouped, brokenFrom}
+use Rattle.arrangements.specs.declared.Group.{Group}
+use Rattle.arrangements.proofs.Distinct.{member-in, in-member, repeats-apart, distinct-few}
+use Rattle.arrangements.proofs.Ordering.{end-next, end-most, parted, line-out}
 
-any-swap : {A B : Type 0} (f : A → B → Bool) (xs : List A) (ys : List B) → any (λ a. any (f a) ys) xs ≡ any (λ b. any (λ a. f a b) xs) ys
-any-swap f xs ys = elim (true-or-false (any (λ a. any (f a) ys) xs)) [
-  | inl h ↦ let r = any-found (λ a. any (f a) ys) xs h in let s = any-found (f (r .0)) ys (r .2) in
-      h ∙ sym (any-in (λ b. any (λ a. f a b) xs) (s .0) ys (s .1) (any-in (λ a. f a (s .0)) (r .0) xs (r .1) (s .2)))
-  | inr h ↦ h ∙ sym (none-any (λ b. any (λ a. f a b) xs) ys (λ b m. none-any (λ a. f a b) xs (λ a l. any-none (f a) ys (any-none (λ a. any (f a) ys) xs h a l) b m)))
-]
-
-module _ {n k : ℕ} {t xs done now : List ℕ} {R : RunRecord} (few : n ≤ 128) (h : TellsOrder n t R) (s : Stands k xs done now) where
-  -- an event is not late for itself by a weak pair: it has come
-  weak-held : (e d : ℕ) → In e now → d < n → e < n → (ltb 0 (cellOf t d e) && not (member d (done ++ now))) ≡ (notLater R d e && not (member d (done ++ now)))
-  weak-held e d m l u = elim (ℕ-discrete d e) [
-    | yes q ↦ rw (q, member-in (done ++ now) (Memᴰ·append-right done m), and-false (ltb 0 (cellOf t e e)), and-false (notLater R e e))
-    | no q ↦ ap (λ (b : Bool). b && not (member d (done ++ now))) (h .weak d e l u q)
-  ]
-
-  late-held : (e d : ℕ) → In e now → d < n → e < n → lateIn (cellOf t d e) (getD xs d 0) k ≡ late R done now e d
-  unfolding lateIn late
-  late-held e d m l u =
-      rw (← s .earlier d (omega arith), ← s .come d (omega arith), h .strict d e l u) (ap (λ (b : Bool). (strictlyBefore R d e && not (member d done)) || b) (weak-held e d m l u))
-
-  pub breaks-held : ((e : ℕ) → In e now → e < n) → breaksIn t xs n k now ≡ breaks R done now
-  unfolding breaksIn lateFor breaks
-  breaks-held low =
-      any-swap (λ d e. lateIn (cellOf t d e) (getD xs d 0) k) (upTo n) now
-      ∙ any-agree _ _ now (λ e m. any-agree _ _ (upTo n) (λ d i. late-held e d m (in-upTo n i) (low e m)) ∙ ap (λ (j : ℕ). any (late R done now e) (upTo j)) (h .events))
-
--- ---- the set of a line's events
-
-pub set-none : (es : List ℕ) (s : Set) → ((f : ℕ) → has s f ≡ 0) → IsSet (take 0 es) s
-set-none es s h = record { low = λ e m. absurd (List·Memᴰ·not-nil m); has-all = λ e m. absurd (List·Memᴰ·not-nil m); no-more = λ e q. absurd (omega (arith, h e)) }
-
-pub set-more : (es : List ℕ) (i e : ℕ) (s o r : Set) → i < length es → e ≡ getD es i 0 → e < 128 → (has o e ≡ 1) × ((g : ℕ) → g ≢ e → has o g ≡ 0)
-    → ((f : ℕ) → has r f ≡ max (has s f) (has o f)) → IsSet (take i es) s → IsSet (take (i + 1) es) r
-set-more es i e s o r l q small O U S = subst (λ (xs : List ℕ). IsSet xs r) (sym one-more) (record {
-  low = λ f m. elim (List·Memᴰ·append-cases (take i es) m) [ inl a ↦ S .low f a | inr a ↦ let z = List·Memᴰ·eq-of-singleton a in omega arith ];
-  has-all = λ f m. elim (List·Memᴰ·append-cases (take i es) m) [
-    | inl a ↦ omega (arith, U f, S .has-all f a, has-most o f)
-    | inr a ↦ let z : has o f ≡ 1 = ap (has o) (List·Memᴰ·eq-of-singleton a) ∙ O .0 in omega (arith, U f, z, has-most s f)
-  ];
-  no-more = λ f h. elim (ℕ-discrete f e) [
-    | yes z ↦ rw z (Memᴰ·append-right (take i es) here)
-    | no z ↦ Memᴰ·append-left (e ∷ []) (S .no-more f (omega (arith, U f, O .1 f z)))
-  ];
-})
-  where
-    one-more : take (i + 1) es ≡ take i es ++ e ∷ []
-    one-more = rw (add-one i, q) (take-suc es i 0 l)
-
-pub set-all : (es : List ℕ) {i m : ℕ} {s : Set} → i ≡ m → IsSet (take i es) s → IsSet (take m es) s
-set-all es {s = s} q h = subst (λ (z : ℕ). IsSet (take z es) s) q h
-
--- ---- two sets that meet
+-- ---- sets of events, and unions of their sets
 
 pub meets-is : (a b m : Set) (r : ℕ) → ((f : ℕ) → has m f ≡ min (has a f) (has b f)) → First m r → Meets a b (ltb r 128)
 meets-is a b m r h (inl x) = record {
@@ -88,77 +36,271 @@ meets-is a b m r h (inr x) = record {
   none = λ _ f l y. omega (arith, h f, x .1 f l, y);
 }
 
--- ---- one event that is late or not
+set-none : {s : Set} → ((f : ℕ) → has s f ≡ 0) → IsSet [] s
+set-none h = record { low = λ e m. absurd (List·Memᴰ·not-nil m); has-all = λ e m. absurd (List·Memᴰ·not-nil m); no-more = λ e q. absurd (omega (arith, h e)) }
 
-module _ (c k : ℕ) where
-  absent-hit : 0 < c → lateIn c 0 k ≡ true
-  unfolding lateIn
-  absent-hit h = rw (lt-ltb 0 c h) (true-or-r (leb 2 c && true) refl)
+set-more : {es : List ℕ} {s : Set} (e : ℕ) (o : Set) {r : Set} → e < 128 → (has o e ≡ 1) × ((g : ℕ) → g ≢ e → has o g ≡ 0) → ((f : ℕ) → has r f ≡ max (has s f) (has o f)) → IsSet es s → IsSet (es ++ e ∷ []) r
+set-more {es} {s} e o {r} small O U S = record {
+  low = λ f m. elim (List·Memᴰ·append-cases es m) [ inl a ↦ S .low f a | inr a ↦ let z = List·Memᴰ·eq-of-singleton a in omega arith ];
+  has-all = λ f m. elim (List·Memᴰ·append-cases es m) [
+    | inl a ↦ omega (arith, U f, S .has-all f a, has-most o f)
+    | inr a ↦ let z : has o f ≡ 1 = ap (has o) (List·Memᴰ·eq-of-singleton a) ∙ O .0 in omega (arith, U f, z, has-most s f)
+  ];
+  no-more = λ f h. elim (ℕ-discrete f e) [
+    | yes z ↦ rw z (Memᴰ·append-right es here)
+    | no z ↦ Memᴰ·append-left (e ∷ []) (S .no-more f (omega (arith, U f, O .1 f z)))
+  ];
+}
 
-  absent-miss : c ≡ 0 → lateIn c 0 k ≡ false
-  unfolding lateIn
-  absent-miss h = rw h refl
+module _ {sets : ℕ → Set} {P : ℕ → Type 0} where
+  unites-none : {s : Set} → ((f : ℕ) → has s f ≡ 0) → ((d : ℕ) → P d → ⊥) → Unites sets P s
+  unites-none h z = record { some = λ f q. absurd (omega (arith, h f)); all = λ d f p q. absurd (z d p) }
 
-  module _ (x : ℕ) (p : 0 < x) where
-    earlier-miss : x < k → lateIn c x k ≡ false
-    unfolding lateIn
-    earlier-miss q = rw (lt-ltb 0 x p, lt-ltb x k q, and-false (leb 2 c), and-false (ltb 0 c)) refl
+  unites-same : {Q : ℕ → Type 0} {s : Set} → ((d : ℕ) → P d → Q d) → ((d : ℕ) → Q d → P d) → Unites sets P s → Unites sets Q s
+  unites-same to back u = record { some = λ f q. let r = u .some f q in (r .0, to (r .0) (r .1), r .2); all = λ d f p q. u .all d f (back d p) q }
 
-    strict-hit : k ≤ x → 2 ≤ c → lateIn c x k ≡ true
-    unfolding lateIn
-    strict-hit q h = rw (lt-ltb 0 x p, le-ltb x k q, le-leb 2 c h) refl
+  unites-join : {Q : ℕ → Type 0} {s o r : Set} → ((f : ℕ) → has r f ≡ max (has s f) (has o f)) → Unites sets P s → Unites sets Q o → Unites sets (λ d. P d ⊎ Q d) r
+  unites-join {Q} {s} {o} {r} U u v = record {
+    some = λ f q. elim (ℕ-discrete (has s f) 1) [
+      | yes a ↦ let z = u .some f a in (z .0, inl (z .1), z .2)
+      | no a ↦ let z = v .some f (omega (arith, U f, has-most s f, has-most o f)) in (z .0, inr (z .1), z .2)
+    ];
+    all = λ d f p q. elim p [
+      | inl a ↦ omega (arith, U f, u .all d f a q, has-most o f)
+      | inr a ↦ omega (arith, U f, v .all d f a q, has-most s f)
+    ];
+  }
 
-    strict-miss : k ≤ x → c < 2 → lateIn c x k ≡ false
-    unfolding lateIn
-    strict-miss q h = rw (lt-ltb 0 x p, le-ltb x k q, lt-leb 2 c h, and-false (ltb 0 c)) refl
+unites-one : {sets : ℕ → Set} (d : ℕ) {s : Set} → s ≡ sets d → Unites sets (λ x. x ≡ d) s
+unites-one {sets} d {s} e = record { some = λ f q. (d, refl, rw (← e) q); all = λ x f p q. rw (e, ← p) q }
 
-module _ (w : List ℕ) (d k : ℕ) (l : d < 128) (g : Good w) (es : List ℕ) (s : Set) (I : IsSet es s) where
-  cell : (row : Row) → row ≡ rowOf w d → (f : ℕ) → cellOf w d f ≡ has (row .path) f + has (row .strict) f
+-- ---- the events of a line
+
+pub grouped-none : (t lined : List ℕ) (from : ℕ) {a b c : Set} → ((f : ℕ) → has a f ≡ 0) → ((f : ℕ) → has b f ≡ 0) → ((f : ℕ) → has c f ≡ 0)
+    → Grouped t (take (from - from) (drop from lined)) (record { line = a; path = b; strict = c })
+grouped-none t lined from p q r = let z : from - from ≡ 0 = omega arith in rw z (record {
+  line = set-none p;
+  path = unites-none q (λ d m. absurd (List·Memᴰ·not-nil m));
+  strict = unites-none r (λ d m. absurd (List·Memᴰ·not-nil m));
+})
+
+in-more : (sets : ℕ → Set) (es : List ℕ) (e : ℕ) (s o : Set) {r : Set} → o ≡ sets e → ((f : ℕ) → has r f ≡ max (has s f) (has o f)) → Unites sets (λ d. In d es) s → Unites sets (λ d. In d (es ++ e ∷ [])) r
+in-more sets es e s o q U u = unites-same
+    (λ d p. elim p [ inl a ↦ Memᴰ·append-left (e ∷ []) a | inr a ↦ Memᴰ·append-right es (rw a here) ])
+    (λ d m. elim (List·Memᴰ·append-cases es m) [ inl a ↦ inl a | inr a ↦ inr (List·Memᴰ·eq-of-singleton a) ])
+    (unites-join U u (unites-one e q))
+
+pub grouped-more : (t lined : List ℕ) (from i e : ℕ) {row : Row} (o : Set) {a b c a′ b′ c′ : Set} → from ≤ i → i < length lined → e ≡ getD lined i 0 → e < 128 → row ≡ rowOf t e → (has o e ≡ 1) × ((g : ℕ) → g ≢ e → has o g ≡ 0)
+    → ((f : ℕ) → has a′ f ≡ max (has a f) (has o f)) → ((f : ℕ) → has b′ f ≡ max (has b f) (has (row .path) f)) → ((f : ℕ) → has c′ f ≡ max (has c f) (has (row .strict) f))
+    → Grouped t (take (i - from) (drop from lined)) (record { line = a; path = b; strict = c }) → Grouped t (take (i + 1 - from) (drop from lined)) (record { line = a′; path = b′; strict = c′ })
+grouped-more t lined from i e {row} o {b = b} {c = c} h l q small x O p u v g = rw one-more (record {
+  line = set-more e o small O p (g .line);
+  path = in-more (pathOf t) _ e b (row .path) (ap (λ (z : Row). z .path) x) u (g .path);
+  strict = in-more (strictOf t) _ e c (row .strict) (ap (λ (z : Row). z .strict) x) v (g .strict);
+})
+  where
+    one-more : take (i + 1 - from) (drop from lined) ≡ take (i - from) (drop from lined) ++ e ∷ []
+    one-more =
+        let y : i + 1 - from ≡ suc (i - from) = omega arith in
+        let w : from + (i - from) ≡ i = omega arith in
+        rw (y, q) (take-suc (drop from lined) (i - from) 0 (omega (arith, length-drop from lined)) ∙ ap (λ (z : ℕ). take (i - from) (drop from lined) ++ z ∷ []) (getD-drop from lined (i - from) 0 ∙ ap (λ (z : ℕ). getD lined z 0) w))
+
+-- ---- the events without a line
+
+module _ (t xs : List ℕ) (m : ℕ) where
+  pub lacking-none : {s : Set} → ((f : ℕ) → has s f ≡ 0) → Unites (pathOf t) (Lacks 0 m xs) s
+  lacking-none h = unites-none h (λ d p. absurd (omega arith))
+
+  pub lacking-more : (d x : ℕ) {row : Row} {r s : Set} → x ≡ getD xs d 0 → row ≡ rowOf t d → WithLacking r (row .path) m x s → Unites (pathOf t) (Lacks d m xs) r → Unites (pathOf t) (Lacks (d + 1) m xs) s
+  lacking-more d x {row} {r} {s} q e w u = elim (true-or-false (ltb 0 x && ltb x (m + 1))) [
+    | inl a ↦ rw (w .has-line a) (unites-same (λ y p. (omega arith, p .1)) (λ y p. (
+      elim (ℕ-discrete y d) [
+        | yes z ↦ clash (rw (← q) a) (rw z at (p .1))
+        | no z ↦ omega arith
+      ],
+      p .1,
+    )) u)
+    | inr a ↦ unites-same
+        (λ y p. elim p [ inl b ↦ (omega arith, b .1) | inr b ↦ (omega arith, rw (b, ← q) a) ])
+        (λ y p. elim (ℕ-discrete y d) [ yes z ↦ inr z | no z ↦ inl (omega arith, p .1) ])
+        (unites-join (w .lacking a) u (unites-one d (ap (λ (z : Row). z .path) e)))
+  ]
+
+pub in-line : (x m : ℕ) → 0 < x → x ≤ m → (ltb 0 x && ltb x (m + 1)) ≡ true
+in-line x m p q = true-and (lt-ltb 0 x p) (lt-ltb x (m + 1) (omega arith))
+
+pub lacking-end : (t xs : List ℕ) (m : ℕ) (d n : ℕ) {s : Set} → d ≡ n → Unites (pathOf t) (Lacks d m xs) s → Unites (pathOf t) (Lacks n m xs) s
+lacking-end t xs m d n {s} e u = subst (λ (z : ℕ). Unites (pathOf t) (Lacks z m xs) s) e u
+
+pub grouped-end : (t lined : List ℕ) (from i to : ℕ) {g : Group} → i ≡ to → Grouped t (take (i - from) (drop from lined)) g → Grouped t (take (to - from) (drop from lined)) g
+grouped-end t lined from i to {g} e h = subst (λ (z : ℕ). Grouped t (take (z - from) (drop from lined)) g) e h
+
+-- ---- a line that breaks the order
+
+module _ {n : ℕ} {t : List ℕ} (R : RunRecord) (few : n ≤ 128) (good : Good t) (o : TellsOrder n t R) where
+  cell-is : (d e : ℕ) → cellOf t d e ≡ has (pathOf t d) e + has (strictOf t d) e
   unfolding cellOf valueOf
-  cell row q f = ap (λ (z : Row). has (z .path) f + has (z .strict) f) (sym q)
+  cell-is d e = refl
 
-  sub : (row : Row) → row ≡ rowOf w d → (f : ℕ) → has (row .strict) f ≤ has (row .path) f
+  sub-is : (d e : ℕ) → d < n → has (strictOf t d) e ≤ has (pathOf t d) e
   unfolding Good Sub
-  sub row q f = rw q (g d l f)
+  sub-is d e l = good d (omega arith) e
 
-  pub absent-late : (x : ℕ) → x ≡ 0 → (row : Row) → row ≡ rowOf w d → (r : Bool) → Meets (row .path) s r → r ≡ lateFor w x k es d
-  unfolding lateFor
-  absent-late x z row q true M = let b = M .both refl in
-      sym (any-in (λ e. lateIn (cellOf w d e) x k) (b .0) es (I .no-more (b .0) (b .2)) (rw z (absent-hit (cellOf w d (b .0)) k (omega (arith, cell row q (b .0), b .1)))))
-  absent-late x z row q false M =
-      sym (none-any (λ e. lateIn (cellOf w d e) x k) es (λ e m. rw z (absent-miss (cellOf w d e) k (omega (arith, cell row q e, sub row q e, M .none refl e (I .low e m) (I .has-all e m))))))
+  module _ (done g : List ℕ) (low : (e : ℕ) → In e g → e < n) (apart : (e : ℕ) → In e g → member e done ≡ false)
+      {line strict behind u : Set} {b : Bool} (L : IsSet g line) (S : Unites (strictOf t) (λ d. In d g) strict)
+      (B : Unites (pathOf t) (λ d. (d < n) × (member d (done ++ g) ≡ false)) behind) (U : (f : ℕ) → has u f ≡ max (has behind f) (has strict f)) (M : Meets u line b) where
+    -- an event that is late for f
+    found : (d f : ℕ) → d < n → In f g → late R done g f d ≡ true → breaks R done g ≡ true
+    unfolding breaks
+    found d f l m h = any-in (λ e. any (late R done g e) (upTo (length (R .events)))) f g m (any-in (late R done g f) d (upTo (length (R .events))) (upTo-in (length (R .events)) (omega (arith, o .events))) h)
 
-  pub earlier-late : (x : ℕ) → 0 < x → x < k → false ≡ lateFor w x k es d
-  unfolding lateFor
-  earlier-late x p q = sym (none-any (λ e. lateIn (cellOf w d e) x k) es (λ e m. earlier-miss (cellOf w d e) k x p q))
+    here-too : (f : ℕ) → In f g → member f (done ++ g) ≡ true
+    here-too f m = member-in (done ++ g) (Memᴰ·append-right done m)
 
-  pub present-late : (x : ℕ) → 0 < x → k ≤ x → (row : Row) → row ≡ rowOf w d → (r : Bool) → Meets (row .strict) s r → r ≡ lateFor w x k es d
-  unfolding lateFor
-  present-late x p u row q true M = let b = M .both refl in
-      sym (any-in (λ e. lateIn (cellOf w d e) x k) (b .0) es (I .no-more (b .0) (b .2)) (strict-hit (cellOf w d (b .0)) k x p u (omega (arith, cell row q (b .0), sub row q (b .0), b .1))))
-  present-late x p u row q false M =
-      sym (none-any (λ e. lateIn (cellOf w d e) x k) es (λ e m. strict-miss (cellOf w d e) k x p u (omega (arith, cell row q e, has-most (row .path) e, M .none refl e (I .low e m) (I .has-all e m)))))
+    late-strict : (d f : ℕ) → d < n → In f g → 2 ≤ cellOf t d f → member d done ≡ false → breaks R done g ≡ true
+    unfolding late
+    late-strict d f l m c p = found d f l m (true-or-l (notLater R d f && not (member d (done ++ g))) (true-and (sym (o .strict d f l (low f m)) ∙ le-leb 2 (cellOf t d f) c) (ap not p)))
 
--- ---- the events one after the other
+    late-weak : (d f : ℕ) → d < n → In f g → 0 < cellOf t d f → member d (done ++ g) ≡ false → breaks R done g ≡ true
+    unfolding late
+    late-weak d f l m c p = found d f l m (true-or-r (strictlyBefore R d f && not (member d done)) (true-and (sym (o .weak d f l (low f m) (λ e. clash (here-too f m) (rw e at p))) ∙ lt-ltb 0 (cellOf t d f) c) (ap not p)))
 
-module _ (t xs : List ℕ) (n k : ℕ) (es : List ℕ) where
-  abbrev lateAt : ℕ → Bool
-  lateAt d = lateFor t (getD xs d 0) k es d
+    broken : b ≡ true → breaks R done g ≡ true
+    broken q =
+        let z = M .both q in let f = z .0 in let m = L .no-more f (z .2) in
+        elim (ℕ-discrete (has strict f) 1) [
+          | yes a ↦ let s = S .some f a in let l = low (s .0) (s .1) in late-strict (s .0) f l m (omega (arith, cell-is (s .0) f, sub-is (s .0) f l, s .2, has-most (pathOf t (s .0)) f)) (apart (s .0) (s .1))
+          | no a ↦ let s = B .some f (omega (arith, U f, z .1, has-most strict f)) in late-weak (s .0) f (s .1 .0) m (omega (arith, cell-is (s .0) f, s .2)) (s .1 .1)
+        ]
 
-  -- whether one from d on is late is whether one is at all
-  abbrev pub LateFrom : ℕ → Type 0
-  LateFrom d = any lateAt (from d (n - d)) ≡ breaksIn t xs n k es
+    -- what is behind an event that is late meets the line
+    hit : (f : ℕ) → In f g → has u f ≡ 1 → b ≡ true
+    hit f m h = elim (true-or-false b) [ inl a ↦ a | inr a ↦ absurd (omega (arith, M .none a f (L .low f m) (L .has-all f m))) ]
 
-  pub late-start : LateFrom 0
-  unfolding breaksIn
-  late-start = any-start lateAt n
+    hit-behind : (d f : ℕ) → d < n → In f g → member d (done ++ g) ≡ false → 0 < cellOf t d f → b ≡ true
+    hit-behind d f l m p h = hit f m (omega (arith, U f, B .all d f (l, p) (omega (arith, cell-is d f, sub-is d f l, has-most (pathOf t d) f)), has-most strict f))
 
-  module _ (d : ℕ) (g : LateFrom d) where
-    pub late-hit : d < n → lateFor t (getD xs d 0) k es d ≡ true → true ≡ breaksIn t xs n k es
-    late-hit l h = sym (any-hit lateAt d n l h) ∙ g
+    kept : breaks R done g ≡ true → b ≡ true
+    unfolding breaks late
+    kept h =
+        let z = any-found (λ e. any (late R done g e) (upTo (length (R .events)))) g h in let f = z .0 in let m = z .1 in
+        let y = any-found (late R done g f) (upTo (length (R .events))) (z .2) in let d = y .0 in
+        let l : d < n = omega (arith, in-upTo (length (R .events)) (y .1), o .events) in
+        elim (or-true (strictlyBefore R d f && not (member d done)) (notLater R d f && not (member d (done ++ g))) (y .2)) [
+          | inl a ↦ let x = and-true (strictlyBefore R d f) (not (member d done)) a in
+              let c : 2 ≤ cellOf t d f = leb-true 2 (cellOf t d f) (o .strict d f l (low f m) ∙ x .0) in
+              elim (true-or-false (member d (done ++ g))) [
+                | inl i ↦ elim (List·Memᴰ·append-cases done (in-member (done ++ g) i)) [
+                  | inl j ↦ clash (member-in done j) (not-is-true (member d done) (x .1))
+                  | inr j ↦ hit f m (omega (arith, U f, S .all d f j (omega (arith, cell-is d f, c, has-most (pathOf t d) f, has-most (strictOf t d) f)), has-most behind f))
+                ]
+                | inr i ↦ hit-behind d f l m i (omega arith)
+              ]
+          | inr a ↦ let x = and-true (notLater R d f) (not (member d (done ++ g))) a in let i = not-is-true (member d (done ++ g)) (x .1) in
+              hit-behind d f l m i (ltb-true 0 (cellOf t d f) (o .weak d f l (low f m) (λ e. clash (here-too f m) (rw e at i)) ∙ x .0))
+        ]
 
-    pub late-on : d < n → lateFor t (getD xs d 0) k es d ≡ false → LateFrom (d + 1)
-    late-on l h = any-on lateAt d n l h ∙ g
+    pub breaks-is : b ≡ breaks R done g
+    breaks-is = same-tests b (breaks R done g) (broken, kept)
 
-    pub late-end : n ≤ d → false ≡ breaksIn t xs n k es
-    late-end l = sym (any-end lateAt d n l) ∙ g
+-- ---- the lines from the last to the first
+
+first-line : (R : RunRecord) (k : ℕ) (done g : List ℕ) (gs : List (List ℕ)) → cond (breaks R done g) k (brokenFrom R (suc k) (done ++ g) gs) ≡ brokenFrom R k done (g ∷ gs)
+unfolding brokenFrom
+first-line R k done g gs = refl
+
+-- behind the first k lines: the first of the others that breaks the order, and what an event in none of the k is not later than
+pub record Behind (n m : ℕ) (t xs lined : List ℕ) (k r : ℕ) (s : Set) : Type 0 where
+  pub broken : (R : RunRecord) (gs : List (List ℕ)) → TellsOrder n t R → Taken n m xs lined gs → r ≡ brokenFrom R (suc k) (flat (take k gs)) (drop k gs)
+  pub late : (gs : List (List ℕ)) → Taken n m xs lined gs → Unites (pathOf t) (λ d. (d < n) × (member d (flat (take k gs)) ≡ false)) s
+
+pub behind-all : {n m : ℕ} {t xs lined : List ℕ} {s : Set} → n ≤ 128 → Unites (pathOf t) (Lacks n m xs) s → Behind n m t xs lined m 0 s
+unfolding brokenFrom
+behind-all {n} {m} {t} {xs} few u = record {
+  broken = λ R gs o T. rw (T .lines, drop-length gs);
+  late = λ gs T. let e : take m gs ≡ gs = ap (λ (j : ℕ). take j gs) (T .lines) ∙ take-length gs in
+      unites-same (λ d p. (p .0, rw e (T .earlier d (omega arith) ∙ p .1))) (λ d p. (p .0, sym (T .earlier d (omega arith)) ∙ rw e at (p .1))) u;
+}
+
+module _ {n m : ℕ} {xs lined : List ℕ} {gs : List (List ℕ)} (T : Taken n m xs lined gs) where
+  rest-is : (j : ℕ) → j < m → flat (drop j gs) ≡ getD gs j [] ++ flat (drop (suc j) gs)
+  unfolding flat
+  rest-is j h = rw (drop-cons gs j [] (omega (arith, T .lines)))
+
+  line-rest : (j : ℕ) → j < m → (e : ℕ) → In e (getD gs j []) → In e (flat (drop j gs))
+  line-rest j h e i = rw (rest-is j h) (Memᴰ·append-left (flat (drop (suc j) gs)) i)
+
+  line-known : (j : ℕ) → j < m → (e : ℕ) → In e (getD gs j []) → e < n
+  line-known j h e i = T .known e (rw (parted (T .ordered) j) (Memᴰ·append-right (flat (take j gs)) (line-rest j h e i)))
+
+  line-apart : (j : ℕ) → j < m → (e : ℕ) → In e (getD gs j []) → member e (flat (take j gs)) ≡ false
+  line-apart j h e i = repeats-apart (flat (take j gs)) (flat (drop j gs)) (subst (λ (z : List ℕ). repeats z ≡ false) (parted (T .ordered) j) (T .once)) (line-rest j h e i)
+
+  -- each line has an event of its own
+  pub lines-most : n ≤ 128 → m ≤ 128
+  lines-most few = omega (arith, T .lines, T .full, distinct-few n (flat gs) (T .known) (T .once))
+
+  -- where line k starts and ends, and its events
+  pub line-ends : {k from to : ℕ} → n ≤ 128 → 0 < k → k ≤ m → from ≡ getD lined (127 + k) 0 → to ≡ getD lined (128 + k) 0
+      → (from ≤ to) × (to ≤ 128) × (length lined ≡ 257) × ((i : ℕ) → i < to → getD lined i 0 < 128)
+  line-ends {k} {from} {to} few some most p q =
+      let j : ℕ = k - 1 in
+      let a : 127 + k ≡ 128 + j = omega arith in
+      let b : k ≡ suc j = omega arith in
+      let x : from ≡ length (flat (take j gs)) = p ∙ ap (λ (z : ℕ). getD lined z 0) a ∙ T .ordered .ends j (omega (arith, T .lines)) in
+      let y : to ≡ length (flat (take (suc j) gs)) = q ∙ T .ordered .ends k (omega (arith, T .lines)) ∙ ap (λ (z : ℕ). length (flat (take z gs))) b in
+      let l : length (flat gs) ≤ n = distinct-few n (flat gs) (T .known) (T .once) in (
+        omega (arith, end-next (T .ordered) j (omega (arith, T .lines))),
+        omega (arith, end-most (T .ordered) (suc j)),
+        T .ordered .long,
+        λ i h. let u : i < length (flat gs) = omega (arith, end-most (T .ordered) (suc j)) in
+            omega (arith, sym (getD-take (length (flat gs)) lined i 0 u) ∙ ap (λ (z : List ℕ). getD z i 0) (T .ordered .events), T .known _ (at-in 0 (flat gs) i u)),
+      )
+
+pub behind-more : {n m : ℕ} {t xs lined : List ℕ} (j : ℕ) {r r′ from to : ℕ} {late late′ u : Set} {g : Group} {b : Bool} → n ≤ 128 → Good t → j < m → from ≡ getD lined (128 + j) 0 → to ≡ getD lined (128 + suc j) 0
+    → Grouped t (take (to - from) (drop from lined)) g → ((f : ℕ) → has u f ≡ max (has late f) (has (g .strict) f)) → Meets u (g .line) b → r′ ≡ cond b (suc j) r
+    → ((f : ℕ) → has late′ f ≡ max (has late f) (has (g .path) f)) → Behind n m t xs lined (suc j) r late → Behind n m t xs lined j r′ late′
+behind-more {n} {m} {t} {xs} {lined} j {r} {from} {to} {late} {g = g} {b = b} few good h p q G U M c W B = record {
+  broken = λ R gs o T. c ∙ go R gs T (breaks-is R few good o (flat (take j gs)) (getD gs j []) (line-known T j h) (line-apart T j h) (group gs T .line) (group gs T .strict) (rest gs T) U M) (B .broken R gs o T);
+  late = λ gs T. unites-same
+      (λ d z. elim z [ inl a ↦ (a .0, before gs T d (a .1)) | inr a ↦ (line-known T j h d a, line-apart T j h d a) ])
+      (λ d z. elim (true-or-false (member d (flat (take j gs) ++ getD gs j []))) [
+        | inl a ↦ elim (List·Memᴰ·append-cases (flat (take j gs)) (in-member (flat (take j gs) ++ getD gs j []) a)) [ inl i ↦ clash (member-in (flat (take j gs)) i) (z .1) | inr i ↦ inr i ]
+        | inr a ↦ inl (z .0, a)
+      ])
+      (unites-join W (rest gs T) (group gs T .path));
+}
+  where
+    within : (gs : List (List ℕ)) → Taken n m xs lined gs → j < length gs
+    within gs T = omega (arith, T .lines)
+
+    group : (gs : List (List ℕ)) → Taken n m xs lined gs → Grouped t (getD gs j []) g
+    group gs T = subst (λ (es : List ℕ). Grouped t es g) (line-out (T .ordered) j from to (within gs T) (p ∙ T .ordered .ends j (omega (arith, within gs T))) (q ∙ T .ordered .ends (suc j) (within gs T))) G
+
+    rest : (gs : List (List ℕ)) → Taken n m xs lined gs → Unites (pathOf t) (λ d. (d < n) × (member d (flat (take j gs) ++ getD gs j []) ≡ false)) late
+    rest gs T = rw (flat-take-suc gs j (within gs T)) at (B .late gs T)
+
+    before : (gs : List (List ℕ)) → Taken n m xs lined gs → (d : ℕ) → member d (flat (take j gs) ++ getD gs j []) ≡ false → member d (flat (take j gs)) ≡ false
+    before gs T d z = elim (true-or-false (member d (flat (take j gs)))) [
+      | inl a ↦ clash (member-in (flat (take j gs) ++ getD gs j []) (Memᴰ·append-left (getD gs j []) (in-member (flat (take j gs)) a))) z
+      | inr a ↦ a
+    ]
+
+    go : (R : RunRecord) (gs : List (List ℕ)) → Taken n m xs lined gs → b ≡ breaks R (flat (take j gs)) (getD gs j []) → r ≡ brokenFrom R (suc (suc j)) (flat (take (suc j) gs)) (drop (suc j) gs)
+        → cond b (suc j) r ≡ brokenFrom R (suc j) (flat (take j gs)) (drop j gs)
+    go R gs T x y = rw (drop-cons gs j [] (within gs T), x, y, flat-take-suc gs j (within gs T)) (first-line R (suc j) (flat (take j gs)) (getD gs j []) (drop (suc j) gs))
+
+-- the same, of line k
+pub behind-before : {n m : ℕ} {t xs lined : List ℕ} {k r r′ from to : ℕ} {late late′ u : Set} {g : Group} {b : Bool} → n ≤ 128 → Good t → 0 < k → k ≤ m → from ≡ getD lined (127 + k) 0 → to ≡ getD lined (128 + k) 0
+    → Grouped t (take (to - from) (drop from lined)) g → ((f : ℕ) → has u f ≡ max (has late f) (has (g .strict) f)) → Meets u (g .line) b → r′ ≡ cond b k r
+    → ((f : ℕ) → has late′ f ≡ max (has late f) (has (g .path) f)) → Behind n m t xs lined k r late → Behind n m t xs lined (k - 1) r′ late′
+behind-before {lined = lined} {k = zero} few good some most p q G U M c W B = absurd (omega arith)
+behind-before {lined = lined} {k = suc j} few good some most p q G U M c W B =
+    let a : 127 + suc j ≡ 128 + j = omega arith in
+    let y : suc j - 1 ≡ j = omega arith in
+    rw y (behind-more j few good (omega arith) (p ∙ ap (λ (z : ℕ). getD lined z 0) a) q G U M c W B)
+
+-- the whole
+pub behind-none : {n m : ℕ} {t xs lined : List ℕ} {k r : ℕ} {s : Set} → k ≤ 0 → Behind n m t xs lined k r s → (R : RunRecord) (gs : List (List ℕ)) → TellsOrder n t R → Taken n m xs lined gs → r ≡ brokenFrom R 1 [] gs
+unfolding flat
+behind-none {k = k} h B R gs o T = let z : k ≡ 0 = omega arith in rw z at (B .broken R gs o T)

@@ -1,5 +1,6 @@
 pub mod Distinct
 pub mod Standing
-pub mod Lateness
 pub mod Finishing
-pub mod Judging
+pub mod Ordering
+pub mod Lateness
+pub mod Reading

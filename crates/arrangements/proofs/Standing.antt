@@ -6,12 +6,13 @@ use mathlib.Core.List.{List, [], _∷_, _++_, append-assoc, append-nil}
 use native.Mathlib.Decide.{ℕ-discrete}
 use native.Mathlib.Omega.{arith}
 use lib.Dec.{ltb}
-use lib.ListN.{length, getD, set, replicate, length-set, length-replicate}
-use lib.Seq.{getD-set-same, getD-set-other}
+use lib.ListN.{length, getD, set, replicate, length-set, length-replicate, take, drop, drop-of-length-le}
+use lib.Seq.{getD-set-same, getD-set-other, getD-take, length-take-le}
 use borrow.Author.Tests.{lt-ltb, le-ltb, eq-eqb, ne-eqb}
 use Rattle.spec.specs.Lists.{In, any, member}
 use Rattle.spec.specs.Replay.{repeats}
-use Rattle.lists.specs.Laws.{here, there}
+use Rattle.lists.specs.Laws.{here, there, in-at}
+use Rattle.lists.specs.Along.{rest-at}
 use Rattle.lists.specs.Arrays.{blank}
 use Rattle.arrangements.specs.Lined.{Stands, Entered, Enters}
 use Rattle.arrangements.proofs.Distinct.{member-snoc, repeats-hit, repeats-more}
@@ -78,9 +79,10 @@ module _ {k : ℕ} {done es xs rest rest′ : List ℕ} {v : ℕ} (e : rest ≡ 
   whole : g .now ++ v ∷ rest′ ≡ es
   whole = ap (λ (zs : List ℕ). g .now ++ zs) (sym e) ∙ g .split
 
-  pub entering-hit : (xs′ : List ℕ) → 0 < getD xs v 0 → Entered k done es true xs′
-  entering-hit xs′ h = record {
+  pub entering-hit : 0 < getD xs v 0 → Entered k done es true xs
+  entering-hit h = record {
     repeated = sym (ap (λ (zs : List ℕ). repeats (done ++ zs)) (sym whole) ∙ ap repeats (sym (append-assoc done (g .now) (v ∷ rest′))) ∙ repeats-hit v (done ++ g .now) rest′ (come-again (g .stands) v l h));
+    earlier = g .stands .earlier;
     stands = λ q. absurd (true≢false q);
   }
 
@@ -95,7 +97,7 @@ module _ {k : ℕ} {done es xs rest rest′ : List ℕ} {v : ℕ} (e : rest ≡ 
 pub entering-end : {k : ℕ} {done es xs rest : List ℕ} → rest ≡ [] → Entering k done es xs rest → Entered k done es false xs
 entering-end {k} {done} {es} {xs} e g =
     let q : g .now ≡ es = sym (append-nil (g .now)) ∙ ap (λ (zs : List ℕ). g .now ++ zs) (sym e) ∙ g .split in
-    record { repeated = sym (ap (λ (zs : List ℕ). repeats (done ++ zs)) (sym q) ∙ g .once); stands = λ _. subst (λ (zs : List ℕ). Stands k xs done zs) q (g .stands) }
+    record { repeated = sym (ap (λ (zs : List ℕ). repeats (done ++ zs)) (sym q) ∙ g .once); earlier = g .stands .earlier; stands = λ _. subst (λ (zs : List ℕ). Stands k xs done zs) q (g .stands) }
 
 -- the same, whatever stands in the lines before; the numbers that are left are events
 pub record Entries (k : ℕ) (old es xs rest : List ℕ) : Type 0 where
@@ -110,8 +112,8 @@ module _ {k : ℕ} {old es xs rest rest′ : List ℕ} {v : ℕ} (e : rest ≡ v
   pub entries-low : v < 128
   entries-low = g .low v (subst (λ (zs : List ℕ). In v zs) (sym e) here)
 
-  pub entries-hit : (xs′ : List ℕ) → 0 < getD xs v 0 → Enters k old es true xs′
-  entries-hit xs′ h done s r = entering-hit e entries-low (g .entering done s r) xs′ h
+  pub entries-hit : 0 < getD xs v 0 → Enters k old es true xs
+  entries-hit h done s r = entering-hit e entries-low (g .entering done s r) h
 
   pub entries-more : 0 < k → getD xs v 0 ≤ 0 → Entries k old es (set xs v k) rest′
   entries-more p h = record {
@@ -122,3 +124,20 @@ module _ {k : ℕ} {old es xs rest rest′ : List ℕ} {v : ℕ} (e : rest ≡ v
 
 pub entries-end : {k : ℕ} {old es xs rest : List ℕ} → rest ≡ [] → Entries k old es xs rest → Enters k old es false xs
 entries-end e g done s r = entering-end e (g .entering done s r)
+
+-- ---- the numbers in an array
+
+module _ (events : List ℕ) (count : ℕ) (l : count ≤ length events) where
+  size : length (take count events) ≡ count
+  size = length-take-le count events l
+
+  pub event-at : {v : ℕ} (i : ℕ) → i < count → v ≡ getD events i 0 → drop i (take count events) ≡ v ∷ drop (i + 1) (take count events)
+  event-at i h e = rest-at (take count events) i (omega (arith, size)) ∙ ap (λ (z : ℕ). z ∷ drop (i + 1) (take count events)) (getD-take count events i 0 h ∙ sym e)
+
+  pub events-done : (i : ℕ) → count ≤ i → drop i (take count events) ≡ []
+  events-done i h = let z : length (take count events) ≤ i = omega (arith, size) in drop-of-length-le (take count events) z
+
+  pub entries-from : {k : ℕ} {xs : List ℕ} → length xs ≡ 128 → ((i : ℕ) → i < count → getD events i 0 < 128) → Entries k xs (take count events) xs (take count events)
+  entries-from h low = entries-none (take count events) h (λ v m.
+      let r = in-at 0 v (take count events) m in
+      omega (arith, low (r .0) (omega (arith, size, r .1)), r .2, getD-take count events (r .0) 0 (omega (arith, size, r .1))))

@@ -1,20 +1,20 @@
 -- What judging the lines of an arrangement promises.
-use Prim.Native.Nat.{ℕ, _+_}
+use Prim.Native.Nat.{ℕ, _+_, _≤_, _<_}
 use mathlib.Core.Path.{_≡_}
-use mathlib.Core.Bool.{Bool, true, false, not}
-use mathlib.Core.List.{List, [], _∷_, _++_}
-use lib.Dec.{ltb}
-use lib.ListN.{length, getD}
+use mathlib.Core.Bool.{Bool, true, false, not, cond}
+use mathlib.Core.List.{List, [], _∷_}
+use lib.Dec.{ltb, leb}
+use lib.ListN.{length, getD, drop}
 use Rattle.spec.specs.Answer.{Answer, gives, refuses, _>>_, refuse_at?_}
-use Rattle.spec.specs.Lists.{lowest}
-use Rattle.spec.specs.Text.{mostDigits}
+use Rattle.spec.specs.Lists.{any, lowest}
+use Rattle.spec.specs.Text.{Line, linesOf, byLines, mostDigits}
 use Rattle.spec.specs.Forms.{numbersOf}
 use Rattle.lines.specs.Agree.{Agrees}
 use Rattle.spec.specs.Record.{RunRecord}
-use Rattle.spec.specs.Replay.{groupsLine}
-use Rattle.lines.specs.Lines.{lineOf}
-use Rattle.arrangements.specs.Lined.{TellsOrder, Lined}
-use Rattle.arrangements.specs.declared.Group.{Group}
+use Rattle.spec.specs.Replay.{isGroupLine, groupsLine}
+use Rattle.arrangements.specs.Lined.{Lined, Taken, brokenFrom}
+use Rattle.arrangements.specs.declared.Known.{Known}
+use Rattle.arrangements.specs.declared.LinesRead.{LinesRead}
 use Rattle.arrangements.specs.declared.ArrangementAnswer.{ArrangementAnswer}
 use Rattle.arrangements.specs.declared.ArrangementAnswer.the-variants.{Keeps, Malformed, Unknown, Repeated, Broken, Missing}
 use Rattle.number_lines.specs.Numbers.{Few, Begins}
@@ -36,27 +36,56 @@ goesOf (Repeated k) = false
 goesOf (Broken k) = false
 goesOf (Missing e) = false
 
+-- how many lines keep the order
+abbrev pub linesIn : ArrangementAnswer → ℕ
+linesIn (Keeps k) = k
+linesIn (Malformed k) = 0
+linesIn (Unknown k) = 0
+linesIn (Repeated k) = 0
+linesIn (Broken k) = 0
+linesIn (Missing e) = 0
+
 -- the values that are returned of these lines: how many there are
 abbrev pub linesPlayed : List (List ℕ) → ℕ × ℕ × ℕ
 linesPlayed gs = (length gs, 0, 0)
 
 -- ---- one line
 
--- the array has the events of a line
-pub record HoldsGroup (n : ℕ) (g : Group) (es : List ℕ) : Type 0 where
-  pub count : g .count ≡ length es
-  pub few : Few 128 n es
-  pub events : Begins (g .events) es
+-- line k, by 41 and 42: the answer to it, and where it is known its numbers in an array
+pub data KnownBy (n k : ℕ) (l : Line) (a : Known) (xs : List ℕ) : Type 0 where
+  malformed : a .answer ≡ Malformed k → isGroupLine l ≡ false → KnownBy n k l a xs
+  unknown : a .answer ≡ Unknown k → isGroupLine l ≡ true → any (leb n) (numbersOf mostDigits (l .bytes)) ≡ true → KnownBy n k l a xs
+  known : a .answer ≡ Keeps k → isGroupLine l ≡ true → any (leb n) (numbersOf mostDigits (l .bytes)) ≡ false
+      → a .count ≡ length (numbersOf mostDigits (l .bytes)) → (Few 128 256 (numbersOf mostDigits (l .bytes)) → Begins xs (numbersOf mostDigits (l .bytes))) → KnownBy n k l a xs
 
--- line k after the lines gs: the answer is that of the definitions, and where it is taken the array has its events
-pub record Judged (n k : ℕ) (t l : List ℕ) (ended : Bool) (gs : List (List ℕ)) (g : Group) (xs : List ℕ) : Type 0 where
-  pub answer : (R : RunRecord) → TellsOrder n t R
-      → Agrees linesPlayed (answerOf (g .answer)) (λ gs′. gs′ ≡ gs ++ numbersOf mostDigits l ∷ []) (groupsLine R k (lineOf l ended) gs)
-  pub lined : goesOf (g .answer) ≡ true → Lined n (k + 1) xs (gs ++ numbersOf mostDigits l ∷ [])
-  pub group : goesOf (g .answer) ≡ true → HoldsGroup n g (numbersOf mostDigits l)
+pub record KnownLine (n k : ℕ) (l : Line) (next : ℕ) (a : Known) (xs : List ℕ) : Type 0 where
+  pub long : length xs ≡ 128
+  pub on : a .next ≡ next
+  pub by : KnownBy n k l a xs
 
-abbrev pub Judges : ℕ → ℕ → List ℕ → List ℕ → List ℕ → Bool → Group → List ℕ → Type 0
-Judges n k t xs l ended g xs′ = (gs : List (List ℕ)) → Lined n k xs gs → Judged n k t l ended gs g xs′
+-- the line that starts at a position
+pub record KnownAt (n k : ℕ) (text : List ℕ) (at : ℕ) (a : Known) (xs : List ℕ) : Type 0 where
+  pub long : length xs ≡ 128
+  pub line : Line
+  pub lines : linesOf (drop at text) ≡ line ∷ linesOf (drop (a .next) text)
+  pub on : at < a .next
+  pub within : a .next ≤ length text + 1
+  pub by : KnownBy n k line a xs
+
+-- ---- all lines
+
+-- the answer to lines of which line b breaks the order, and none where b is 0
+unfoldable pub unlessBroken : {A : Type 0} → ℕ → Answer A → Answer A
+unlessBroken b a = cond (ltb 0 b) (refuses 44 b) a
+
+-- The lines gs are taken by 41 to 43, and `last` is the answer behind them; a line of gs that breaks the order comes first.
+pub record ReadsLines (n : ℕ) (text : List ℕ) (r : LinesRead) (xs lined : List ℕ) : Type 0 where
+  pub groups : List (List ℕ)
+  pub taken : Taken n (r .lines) xs lined groups
+  pub stood : goesOf (r .answer) ≡ true → Lined n (r .lines + 1) xs groups
+  pub last : Answer (List (List ℕ))
+  pub answer : Agrees linesPlayed (answerOf (r .answer)) (λ gs. gs ≡ groups) last
+  pub whole : (R : RunRecord) → n ≡ length (R .events) → byLines (groupsLine R) 1 (linesOf text) [] ≡ unlessBroken (brokenFrom R 1 [] groups) last
 
 -- ---- behind the last line
 

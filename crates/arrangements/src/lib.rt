@@ -1,25 +1,24 @@
-// The lines of an arrangement, judged one after the other (refusals 41 to 45).
+// The lines of an arrangement: read and entered one after the other (refusals 41 to 43), held to the order of their events
+// from the last to the first (44), and searched for an event that is missing (45).
 ghost use mathlib.Core.Path.{_≡_};
-ghost use Prim.Native.Nat.{ℕ, _<_, _≤_};
-ghost use lib.ListN.{length, getD, take};
-ghost use mathlib.Core.List.{List};
-ghost use Rattle.spec.specs.Lists.{In};
-ghost use Rattle.spec.specs.Text.{mostDigits};
-ghost use Rattle.spec.specs.Forms.{numbersOf};
+ghost use mathlib.Core.Bool.{cond};
+ghost use Prim.Native.Nat.{ℕ, _+_, _-_, _<_, _≤_};
+ghost use lib.ListN.{length, getD, take, drop, replicate};
+ghost use Rattle.lines.specs.Lines.{lineOf};
 ghost use Rattle.reach.specs.Rows.{Good};
-ghost use Rattle.arrangements.specs.Lined.{Sound, Enters, IsSet, Meets, lateFor, breaksIn};
-ghost use Rattle.arrangements.specs.Arrangement.{answerOf, goesOf, finished, Judges};
+ghost use Rattle.arrangements.specs.Lined.{EntersFrom, AddsLine, AnyTaken, Meets, Unites, pathOf, Lacks, WithLacking, Grouped, FindsBroken};
+ghost use Rattle.arrangements.specs.Arrangement.{answerOf, goesOf, linesIn, KnownLine, KnownAt, ReadsLines, finished};
 use bit_sets::Set;
 use bit_sets::first;
 use bit_sets::meet;
 use bit_sets::none;
 use bit_sets::one;
 use bit_sets::union;
-use fields::letter_at;
-use fields::number_at;
+use lines::line_at;
 use number_lines::any_unknown;
 use number_lines::count_numbers;
 use number_lines::is_list_line;
+use number_lines::list_at;
 use number_lines::numbers;
 use reach::row_at;
 use spec::Class;
@@ -34,11 +33,35 @@ pub enum ArrangementAnswer {
     Missing(usize),
 }
 
-// The answer to a line, and its events.
-pub struct Group {
+// The lines of an arrangement by 41 to 43: the answer to them, and how many were taken.
+pub struct LinesRead {
+    pub answer: ArrangementAnswer,
+    pub lines: usize,
+}
+
+// A line by 41 and 42: the answer to it, how many numbers it has, and where the next one starts.
+pub struct Known {
     pub answer: ArrangementAnswer,
     pub count: usize,
-    pub events: [u8; 128],
+    pub next: usize,
+}
+
+// The events of a line, what one of them is not later than, and what one of them is strictly before.
+pub struct Group {
+    pub line: Set,
+    pub path: Set,
+    pub strict: Set,
+}
+
+// The answer to a line, its count and the next line together.
+fn line_known(answer: ArrangementAnswer, count: usize, next: usize) -> Known
+    ensures { λ r. ⌜ r ≡ record { answer = answer; count = count; next = next } ⌝ }
+{
+    Known {
+        answer,
+        count,
+        next,
+    }
 }
 
 // Whether the lines go on behind this answer.
@@ -55,43 +78,135 @@ pub fn goes(a: ArrangementAnswer) -> bool
     }
 }
 
+// How many lines keep the order.
+pub fn lines_in(a: ArrangementAnswer) -> usize
+    ensures { λ r. ⌜ r ≡ linesIn a ⌝ }
+{
+    match a {
+        ArrangementAnswer::Keeps(k) => k,
+        ArrangementAnswer::Malformed(_) => 0,
+        ArrangementAnswer::Unknown(_) => 0,
+        ArrangementAnswer::Repeated(_) => 0,
+        ArrangementAnswer::Broken(_) => 0,
+        ArrangementAnswer::Missing(_) => 0,
+    }
+}
+
 fn wide(b: u8) -> usize
     ensures { λ r. ⌜ r ≡ b ⌝ }
 {
     b as usize
 }
 
-// 43: each number of line k is entered; whether one of them has a line already.
-fn enter_events(stands: &mut [u8; 128], l: &[u8], k: u8) -> bool
-    requires { ⌜ (0 < k) × (length (now stands) ≡ 128) × ((e : ℕ) → In e (numbersOf mostDigits (now l)) → e < 128) ⌝ }
-    ensures { λ r. ⌜ Enters k (now (stands .entry)) (numbersOf mostDigits (now (l .entry))) r (now (stands .exit)) ⌝ }
+// 41 and 42 of a line, with its numbers for an array that has room for 128.
+fn known_line(
+    k: usize,
+    l: &[u8],
+    ended: bool,
+    n: usize,
+    next: usize,
+    events: &mut [u8; 128],
+) -> Known
+    requires { ⌜ (n ≤ 128) × (length (now events) ≡ 128) ⌝ }
+    ensures { λ r. ⌜ KnownLine n k (lineOf (now (l .entry)) ended) next r (now (events .exit)) ⌝ }
 {
-    let a = letter_at(l);
-    let mut at = a.next;
-    while at <= l.len() {
-        let v = number_at(4, l, at);
-        let e = v.value;
+    if !is_list_line(Class::LetterG, l, ended) {
+        return line_known(ArrangementAnswer::Malformed(k), 0, next);
+    }
+    if any_unknown(l, n) {
+        return line_known(ArrangementAnswer::Unknown(k), 0, next);
+    }
+    let count = count_numbers(l);
+    if 128 < count {
+        return line_known(ArrangementAnswer::Keeps(k), count, next);
+    }
+    let xs = numbers(l);
+    *events = xs;
+    line_known(ArrangementAnswer::Keeps(k), count, next)
+}
+
+// 41 and 42 of the line that starts at a position. A plain line is read in one walk; any other goes to the readers of lines
+// and fields, and so does every malformed one.
+fn known_at(k: usize, text: &[u8], at: usize, n: usize, events: &mut [u8; 128]) -> Known
+    requires { ⌜ (at < length (now text)) × (n ≤ 128) × (length (now events) ≡ 128) ⌝ }
+    ensures { λ r. ⌜ KnownAt n k (now (text .entry)) at r (now (events .exit)) ⌝ }
+{
+    let f = list_at(b'G', text, at, events);
+    if at < f.next {
+        if n <= f.high {
+            return line_known(ArrangementAnswer::Unknown(k), 0, f.next);
+        }
+        return line_known(ArrangementAnswer::Keeps(k), f.count, f.next);
+    }
+    let line = line_at(text, at);
+    let end = line.end;
+    known_line(k, &text[at..end], line.ended, n, line.next, events)
+}
+
+// 43: each event of line k is entered; whether one of them has a line already, as it is with more than there are.
+fn enter_events(stands: &mut [u8; 128], events: &[u8; 128], count: usize, k: u8) -> bool
+    requires { ⌜ (0 < k) × (length (now stands) ≡ 128) × (length (now events) ≡ 128) × (count ≤ 128 → (i : ℕ) → i < count → getD (now events) i 0 < 128) ⌝ }
+    ensures { λ r. ⌜ EntersFrom k (now (stands .entry)) (now (events .entry)) count r (now (stands .exit)) ⌝ }
+{
+    if 128 < count {
+        return true;
+    }
+    let mut i: usize = 0;
+    while i < count {
+        let e = wide(events[i]);
         if 0 < stands[e] {
             return true;
         }
         stands[e] = k;
-        at = v.next;
+        i += 1;
     }
     false
 }
 
-// The set of a line's events.
-fn set_of(events: &[u8; 128], count: usize) -> Set
-    requires { ⌜ (length (now events) ≡ 128) × (count ≤ 128) × ((i : ℕ) → i < count → getD (now events) i 0 < 128) ⌝ }
-    ensures { λ r. ⌜ IsSet (take count (now (events .entry))) r ⌝ }
+// The events of line k are put behind those of the lines before it.
+fn add_line(lined: &mut [u8; 257], events: &[u8; 128], count: usize, k: usize)
+    requires { ⌜ (length (now lined) ≡ 257) × (length (now events) ≡ 128) × (0 < k) × (k ≤ 128) × (getD (now lined) (127 + k) 0 + count ≤ 128) ⌝ }
+    ensures { λ _. ⌜ AddsLine (now (lined .entry)) (now (events .entry)) count k (now (lined .exit)) ⌝ }
 {
-    let mut r = none();
+    let from = wide(lined[127 + k]);
     let mut i: usize = 0;
     while i < count {
-        r = union(r, one(wide(events[i])));
+        lined[from + i] = events[i];
         i += 1;
     }
-    r
+    lined[128 + k] = (from + count) as u8;
+}
+
+// The answer to the lines, and how many were taken.
+fn read_to(answer: ArrangementAnswer, lines: usize) -> LinesRead
+    ensures { λ r. ⌜ r ≡ record { answer = answer; lines = lines } ⌝ }
+{
+    LinesRead { answer, lines }
+}
+
+// 41 to 43: the lines of a text, of n events, are entered one after the other.
+pub fn read_lines(text: &[u8], n: usize, stands: &mut [u8; 128], lined: &mut [u8; 257]) -> LinesRead
+    requires { ⌜ (n ≤ 128) × (now stands ≡ replicate 128 0) × (now lined ≡ replicate 257 0) ⌝ }
+    ensures { λ r. ⌜ ReadsLines n (now (text .entry)) r (now (stands .exit)) (now (lined .exit)) ⌝ }
+{
+    let mut events = [0u8; 128];
+    let mut k: usize = 1;
+    let mut at: usize = 0;
+    while at < text.len() {
+        let line = known_at(k, text, at, n, &mut events);
+        let answer = line.answer;
+        let count = line.count;
+        if !goes(answer) {
+            return read_to(answer, k - 1);
+        }
+        if enter_events(stands, &events, count, k as u8) {
+            return read_to(ArrangementAnswer::Repeated(k), k - 1);
+        }
+        add_line(lined, &events, count, k);
+        k += 1;
+        at = line.next;
+    }
+    read_to(ArrangementAnswer::Keeps(k - 1), k - 1)
 }
 
 // Whether a number is in both sets.
@@ -101,88 +216,83 @@ fn meets(a: Set, b: Set) -> bool
     first(meet(a, b)) < 128
 }
 
-// Whether event d, which stands in line x, is late for an event of line k: not later than it and in no line so far, or strictly
-// before it and in no earlier line.
-fn is_late(w: &[u64; 512], d: usize, x: u8, k: u8, line: Set) -> bool
-    requires { ⌜ (d < 128) × Good (now w) ⌝ }
-    ensures { λ r. ⌜ ((es : List ℕ) → IsSet es line → r ≡ lateFor (now (w .entry)) x k es d) ⌝ }
+// The set, and with it that of an event in line x where x is none of the first lines.
+fn with_lacking(r: Set, more: Set, lines: usize, x: usize) -> Set
+    requires { ⌜ lines ≤ 128 ⌝ }
+    ensures { λ s. ⌜ WithLacking r more lines x s ⌝ }
 {
-    if x == 0 {
-        let row = row_at(w, d);
-        return meets(row.path, line);
+    if (0 < x) & (x < lines + 1) {
+        return r;
     }
-    if x < k {
-        return false;
-    }
-    let row = row_at(w, d);
-    meets(row.strict, line)
+    union(r, more)
 }
 
-// 44: whether some event is late for one of line k.
-fn breaks(
-    w: &[u64; 512],
-    stands: &[u8; 128],
-    n: usize,
-    k: u8,
-    events: &[u8; 128],
-    count: usize,
-) -> bool
-    requires { ⌜ (n ≤ 128) × Good (now w) × (length (now events) ≡ 128) × (count ≤ 128) × ((i : ℕ) → i < count → getD (now events) i 0 < 128) ⌝ }
-    ensures { λ r. ⌜ r ≡ breaksIn (now (w .entry)) (now (stands .entry)) n k (take count (now (events .entry))) ⌝ }
+// What one of the events without a line is not later than.
+fn behind_lacking(w: &[u64; 512], n: usize, stands: &[u8; 128], lines: usize) -> Set
+    requires { ⌜ (n ≤ 128) × (lines ≤ 128) ⌝ }
+    ensures { λ r. ⌜ Unites (pathOf (now (w .entry))) (Lacks n lines (now (stands .entry))) r ⌝ }
 {
-    let line = set_of(events, count);
+    let mut r = none();
     let mut d: usize = 0;
     while d < n {
-        if is_late(w, d, stands[d], k, line) {
-            return true;
-        }
+        let row = row_at(w, d);
+        r = with_lacking(r, row.path, lines, wide(stands[d]));
         d += 1;
     }
-    false
+    r
 }
 
-fn refused(answer: ArrangementAnswer) -> Group
-    ensures { λ g. ⌜ g .answer ≡ answer ⌝ }
+// The events from one place of an array up to another.
+fn group_of(w: &[u64; 512], lined: &[u8; 257], from: usize, to: usize) -> Group
+    requires { ⌜ (from ≤ to) × (to ≤ 128) × (length (now lined) ≡ 257) × ((i : ℕ) → i < to → getD (now lined) i 0 < 128) ⌝ }
+    ensures { λ r. ⌜ Grouped (now (w .entry)) (take (to - from) (drop from (now (lined .entry)))) r ⌝ }
 {
-    Group {
-        answer,
-        count: 0,
-        events: [0u8; 128],
+    let mut line = none();
+    let mut path = none();
+    let mut strict = none();
+    let mut i = from;
+    while i < to {
+        let e = wide(lined[i]);
+        let row = row_at(w, e);
+        line = union(line, one(e));
+        path = union(path, row.path);
+        strict = union(strict, row.strict);
+        i += 1;
     }
+    Group { line, path, strict }
 }
 
-// Line k is judged, and its events are entered.
-pub fn judge_line(
-    k: usize,
-    l: &[u8],
-    ended: bool,
-    n: usize,
+// The first of two numbers where a test holds, else the second.
+fn choose(t: bool, k: usize, r: usize) -> usize
+    ensures { λ s. ⌜ s ≡ cond t k r ⌝ }
+{
+    if t { k } else { r }
+}
+
+// 44: the lowest line that breaks the order, or 0. From the last line to the first `late` has what an event that stands in
+// no line up to this one is not later than.
+pub fn first_broken(
     w: &[u64; 512],
-    stands: &mut [u8; 128],
-) -> Group
-    requires { ⌜ Sound n k (now w) (now stands) ⌝ }
-    ensures { λ g. ⌜ Judges n k (now (w .entry)) (now (stands .entry)) (now (l .entry)) ended g (now (stands .exit)) ⌝ }
+    n: usize,
+    stands: &[u8; 128],
+    lined: &[u8; 257],
+    lines: usize,
+) -> usize
+    requires { ⌜ (n ≤ 128) × Good (now w) × AnyTaken n lines (now stands) (now lined) ⌝ }
+    ensures { λ r. ⌜ FindsBroken n lines (now (w .entry)) (now (stands .entry)) (now (lined .entry)) r ⌝ }
 {
-    if !is_list_line(Class::LetterG, l, ended) {
-        return refused(ArrangementAnswer::Malformed(k));
+    let mut late = behind_lacking(w, n, stands, lines);
+    let mut r: usize = 0;
+    let mut k = lines;
+    while 0 < k {
+        let from = wide(lined[127 + k]);
+        let to = wide(lined[128 + k]);
+        let g = group_of(w, lined, from, to);
+        r = choose(meets(union(late, g.strict), g.line), k, r);
+        late = union(late, g.path);
+        k -= 1;
     }
-    if any_unknown(l, n) {
-        return refused(ArrangementAnswer::Unknown(k));
-    }
-    let line = k as u8;
-    if enter_events(stands, l, line) {
-        return refused(ArrangementAnswer::Repeated(k));
-    }
-    let events = numbers(l);
-    let count = count_numbers(l);
-    if breaks(w, stands, n, line, &events, count) {
-        return refused(ArrangementAnswer::Broken(k));
-    }
-    Group {
-        answer: ArrangementAnswer::Keeps(k),
-        count,
-        events,
-    }
+    r
 }
 
 // 45: the lowest event that no line has, after so many lines.

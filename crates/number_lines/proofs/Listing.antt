@@ -1,12 +1,12 @@
 -- A list line, walked from its letter on: what is read so far, and what follows from a comma or the line end behind it.
 use Prim.Native.Nat.{ℕ, zero, suc, _+_, _%_, _≤_, _<_, max}
 use mathlib.Core.Path.{_≡_, refl, sym, ap, _∙_}
-use mathlib.Core.Bool.{Bool, true, false, _&&_, _||_}
-use mathlib.Core.List.{List, [], _∷_, _++_, map, append-assoc, Memᴰ·append-left, Memᴰ·append-right}
+use mathlib.Core.Bool.{Bool, true, false, _||_}
+use mathlib.Core.List.{List, [], _∷_, _++_, map, Memᴰ·append-left, Memᴰ·append-right}
 use native.Mathlib.Nat.{mod-eq-of-lt}
 use native.Mathlib.Numerals.{add-one}
 use native.Mathlib.Omega.{arith}
-use lib.Dec.{leb, eqb}
+use lib.Dec.{leb}
 use lib.ListN.{length, getD, take, set, length-append, length-set}
 use lib.Seq.{take-suc-set}
 use borrow.Author.Tests.{le-leb, lt-leb, eq-eqb}
@@ -18,10 +18,9 @@ use Rattle.spec.specs.declared.Field.{Field}
 use Rattle.spec.specs.declared.Field.the-variants.{Number}
 use Rattle.lists.specs.Laws.{here, leb-max}
 use Rattle.digits.specs.Digits.{between, Stands, IsField}
-use Rattle.plain.specs.Plain.{Begins, Opens, PlainLine}
+use Rattle.plain.specs.Plain.{Opens, PlainLine}
 use Rattle.plain.proofs.Plain.{Tail, last-field, more-fields, plain-line}
-use Rattle.number_lines.specs.Numbers.{Few, Begins as BeginsWith, Puts, Listing, ListAt}
-use Rattle.number_lines.specs.declared.Listed.{Listed}
+use Rattle.number_lines.specs.Numbers.{Few, Puts, Listing, ListAt}
 
 -- ---- what is read
 

@@ -89,6 +89,7 @@ pub struct Listed {
     pub next: usize,
 }
 
+// The greater of two numbers.
 fn greater(a: usize, b: usize) -> usize
     ensures { λ r. ⌜ r ≡ max a b ⌝ }
 {

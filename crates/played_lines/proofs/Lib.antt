@@ -1,2 +1,2 @@
 pub mod Markings
-pub mod Running
+pub mod Judging

@@ -2,11 +2,12 @@
 use Prim.Native.Nat.{ℕ, _+_, _-_, _*_, _≤_, _<_}
 use mathlib.Core.Path.{_≡_, sym, ap, ap₂, _∙_, subst}
 use mathlib.Core.Bool.{Bool, true, false, cond}
-use mathlib.Core.List.{List, map, Memᴰ·append-left, Memᴰ·of-map}
+use mathlib.Core.List.{List, _++_, map, Memᴰ·append-left, Memᴰ·of-map}
 use native.Mathlib.Decide.{decLe}
 use native.Mathlib.Omega.{arith}
 use lib.Dec.{ltb, leb}
-use lib.ListN.{length, getD, take, drop, replicate, length-replicate, length-map, take-append-drop}
+use lib.ListN.{length, getD, take, drop, replicate, length-replicate, length-map, length-drop, take-append-drop}
+use lib.Seq.{ext-getD, getD-take, getD-drop, length-take-le}
 use borrow.Author.Tests.{le-leb, lt-leb}
 use Rattle.spec.specs.Lists.{In, sumOf, flat, upTo}
 use Rattle.spec.specs.Net.{Net as NetD, takes, makes}
@@ -16,16 +17,18 @@ use Rattle.spec.specs.Replay.{countAfter, firedBy, rowAt, row, replayed}
 use Rattle.lists.specs.Laws.{sumOf-same, map-same, flat-append, getD-table, length-upTo}
 use Rattle.lists.specs.Arrays.{blank}
 use Rattle.net.specs.Holds.{Cells}
-use Rattle.net.specs.declared.Net.{Net}
-use Rattle.steps.specs.Holds.{cellAt}
-use Rattle.rows.specs.Rows.{transitionsOf, rowIn, Rows}
+use Rattle.columns.specs.Columns.{column, column-at}
+use Rattle.spec.specs.Buffer.{over}
+use Rattle.rows.specs.Rows.{transitionsOf, arcAt, rowIn, Rows}
 use Rattle.played_lines.specs.Lines.{Describes}
-use Rattle.lists.specs.Rows.{rows-are}
+use Rattle.lists.specs.Rows.{rows-are, length-rows}
 
--- sums over transitions of the net, read in an array of arcs
-cells-sum : {cells : List ℕ} {f : ℕ → ℕ → ℕ} → Cells cells f → (ts : List ℕ) → ((t : ℕ) → In t ts → t < 32) → (p : ℕ) → p < 32 → sumOf (λ t. cellAt cells t p) ts ≡ sumOf (λ t. f t p) ts
-unfolding cellAt
-cells-sum c ts low p l = sumOf-same _ _ ts (λ t m. c .cell t p (low t m) l)
+-- sums over transitions of the net, read in a column of the array of arcs
+cells-sum : (arcs : List ℕ) (kind : ℕ) {f : ℕ → ℕ → ℕ} → Cells (column kind 1024 arcs) f → (ts : List ℕ) → ((t : ℕ) → In t ts → t < 32) → (p : ℕ) → p < 32 → sumOf (λ t. arcAt arcs kind t p) ts ≡ sumOf (λ t. f t p) ts
+unfolding arcAt
+cells-sum arcs kind c ts low p l = sumOf-same _ _ ts (λ t m.
+    let z : kind + 32 * t + p ≡ kind + (32 * t + p) = omega arith in
+    ap (λ (j : ℕ). getD arcs j 0) z ∙ sym (column-at kind 1024 arcs (32 * t + p) (omega (arith, low t m))) ∙ c .cell t p (low t m) l)
 
 -- the events of the first lines are events of the lines
 first-in : {e : ℕ} (k : ℕ) (gs : List (List ℕ)) → In e (flat (take k gs)) → In e (flat gs)
@@ -48,7 +51,7 @@ module _ (N : NetD) (R : RunRecord) (gs : List (List ℕ)) (k p : ℕ) where
   unfolding row
   row-beyond h = rw (lt-leb k (length gs) h) (blank 32 p)
 
-module _ {net : Net} {n : ℕ} {trans t : List ℕ} {N : NetD} {R : RunRecord} (H : Describes net n trans t N R) (known : (e : ℕ) → e < n → getD trans e 0 < 32) where
+module _ {ps : ℕ} {ks arcs : List ℕ} {n : ℕ} {trans : List ℕ} {N : NetD} {R : RunRecord} (H : Describes ps ks arcs n trans N R) where
   module _ (es : List ℕ) (low : (e : ℕ) → In e es → e < n) where
     fired-held : transitionsOf trans es ≡ map (transitionOf R) es
     unfolding transitionsOf
@@ -56,18 +59,27 @@ module _ {net : Net} {n : ℕ} {trans t : List ℕ} {N : NetD} {R : RunRecord} (
 
     fired-known : (u : ℕ) → In u (transitionsOf trans es) → u < 32
     unfolding transitionsOf
-    fired-known u m = let z = Memᴰ·of-map (λ e. getD trans e 0) es m in rw (← z .2) (known (z .0) (low (z .0) (z .1)))
+    fired-known u m = let z = Memᴰ·of-map (λ e. getD trans e 0) es m in rw (← z .2) (H .known (z .0) (low (z .0) (z .1)))
 
-    row-held : (p : ℕ) → p < 32 → rowIn (net .places) (net .tokens) (net .inputs) (net .outputs) (transitionsOf trans es) p ≡ rowAt N (map (transitionOf R) es) p
+    row-held : (p : ℕ) → p < 32 → rowIn ps ks arcs (transitionsOf trans es) p ≡ rowAt N (map (transitionOf R) es) p
     unfolding rowIn rowAt countAfter made taken
-    row-held p l = ap₂ (λ (b : Bool) (x : ℕ). cond b x 0) (ap (ltb p) (H .arrays .counts .places))
-        (ap₂ _-_ (ap₂ _+_ (H .arrays .counts .tokens p) (cells-sum (H .arrays .outputs) (transitionsOf trans es) fired-known p l)) (cells-sum (H .arrays .inputs) (transitionsOf trans es) fired-known p l)
+    row-held p l = ap₂ (λ (b : Bool) (x : ℕ). cond b x 0) (ap (ltb p) (H .places))
+        (ap₂ _-_ (ap₂ _+_ (H .tokens p) (cells-sum arcs 1024 (H .outputs) (transitionsOf trans es) fired-known p l)) (cells-sum arcs 0 (H .inputs) (transitionsOf trans es) fired-known p l)
         ∙ ap (λ (ts : List ℕ). tokensAt (N .tokens) p + sumOf (λ u. makes N u p) ts - sumOf (λ u. takes N u p) ts) fired-held)
 
-  pub rows-held : {gs : List (List ℕ)} {rows : List ℕ} → ((e : ℕ) → In e (flat gs) → e < n) → length gs ≤ 128 → Rows (net .places) (net .tokens) (net .inputs) (net .outputs) trans gs (length gs + 1) rows
-      → rows ≡ replayed N R gs .counts
-  unfolding replayed
-  rows-held {gs} {rows} low few r = rows-are 32 (row N R gs) (row-length N R gs) 129 0 rows (omega arith) (r .long) (λ k p l u. elim (decLe k (length gs)) [
-    | yes h ↦ r .row k p (omega arith) u ∙ row-held (flat (take k gs)) (λ e m. low e (first-in k gs m)) p u ∙ sym (row-at N R gs k p h u)
-    | no h ↦ r .beyond (32 * k + p) (omega arith) ∙ sym (row-beyond N R gs k p (omega arith))
-  ])
+  pub rows-held : {gs : List (List ℕ)} {old new : List ℕ} → ((e : ℕ) → In e (flat gs) → e < n) → length gs ≤ 128 → 4128 ≤ length old → Rows ps ks arcs trans gs old new
+      → new ≡ over (replayed N R gs .counts) old
+  unfolding replayed over
+  rows-held {gs} {old} {new} low few h r = sym (take-append-drop 4128 new) ∙ ap₂ (λ (xs ys : List ℕ). xs ++ ys) rows behind
+    where
+      rows : take 4128 new ≡ flat (map (row N R gs) (upTo 129))
+      rows = rows-are 32 (row N R gs) (row-length N R gs) 129 0 (take 4128 new) (omega arith) (length-take-le 4128 new (omega (arith, r .long))) (λ k p l u. getD-take 4128 new (32 * k + p) 0 (omega arith) ∙ elim (decLe k (length gs)) [
+        | yes v ↦ r .row k p v u ∙ row-held (flat (take k gs)) (λ e m. low e (first-in k gs m)) p u ∙ sym (row-at N R gs k p v u)
+        | no v ↦ r .zero (32 * k + p) (omega arith) (omega arith) ∙ sym (row-beyond N R gs k p (omega arith))
+      ])
+
+      size : length (flat (map (row N R gs) (upTo 129))) ≡ 4128
+      size = length-rows 32 (row N R gs) (row-length N R gs) 129
+
+      behind : drop 4128 new ≡ drop (length (flat (map (row N R gs) (upTo 129)))) old
+      behind = rw size (ext-getD 0 (drop 4128 new) (drop 4128 old) (omega (arith, length-drop 4128 new, length-drop 4128 old, r .long)) (λ i l. getD-drop 4128 new i 0 ∙ r .beyond (4128 + i) (omega arith) ∙ sym (getD-drop 4128 old i 0)))

@@ -1,3 +1,3 @@
-pub mod Buffers
+pub mod Joined
 pub mod Telling
 pub mod Operation

@@ -1,7 +1,7 @@
 -- Replaying, from its buffer to its answer.
 use Prim.Native.Nat.{ℕ, zero, suc, _≤_, _<_}
 use mathlib.Core.Path.{_≡_, refl, sym, ap, _∙_}
-use mathlib.Core.Bool.{Bool, cond}
+use mathlib.Core.Bool.{true, false, false≢true}
 use mathlib.Core.List.{List, [], _∷_}
 use native.Mathlib.Omega.{arith}
 use lib.ListN.{length, getD}
@@ -12,23 +12,29 @@ use Rattle.spec.specs.Record.{bench}
 use Rattle.spec.specs.Process.{WellFormed}
 use Rattle.spec.specs.Check.{accepts, Accepted as AcceptedD}
 use Rattle.spec.specs.Replay.{readArrangement, replayed, replay}
-use Rattle.spec.specs.Buffer.{over, leaves, replayLeaves}
+use Rattle.spec.specs.Buffer.{leaves, replayLeaves}
 use Rattle.lists.specs.Laws.{at-in}
 use Rattle.runs.specs.Answers.{not-refused}
 use Rattle.lines.specs.Agree.{Agrees, giving, refusing}
-use Rattle.lines.proofs.Answers.{isGiven}
+use Rattle.lines.proofs.Answers.{isGiven, same-given, refuses≢gives}
 use Rattle.accepting.specs.Accepting.{refusedBy, verdictOf, HoldsAccepted, Accepts}
 use Rattle.accepting.specs.declared.Refusal.{Refusal}
 use Rattle.accepting.specs.declared.Verdict.the-variants.{Given, Refused}
 use Rattle.accepting.specs.declared.Accepted.{Accepted}
 use Rattle.accepting.proofs.Accepting.{accepted-process}
-use Rattle.arrangements.specs.Arrangement.{answerOf, linesPlayed, goesOf}
-use Rattle.played_lines.specs.Lines.{Ready, Describes, ReplaysLines}
+use Rattle.arrangements.specs.Arrangement.{answerOf, linesPlayed, linesIn, goesOf}
+use Rattle.columns.specs.Columns.{column}
+use Rattle.reach.specs.Rows.{Good}
+use Rattle.arrangements.specs.Lined.{TellsOrder}
+use Rattle.rows.specs.Rows.{Playable, PutsRows}
+use Rattle.played_lines.specs.Lines.{Arranged, JudgesLines, Describes}
 use Rattle.replaying.specs.Replaying.{Replays}
 use Rattle.arrangements.specs.declared.ArrangementAnswer.{ArrangementAnswer}
 use Rattle.replaying.specs.declared.ReplayAnswer.the-variants.{BufferShort, Refused as ReplayRefused, Lines}
 use Rattle.replaying.proofs.Telling.{tells-order}
-use Rattle.played_lines.proofs.Running.{goes-given}
+use Rattle.arrangements.specs.declared.ArrangementAnswer.the-variants.{Keeps, Malformed, Unknown, Repeated, Broken, Missing}
+use Rattle.played_lines.proofs.Judging.{goes-given}
+use Rattle.played_lines.proofs.Markings.{rows-held}
 
 -- ---- 40, and a refusal of the net or the record
 
@@ -61,6 +67,14 @@ pub record Took (net text : List ℕ) (r : Accepted) (t : List ℕ) : Type 0 whe
   pub is : accepts bench net text ≡ gives accepted
   pub holds : HoldsAccepted r t accepted
 
+lines-kept : (b : ArrangementAnswer) {m : ℕ} → answerOf b ≡ gives (m, 0, 0) → linesIn b ≡ m
+lines-kept (Keeps k) y = ap (λ (z : ℕ × ℕ × ℕ). z .0) (same-given y)
+lines-kept (Malformed k) y = absurd (refuses≢gives y)
+lines-kept (Unknown k) y = absurd (refuses≢gives y)
+lines-kept (Repeated k) y = absurd (refuses≢gives y)
+lines-kept (Broken k) y = absurd (refuses≢gives y)
+lines-kept (Missing e) y = absurd (refuses≢gives y)
+
 one-most : (xs : List ℕ) (p : ℕ) → getD xs p 0 ≤ sum xs
 unfolding sum
 one-most [] p = omega arith
@@ -76,21 +90,32 @@ module _ {net text : List ℕ} {r : Accepted} {t : List ℕ} where
     well : WellFormed (A .accepted .net) (A .accepted .run)
     well = accepted-process bench net text (A .accepted) (A .is) .0
 
-    describes : Describes (r .net) (r .events) (r .transitions) t (A .accepted .net) (A .accepted .run)
-    describes = let k = A .holds in record {
-      arrays = k .arrays;
-      order = tells-order (A .accepted .net) (A .accepted .run) well (k .bytes .events) (k .bytes .order .cell);
-      transition = k .bytes .transitions;
-    }
+    few : r .events ≤ 128
+    few = A .holds .bytes .few
 
-    pub ready : Ready (r .events) (r .net .places) (r .net .tokens) (r .transitions) t
-    ready = let k = A .holds in let n = k .arrays .counts in record {
-      few = k .bytes .few;
-      known = λ e u. omega (arith, k .bytes .transitions e u, well .known _ (at-in 0 (A .accepted .run .events) e (omega (arith, k .bytes .events))), n .transitions, n .fewTransitions);
-      rows = k .bytes .order .ready .good;
-      places = n .fewPlaces;
-      tokens = λ p. omega (arith, n .tokens p, one-most (A .accepted .net .tokens) p, n .most);
-    }
+    pub order-is : TellsOrder (r .events) t (A .accepted .run)
+    order-is = tells-order (A .accepted .net) (A .accepted .run) well (A .holds .bytes .events) (A .holds .bytes .order .cell)
+
+    pub judge-room : (r .events ≤ 128) × Good t
+    judge-room = (few, A .holds .bytes .order .ready .good)
+
+    known : (e : ℕ) → e < r .events → getD (r .transitions) e 0 < 32
+    known e u = let k = A .holds in let n = k .arrays .counts in
+        omega (arith, k .bytes .transitions e u, well .known _ (at-in 0 (A .accepted .run .events) e (omega (arith, k .bytes .events))), n .transitions, n .fewTransitions)
+
+    pub net-sizes : (length (r .net .inputs) ≡ 1024) × (length (r .net .outputs) ≡ 1024)
+    net-sizes = (A .holds .arrays .inputs .long, A .holds .arrays .outputs .long)
+
+    module _ {arcs : List ℕ} (i : column 0 1024 arcs ≡ r .net .inputs) (o : column 1024 1024 arcs ≡ r .net .outputs) where
+      describes : Describes (r .net .places) (r .net .tokens) arcs (r .events) (r .transitions) (A .accepted .net) (A .accepted .run)
+      describes = let k = A .holds in record {
+        places = k .arrays .counts .places;
+        tokens = k .arrays .counts .tokens;
+        inputs = rw i (k .arrays .inputs);
+        outputs = rw o (k .arrays .outputs);
+        known = known;
+        transition = k .bytes .transitions;
+      }
 
     -- ---- its arrangement
 
@@ -99,15 +124,53 @@ module _ {net text : List ℕ} {r : Accepted} {t : List ℕ} where
       unfolding replay _>>=_ _>>_ refuse_at_when_
       arranged = rw (le-ltb (length old) 4128 h, A .is)
 
-      -- the rows are written where the lines are an arrangement, else nothing
-      pub lines-replays : (b : ArrangementAnswer) {rows new : List ℕ} → ReplaysLines (r .net) (r .events) (r .transitions) t arrangement b rows
-          → (ok : Bool) → ok ≡ goesOf b → new ≡ cond ok (over rows old) old → Replays (replay net text arrangement (length old)) old (Lines b) new
-      unfolding _>>=_ returned replayed replayLeaves leaves
-      lines-replays b {rows} {new} L ok q w = go (L _ _ describes)
-        where
-          written : {z : Bool} → goesOf b ≡ z → new ≡ cond z (over rows old) old
-          written e = w ∙ ap (λ (z : Bool). cond z (over rows old) old) (q ∙ e)
+      judged : (b : ArrangementAnswer) {lined : List ℕ} → JudgesLines (r .events) t arrangement b lined → Agrees linesPlayed (answerOf b) (λ gs. Arranged (r .events) gs lined) (readArrangement (A .accepted .run) arrangement)
+      judged b J = J (A .accepted .run) order-is
 
-          go : Agrees linesPlayed (answerOf b) (λ gs. rows ≡ replayed (A .accepted .net) (A .accepted .run) gs .counts) (readArrangement (A .accepted .run) arrangement) → Replays (replay net text arrangement (length old)) old (Lines b) new
-          go (giving gs e y k) = rw (arranged, e) (record { answer = y; buffer = written (sym (goes-given b) ∙ ap isGiven y) ∙ ap (λ (zs : List ℕ). over zs old) k })
-          go (refusing n s e y) = rw (arranged, e) (record { answer = y; buffer = written (sym (goes-given b) ∙ ap isGiven y) })
+      -- the arrangement that the lines are
+      record Found (b : ArrangementAnswer) (lined : List ℕ) : Type 0 where
+        groups : List (List ℕ)
+        is : readArrangement (A .accepted .run) arrangement ≡ gives groups
+        answer : answerOf b ≡ gives (linesPlayed groups)
+        arranged : Arranged (r .events) groups lined
+
+      -- lines that are no arrangement
+      pub refused-lines : (b : ArrangementAnswer) {lined : List ℕ} → JudgesLines (r .events) t arrangement b lined → goesOf b ≡ false → Replays (replay net text arrangement (length old)) old (Lines b) old
+      unfolding _>>=_ returned replayLeaves leaves
+      refused-lines b J f = go (judged b J)
+        where
+          go : {lined : List ℕ} → Agrees linesPlayed (answerOf b) (λ gs. Arranged (r .events) gs lined) (readArrangement (A .accepted .run) arrangement) → Replays (replay net text arrangement (length old)) old (Lines b) old
+          go (giving gs e y k) = absurd (false≢true (sym f ∙ sym (goes-given b) ∙ ap isGiven y))
+          go (refusing n s e y) = rw (arranged, e) (record { answer = y; buffer = refl })
+
+      -- an arrangement: what writing the rows relies on, and the rows
+      module _ (b : ArrangementAnswer) {lined : List ℕ} (J : JudgesLines (r .events) t arrangement b lined) (f : goesOf b ≡ true) where
+        found : Found b lined
+        found = go (judged b J)
+          where
+            go : Agrees linesPlayed (answerOf b) (λ gs. Arranged (r .events) gs lined) (readArrangement (A .accepted .run) arrangement) → Found b lined
+            go (giving gs e y k) = record { groups = gs; is = e; answer = y; arranged = k }
+            go (refusing n s e y) = absurd (false≢true (sym (ap isGiven y) ∙ goes-given b ∙ f))
+
+        pub playable : {m : ℕ} → m ≡ linesIn b → Playable (r .net .places) (r .net .tokens) (r .transitions) lined m
+        playable q = let n = A .holds .arrays .counts in let k = found .arranged in record {
+          places = n .fewPlaces;
+          tokens = λ p. omega (arith, n .tokens p, one-most (A .accepted .net .tokens) p, n .most);
+          groups = found .groups;
+          ordered = k .ordered;
+          lines = q ∙ lines-kept b (found .answer);
+          few = k .few;
+          events = k .events;
+          known = λ e u. (omega (arith, k .known e u, few), known e (k .known e u));
+        }
+
+        pub same-size : {m : ℕ} {arcs new : List ℕ} → m ≡ linesIn b → PutsRows (r .net .places) (r .net .tokens) arcs (r .transitions) lined m old new → length new ≡ length old
+        same-size q w = w (found .groups) (found .arranged .ordered) (q ∙ lines-kept b (found .answer)) .long
+
+        pub played-lines : {m : ℕ} {arcs new : List ℕ} → m ≡ linesIn b → column 0 1024 arcs ≡ r .net .inputs → column 1024 1024 arcs ≡ r .net .outputs → PutsRows (r .net .places) (r .net .tokens) arcs (r .transitions) lined m old new
+            → Replays (replay net text arrangement (length old)) old (Lines b) new
+        unfolding _>>=_ returned replayLeaves leaves replayed
+        played-lines q i o w = let k = found .arranged in rw (arranged, found .is) (record {
+          answer = found .answer;
+          buffer = rows-held (describes i o) (k .known) (k .few) h (w (found .groups) (k .ordered) (q ∙ lines-kept b (found .answer)));
+        })

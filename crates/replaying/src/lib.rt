@@ -1,9 +1,8 @@
 // Replaying an arrangement, from its texts to its rows.
 ghost use mathlib.Core.Path.{_≡_};
-ghost use Prim.Native.Nat.{_≤_};
 ghost use lib.ListN.{length};
 ghost use Rattle.spec.specs.Replay.{replay};
-ghost use Rattle.spec.specs.Buffer.{over};
+ghost use Rattle.columns.specs.Columns.{column};
 ghost use Rattle.replaying.specs.Replaying.{Replays};
 use accepting::Refusal;
 use accepting::Verdict;
@@ -11,7 +10,9 @@ use accepting::accept;
 use accepting::bench;
 use arrangements::ArrangementAnswer;
 use arrangements::goes;
-use played_lines::replay_lines;
+use arrangements::lines_in;
+use played_lines::judge_lines;
+use rows::put_rows;
 
 // What replaying answers: that the buffer is short, why the net or the record is refused, or the answer to the arrangement.
 pub enum ReplayAnswer {
@@ -20,16 +21,19 @@ pub enum ReplayAnswer {
     Lines(ArrangementAnswer),
 }
 
-// The rows go into the lent buffer.
-fn copy_rows(rows: &[u16; 4128], out: &mut [u16])
-    requires { ⌜ (length (now rows) ≡ 4128) × (4128 ≤ length (now out)) ⌝ }
-    ensures { λ _. ⌜ now (out .exit) ≡ over (now (rows .entry)) (now (out .entry)) ⌝ }
+// The inputs and the outputs of a net as columns of one array.
+fn arcs_of(inputs: &[u8; 1024], outputs: &[u8; 1024]) -> [u8; 3072]
+    requires { ⌜ (length (now inputs) ≡ 1024) × (length (now outputs) ≡ 1024) ⌝ }
+    ensures { λ r. ⌜ (column 0 1024 r ≡ now (inputs .entry)) × (column 1024 1024 r ≡ now (outputs .entry)) ⌝ }
 {
+    let mut arcs = [0u8; 3072];
     let mut i: usize = 0;
-    while i < 4128 {
-        out[i] = rows[i];
+    while i < 1024 {
+        arcs[i] = inputs[i];
+        arcs[1024 + i] = outputs[i];
         i += 1;
     }
+    arcs
 }
 
 // "Replay: 40 under 4,128 counts (spot 0); net's; check's but 30; ..": an arrangement of the record in a text, over the net
@@ -47,17 +51,17 @@ pub fn replay(net: &[u8], text: &[u8], arrangement: &[u8], out: &mut [u16]) -> R
         return ReplayAnswer::Refused(why);
     }
     let transitions = accepted.transitions;
-    let mut rows = [0u16; 4128];
-    let answer = replay_lines(
-        accepted.net,
-        accepted.events,
-        &transitions,
-        &w,
-        arrangement,
-        &mut rows,
-    );
-    if goes(answer) {
-        copy_rows(&rows, out);
+    let net = accepted.net;
+    let tokens = net.tokens;
+    let inputs = net.inputs;
+    let outputs = net.outputs;
+    let arcs = arcs_of(&inputs, &outputs);
+    let mut lined = [0u8; 257];
+    let answer = judge_lines(accepted.events, &w, arrangement, &mut lined);
+    if !goes(answer) {
+        return ReplayAnswer::Lines(answer);
     }
+    let lines = lines_in(answer);
+    put_rows(out, &tokens, &arcs, net.places, &transitions, &lined, lines);
     ReplayAnswer::Lines(answer)
 }

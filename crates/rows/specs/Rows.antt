@@ -2,35 +2,75 @@
 use Prim.Native.Nat.{ℕ, _+_, _-_, _*_, _≤_, _<_}
 use mathlib.Core.Path.{_≡_}
 use mathlib.Core.Bool.{cond}
-use mathlib.Core.List.{List, _++_, map}
+use mathlib.Core.List.{List, map}
 use lib.ListN.{length, getD, take}
 use lib.Dec.{ltb}
-use Rattle.spec.specs.Lists.{sumOf, flat}
-use Rattle.steps.specs.Holds.{cellAt, Sums}
+use Rattle.spec.specs.Lists.{In, sumOf, flat}
+use Rattle.lists.specs.Stretch.{MappedFrom}
+use Rattle.arrangements.specs.Lined.{Ordered}
 
 -- the transitions of events
 unfoldable pub transitionsOf : List ℕ → List ℕ → List ℕ
 transitionsOf trans es = map (λ e. getD trans e 0) es
 
--- two sums by place, together
-unfoldable pub together : List ℕ → List ℕ → ℕ → ℕ
-together xs ys p = getD xs p 0 + getD ys p 0
-
--- the sums of more events, with these transitions, have been added
-abbrev pub AddsStep : List ℕ → List ℕ → List ℕ → List ℕ → Type 0
-AddsStep cells us old new = (ts : List ℕ) → Sums (cellAt cells) ts old → Sums (cellAt cells) (ts ++ us) new
-
--- what a place holds: the tokens and those made, less those taken
-unfoldable pub leftOf : List ℕ → List ℕ → List ℕ → ℕ → ℕ
-leftOf tokens made taken p = getD tokens p 0 + getD made p 0 - getD taken p 0
+-- what an array of arcs has for transition t and place p, where those of one kind start at a place of it
+unfoldable pub arcAt : List ℕ → ℕ → ℕ → ℕ → ℕ
+arcAt arcs kind t p = getD arcs (kind + 32 * t + p) 0
 
 -- the count of a place after events with these transitions, and 0 beyond the places
-unfoldable pub rowIn : ℕ → List ℕ → List ℕ → List ℕ → List ℕ → ℕ → ℕ
-rowIn places tokens inputs outputs ts p =
-    cond (ltb p places) (getD tokens p 0 + sumOf (λ t. cellAt outputs t p) ts - sumOf (λ t. cellAt inputs t p) ts) 0
+unfoldable pub rowIn : ℕ → List ℕ → List ℕ → List ℕ → ℕ → ℕ
+rowIn places tokens arcs ts p = cond (ltb p places) (getD tokens p 0 + sumOf (λ t. arcAt arcs 1024 t p) ts - sumOf (λ t. arcAt arcs 0 t p) ts) 0
 
--- the first m rows are written: row k is the marking after k of the lines; what is beyond is 0
-pub record Rows (places : ℕ) (tokens inputs outputs trans : List ℕ) (gs : List (List ℕ)) (m : ℕ) (rows : List ℕ) : Type 0 where
-  pub long : length rows ≡ 4128
-  pub row : (k p : ℕ) → k < m → p < 32 → getD rows (32 * k + p) 0 ≡ rowIn places tokens inputs outputs (transitionsOf trans (flat (take k gs))) p
-  pub beyond : (i : ℕ) → 32 * m ≤ i → getD rows i 0 ≡ 0
+-- ---- sums by place: at p what a place had and what was made there, at 32 + p what was taken
+
+-- so small are those of m events
+abbrev pub Room : List ℕ → ℕ → Type 0
+Room sums m = (p : ℕ) → p < 64 → getD sums p 0 ≤ 512 + 255 * m
+
+-- what stands in the array of arcs from a place on is added to the sums from another
+unfoldable pub added : List ℕ → ℕ → List ℕ → ℕ → ℕ → ℕ
+added sums to arcs start p = getD sums (to + p) 0 + getD arcs (start + p) 0
+
+pub record AddsArcs (old : List ℕ) (to : ℕ) (arcs : List ℕ) (start places : ℕ) (new : List ℕ) : Type 0 where
+  pub mapped : MappedFrom old to places (added old to arcs start) new
+  pub bytes : (p : ℕ) → p < places → getD arcs (start + p) 0 ≤ 255
+
+-- the sums of events with these transitions
+pub record Played (places : ℕ) (tokens arcs ts sums : List ℕ) : Type 0 where
+  pub long : length sums ≡ 64
+  pub had : (p : ℕ) → p < places → getD sums p 0 ≡ getD tokens p 0 + sumOf (λ t. arcAt arcs 1024 t p) ts
+  pub none : (p : ℕ) → places ≤ p → p < 32 → getD sums p 0 ≡ 0
+  pub taken : (p : ℕ) → p < places → getD sums (32 + p) 0 ≡ sumOf (λ t. arcAt arcs 0 t p) ts
+
+-- the events from one place of an array up to another have been played
+pub record Plays (places : ℕ) (arcs trans lined : List ℕ) (from to : ℕ) (old new : List ℕ) : Type 0 where
+  pub long : length new ≡ 64
+  pub room : Room new to
+  pub played : (tokens : List ℕ) → Played places tokens arcs (transitionsOf trans (take from lined)) old → Played places tokens arcs (transitionsOf trans (take to lined)) new
+
+-- ---- the rows
+
+-- what is left where so much was had and so much was taken
+unfoldable pub leftOf : List ℕ → ℕ → ℕ
+leftOf sums p = getD sums p 0 - getD sums (32 + p) 0
+
+-- what the code relies on: lines of few events in an array, whose transitions are rows of the array of arcs
+pub record Playable (ps : ℕ) (ks trans lined : List ℕ) (m : ℕ) : Type 0 where
+  pub places : ps ≤ 32
+  pub tokens : (p : ℕ) → getD ks p 0 ≤ 512
+  pub groups : List (List ℕ)
+  pub ordered : Ordered groups lined
+  pub lines : m ≡ length groups
+  pub few : length groups ≤ 128
+  pub events : length (flat groups) ≤ 128
+  pub known : (e : ℕ) → In e (flat groups) → (e < 128) × (getD trans e 0 < 32)
+
+-- row k is the marking after k of the lines; what is beyond is 0, and what is behind the rows is as it was
+pub record Rows (places : ℕ) (tokens arcs trans : List ℕ) (gs : List (List ℕ)) (old new : List ℕ) : Type 0 where
+  pub long : length new ≡ length old
+  pub row : (k p : ℕ) → k ≤ length gs → p < 32 → getD new (32 * k + p) 0 ≡ rowIn places tokens arcs (transitionsOf trans (flat (take k gs))) p
+  pub zero : (i : ℕ) → 32 * length gs + 32 ≤ i → i < 4128 → getD new i 0 ≡ 0
+  pub beyond : (i : ℕ) → 4128 ≤ i → getD new i 0 ≡ getD old i 0
+
+abbrev pub PutsRows : ℕ → List ℕ → List ℕ → List ℕ → List ℕ → ℕ → List ℕ → List ℕ → Type 0
+PutsRows places tokens arcs trans lined lines old new = (gs : List (List ℕ)) → Ordered gs lined → lines ≡ length gs → Rows places tokens arcs trans gs old new
