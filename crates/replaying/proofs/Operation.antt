@@ -1,5 +1,6 @@
 -- Replaying, from its buffer to its answer.
-use Prim.Native.Nat.{ℕ, zero, suc, _≤_, _<_}
+use Prim.Native.Nat.{ℕ, zero, suc, _+_, _≤_, _<_}
+use native.Mathlib.Nat.{zero-add}
 use mathlib.Core.Path.{_≡_, refl, sym, ap, _∙_}
 use mathlib.Core.Bool.{true, false, false≢true}
 use mathlib.Core.List.{List, [], _∷_}
@@ -8,7 +9,7 @@ use lib.ListN.{length, getD}
 use borrow.Author.Tests.{lt-ltb, le-ltb}
 use Rattle.spec.specs.Lists.{sum}
 use Rattle.spec.specs.Answer.{gives, refuses, _>>=_, _>>_, refuse_at_when_, returned}
-use Rattle.spec.specs.Record.{bench}
+use Rattle.spec.specs.Record.{bench, transitionOf}
 use Rattle.spec.specs.Process.{WellFormed}
 use Rattle.spec.specs.Check.{accepts, Accepted as AcceptedD}
 use Rattle.spec.specs.Replay.{readArrangement, replayed, replay}
@@ -17,13 +18,12 @@ use Rattle.lists.specs.Laws.{at-in}
 use Rattle.runs.specs.Answers.{not-refused}
 use Rattle.lines.specs.Agree.{Agrees, giving, refusing}
 use Rattle.lines.proofs.Answers.{isGiven, same-given, refuses≢gives}
-use Rattle.accepting.specs.Accepting.{refusedBy, verdictOf, HoldsAccepted, Accepts}
+use Rattle.accepting.specs.Accepting.{refusedBy, verdictOf, HoldsRun, HoldsNet, Accepts, Keeps}
 use Rattle.accepting.specs.declared.Refusal.{Refusal}
 use Rattle.accepting.specs.declared.Verdict.the-variants.{Given, Refused}
 use Rattle.accepting.specs.declared.Accepted.{Accepted}
 use Rattle.accepting.proofs.Accepting.{accepted-process}
 use Rattle.arrangements.specs.Arrangement.{answerOf, linesPlayed, linesIn, goesOf}
-use Rattle.columns.specs.Columns.{column}
 use Rattle.reach.specs.Rows.{Good}
 use Rattle.arrangements.specs.Lined.{TellsOrder}
 use Rattle.rows.specs.Rows.{Playable, PutsRows}
@@ -32,7 +32,7 @@ use Rattle.replaying.specs.Replaying.{Replays}
 use Rattle.arrangements.specs.declared.ArrangementAnswer.{ArrangementAnswer}
 use Rattle.replaying.specs.declared.ReplayAnswer.the-variants.{BufferShort, Refused as ReplayRefused, Lines}
 use Rattle.replaying.proofs.Telling.{tells-order}
-use Rattle.arrangements.specs.declared.ArrangementAnswer.the-variants.{Keeps, Malformed, Unknown, Repeated, Broken, Missing}
+use Rattle.arrangements.specs.declared.ArrangementAnswer.the-variants.{Keeps as KeepsLines, Malformed, Unknown, Repeated, Broken, Missing}
 use Rattle.played_lines.proofs.Judging.{goes-given}
 use Rattle.played_lines.proofs.Markings.{rows-held}
 
@@ -62,13 +62,14 @@ module _ (net text arrangement : List ℕ) where
 -- ---- a net and a record that are accepted
 
 -- as the definitions and as the arrays have them
-pub record Took (net text : List ℕ) (r : Accepted) (t : List ℕ) : Type 0 where
+pub record Took (net text : List ℕ) (r : Accepted) (tokens arcs rec t : List ℕ) : Type 0 where
   pub accepted : AcceptedD
   pub is : accepts bench net text ≡ gives accepted
-  pub holds : HoldsAccepted r t accepted
+  pub run : HoldsRun r t (accepted .run)
+  pub lent : HoldsNet r tokens arcs rec accepted
 
 lines-kept : (b : ArrangementAnswer) {m : ℕ} → answerOf b ≡ gives (m, 0, 0) → linesIn b ≡ m
-lines-kept (Keeps k) y = ap (λ (z : ℕ × ℕ × ℕ). z .0) (same-given y)
+lines-kept (KeepsLines k) y = ap (λ (z : ℕ × ℕ × ℕ). z .0) (same-given y)
 lines-kept (Malformed k) y = absurd (refuses≢gives y)
 lines-kept (Unknown k) y = absurd (refuses≢gives y)
 lines-kept (Repeated k) y = absurd (refuses≢gives y)
@@ -81,40 +82,41 @@ one-most [] p = omega arith
 one-most (x ∷ xs) zero = omega arith
 one-most (x ∷ xs) (suc p) = omega (arith, one-most xs p)
 
-module _ {net text : List ℕ} {r : Accepted} {t : List ℕ} where
-  pub taken : r .verdict ≡ Given → Accepts bench net text r t → Took net text r t
-  taken q (giving a e y k) = record { accepted = a; is = e; holds = k }
-  taken q (refusing n s e y) = not-refused (sym y ∙ ap verdictOf q)
+module _ {net text : List ℕ} {r : Accepted} {tokens arcs rec t : List ℕ} where
+  pub taken : r .verdict ≡ Given → Accepts bench net text r t → Keeps bench net text r tokens arcs rec → Took net text r tokens arcs rec t
+  taken q (giving a e y k) n = record { accepted = a; is = e; run = k; lent = n a e }
+  taken q (refusing n s e y) _ = not-refused (sym y ∙ ap verdictOf q)
 
-  module _ (A : Took net text r t) where
+  module _ (A : Took net text r tokens arcs rec t) where
     well : WellFormed (A .accepted .net) (A .accepted .run)
     well = accepted-process bench net text (A .accepted) (A .is) .0
 
     few : r .events ≤ 128
-    few = A .holds .bytes .few
+    few = A .run .few
 
     pub order-is : TellsOrder (r .events) t (A .accepted .run)
-    order-is = tells-order (A .accepted .net) (A .accepted .run) well (A .holds .bytes .events) (A .holds .bytes .order .cell)
+    order-is = tells-order (A .accepted .net) (A .accepted .run) well (A .run .events) (A .run .order .cell)
 
     pub judge-room : (r .events ≤ 128) × Good t
-    judge-room = (few, A .holds .bytes .order .ready .good)
+    judge-room = (few, A .run .order .ready .good)
 
-    known : (e : ℕ) → e < r .events → getD (r .transitions) e 0 < 32
-    known e u = let k = A .holds in let n = k .arrays .counts in
-        omega (arith, k .bytes .transitions e u, well .known _ (at-in 0 (A .accepted .run .events) e (omega (arith, k .bytes .events))), n .transitions, n .fewTransitions)
+    -- the transitions of the events, in an array of their own
+    module _ (ts : List ℕ) (c : (f : ℕ) → f < 128 → getD ts f 0 ≡ getD rec (0 + f) 0) where
+      transition : (e : ℕ) → e < r .events → getD ts e 0 ≡ transitionOf (A .accepted .run) e
+      transition e u = c e (omega (arith, few)) ∙ ap (λ (j : ℕ). getD rec j 0) (zero-add e) ∙ A .lent .transitions e u
 
-    pub net-sizes : (length (r .net .inputs) ≡ 1024) × (length (r .net .outputs) ≡ 1024)
-    net-sizes = (A .holds .arrays .inputs .long, A .holds .arrays .outputs .long)
+      known : (e : ℕ) → e < r .events → getD ts e 0 < 32
+      known e u = let n = A .lent .arrays .counts in
+          omega (arith, transition e u, well .known _ (at-in 0 (A .accepted .run .events) e (omega (arith, A .run .events))), n .fewTransitions)
 
-    module _ {arcs : List ℕ} (i : column 0 1024 arcs ≡ r .net .inputs) (o : column 1024 1024 arcs ≡ r .net .outputs) where
-      describes : Describes (r .net .places) (r .net .tokens) arcs (r .events) (r .transitions) (A .accepted .net) (A .accepted .run)
-      describes = let k = A .holds in record {
-        places = k .arrays .counts .places;
-        tokens = k .arrays .counts .tokens;
-        inputs = rw i (k .arrays .inputs);
-        outputs = rw o (k .arrays .outputs);
+      describes : Describes (r .places) tokens arcs (r .events) ts (A .accepted .net) (A .accepted .run)
+      describes = let k = A .lent .arrays in record {
+        places = A .lent .places;
+        tokens = k .counts .tokens;
+        inputs = k .inputs;
+        outputs = k .outputs;
         known = known;
-        transition = k .bytes .transitions;
+        transition = transition;
       }
 
     -- ---- its arrangement
@@ -152,25 +154,25 @@ module _ {net text : List ℕ} {r : Accepted} {t : List ℕ} where
             go (giving gs e y k) = record { groups = gs; is = e; answer = y; arranged = k }
             go (refusing n s e y) = absurd (false≢true (sym (ap isGiven y) ∙ goes-given b ∙ f))
 
-        pub playable : {m : ℕ} → m ≡ linesIn b → Playable (r .net .places) (r .net .tokens) (r .transitions) lined m
-        playable q = let n = A .holds .arrays .counts in let k = found .arranged in record {
-          places = n .fewPlaces;
+        pub playable : {ts : List ℕ} → ((f : ℕ) → f < 128 → getD ts f 0 ≡ getD rec (0 + f) 0) → {m : ℕ} → m ≡ linesIn b → Playable (r .places) tokens ts lined m
+        playable {ts} c q = let n = A .lent .arrays .counts in let k = found .arranged in record {
+          places = omega (arith, A .lent .places, n .fewPlaces);
           tokens = λ p. omega (arith, n .tokens p, one-most (A .accepted .net .tokens) p, n .most);
           groups = found .groups;
           ordered = k .ordered;
           lines = q ∙ lines-kept b (found .answer);
           few = k .few;
           events = k .events;
-          known = λ e u. (omega (arith, k .known e u, few), known e (k .known e u));
+          known = λ e u. (omega (arith, k .known e u, few), known ts c e (k .known e u));
         }
 
-        pub same-size : {m : ℕ} {arcs new : List ℕ} → m ≡ linesIn b → PutsRows (r .net .places) (r .net .tokens) arcs (r .transitions) lined m old new → length new ≡ length old
+        pub same-size : {m : ℕ} {ts new : List ℕ} → m ≡ linesIn b → PutsRows (r .places) tokens arcs ts lined m old new → length new ≡ length old
         same-size q w = w (found .groups) (found .arranged .ordered) (q ∙ lines-kept b (found .answer)) .long
 
-        pub played-lines : {m : ℕ} {arcs new : List ℕ} → m ≡ linesIn b → column 0 1024 arcs ≡ r .net .inputs → column 1024 1024 arcs ≡ r .net .outputs → PutsRows (r .net .places) (r .net .tokens) arcs (r .transitions) lined m old new
+        pub played-lines : {ts : List ℕ} → ((f : ℕ) → f < 128 → getD ts f 0 ≡ getD rec (0 + f) 0) → {m : ℕ} {new : List ℕ} → m ≡ linesIn b → PutsRows (r .places) tokens arcs ts lined m old new
             → Replays (replay net text arrangement (length old)) old (Lines b) new
         unfolding _>>=_ returned replayLeaves leaves replayed
-        played-lines q i o w = let k = found .arranged in rw (arranged, found .is) (record {
+        played-lines {ts} c q w = let k = found .arranged in rw (arranged, found .is) (record {
           answer = found .answer;
-          buffer = rows-held (describes i o) (k .known) (k .few) h (w (found .groups) (k .ordered) (q ∙ lines-kept b (found .answer)));
+          buffer = rows-held (describes ts c) (k .known) (k .few) h (w (found .groups) (k .ordered) (q ∙ lines-kept b (found .answer)));
         })

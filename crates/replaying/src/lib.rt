@@ -2,7 +2,6 @@
 ghost use mathlib.Core.Path.{_≡_};
 ghost use lib.ListN.{length};
 ghost use Rattle.spec.specs.Replay.{replay};
-ghost use Rattle.columns.specs.Columns.{column};
 ghost use Rattle.replaying.specs.Replaying.{Replays};
 use accepting::Refusal;
 use accepting::Verdict;
@@ -11,6 +10,7 @@ use accepting::bench;
 use arrangements::ArrangementAnswer;
 use arrangements::goes;
 use arrangements::lines_in;
+use bytes::bytes_at;
 use played_lines::judge_lines;
 use rows::put_rows;
 
@@ -21,21 +21,6 @@ pub enum ReplayAnswer {
     Lines(ArrangementAnswer),
 }
 
-// The inputs and the outputs of a net as columns of one array.
-fn arcs_of(inputs: &[u8; 1024], outputs: &[u8; 1024]) -> [u8; 3072]
-    requires { ⌜ (length (now inputs) ≡ 1024) × (length (now outputs) ≡ 1024) ⌝ }
-    ensures { λ r. ⌜ (column 0 1024 r ≡ now (inputs .entry)) × (column 1024 1024 r ≡ now (outputs .entry)) ⌝ }
-{
-    let mut arcs = [0u8; 3072];
-    let mut i: usize = 0;
-    while i < 1024 {
-        arcs[i] = inputs[i];
-        arcs[1024 + i] = outputs[i];
-        i += 1;
-    }
-    arcs
-}
-
 // "Replay: 40 under 4,128 counts (spot 0); net's; check's but 30; ..": an arrangement of the record in a text, over the net
 // in another, is judged, and the marking after each of its lines is written. On a refusal nothing is written.
 pub fn replay(net: &[u8], text: &[u8], arrangement: &[u8], out: &mut [u16]) -> ReplayAnswer
@@ -44,24 +29,22 @@ pub fn replay(net: &[u8], text: &[u8], arrangement: &[u8], out: &mut [u16]) -> R
     if out.len() < 4128 {
         return ReplayAnswer::BufferShort;
     }
+    let mut tokens = [0u16; 32];
+    let mut arcs = [0u8; 3072];
+    let mut rec = [0u8; 26240];
     let mut w = [0u64; 512];
-    let accepted = accept(net, text, bench(), &mut w);
+    let accepted = accept(net, text, bench(), &mut tokens, &mut arcs, &mut rec, &mut w);
     let verdict = accepted.verdict;
     if let Verdict::Refused(why) = verdict {
         return ReplayAnswer::Refused(why);
     }
-    let transitions = accepted.transitions;
-    let net = accepted.net;
-    let tokens = net.tokens;
-    let inputs = net.inputs;
-    let outputs = net.outputs;
-    let arcs = arcs_of(&inputs, &outputs);
     let mut lined = [0u8; 257];
     let answer = judge_lines(accepted.events, &w, arrangement, &mut lined);
     if !goes(answer) {
         return ReplayAnswer::Lines(answer);
     }
     let lines = lines_in(answer);
-    put_rows(out, &tokens, &arcs, net.places, &transitions, &lined, lines);
+    let trans = bytes_at(&rec, 0);
+    put_rows(out, &tokens, &arcs, accepted.places, &trans, &lined, lines);
     ReplayAnswer::Lines(answer)
 }
