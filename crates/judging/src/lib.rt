@@ -8,8 +8,8 @@ use playing::grow;
 use steps::Marking;
 use steps::inhibited;
 use steps::play;
+use steps::row_sums;
 use steps::short;
-use steps::sums;
 use tallying::Tally;
 use tallying::products;
 use tallying::tally_step;
@@ -63,15 +63,15 @@ pub fn step_on(
     let marking = r.marking.counts;
     let tally = r.tally;
     let history = r.history;
-    let taken = sums(inputs, step, count);
+    let taken = row_sums(inputs, step, count);
     if short(&marking, &taken, places) {
         return refused(LogAnswer::TooFewTokens(k), r);
     }
-    let guards = sums(inhibitors, step, count);
+    let guards = row_sums(inhibitors, step, count);
     if inhibited(&marking, &guards, places) {
         return refused(LogAnswer::Inhibited(k), r);
     }
-    let made = sums(outputs, step, count);
+    let made = row_sums(outputs, step, count);
     if 512 < history.conditions + total(&made, places) {
         return refused(LogAnswer::OverConditions(k), r);
     }

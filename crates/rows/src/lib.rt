@@ -6,7 +6,7 @@ ghost use Rattle.lists.specs.Mapped.{Mapped};
 ghost use Rattle.lists.specs.Stretch.{MappedFrom};
 ghost use Rattle.steps.specs.Holds.{IsStep, HoldsStep};
 ghost use Rattle.rows.specs.Rows.{transitionsOf, together, AddsStep, leftOf};
-use steps::sums;
+use steps::row_sums;
 
 fn wide(b: u8) -> usize
     ensures { λ r. ⌜ r ≡ b ⌝ }
@@ -45,7 +45,7 @@ pub fn add_step(total: &mut [u32; 32], cells: &[u8; 1024], step: &[u8; 128], cou
     requires { ⌜ IsStep (now step) count × (length (now total) ≡ 32) × ((p : ℕ) → p < 32 → getD (now total) p 0 ≤ 32640) ⌝ }
     ensures { λ _. ⌜ AddsStep (now (cells .entry)) (take count (now (step .entry))) (now (total .entry)) (now (total .exit)) ⌝ }
 {
-    let more = sums(cells, step, count);
+    let more = row_sums(cells, step, count);
     add_all(total, &more);
 }
 

@@ -1,6 +1,6 @@
 -- Rows of an array of arcs, one for each event of a step, added up.
 use Prim.Native.Nat.{ℕ, _+_, _*_, _≤_, _<_}
-use mathlib.Core.Path.{_≡_, sym, ap₂, _∙_, subst}
+use mathlib.Core.Path.{_≡_, sym, ap, ap₂, _∙_, subst}
 use mathlib.Core.List.{List, []}
 use native.Mathlib.Nat.{le-refl}
 use native.Mathlib.Omega.{arith}
@@ -11,9 +11,14 @@ use Rattle.spec.specs.Lists.{sumOf}
 use Rattle.lists.specs.Arrays.{blank}
 use Rattle.lists.specs.Along.{sumOf-more}
 use Rattle.lists.specs.Mapped.{mapped-none, mapped-more}
+use Rattle.columns.specs.Columns.{column, column-at}
 use Rattle.steps.specs.Holds.{cellAt, added, Adds, Sums}
 
 -- ---- one row
+
+-- a cell of a kind of arcs, as the code reads it
+pub cell-read : (arcs : List ℕ) (at t p : ℕ) → t < 32 → p < 32 → getD arcs (at + 32 * t + p) 0 ≡ getD (column at 1024 arcs) (32 * t + p) 0
+cell-read arcs at t p h l = ap (λ (i : ℕ). getD arcs i 0) (omega arith) ∙ sym (column-at at 1024 arcs (32 * t + p) (omega arith))
 
 module _ (cells : List ℕ) (t : ℕ) where
   pub adds-none : (xs : List ℕ) → Adds cells t 0 xs xs

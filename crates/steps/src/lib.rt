@@ -1,7 +1,8 @@
 // One step at a marking: summed, judged and played.
 ghost use mathlib.Core.Path.{_≡_};
-ghost use Prim.Native.Nat.{ℕ, _<_, _≤_};
+ghost use Prim.Native.Nat.{ℕ, _+_, _<_, _≤_};
 ghost use lib.ListN.{length, getD, take};
+ghost use Rattle.columns.specs.Columns.{column};
 ghost use Rattle.steps.specs.Holds.{IsStep, cellAt, Adds, Sums, falls, blocks, Plays, Playable};
 
 // ---- a step
@@ -13,8 +14,35 @@ fn wide(b: u8) -> u32
     b as u32
 }
 
+// What transition t has among the arcs of a kind, which start at `at`, is added to sums by place.
+fn add_row(sums: &mut [u32; 32], arcs: &[u8; 3072], at: usize, t: usize)
+    requires { ⌜ (t < 32) × (at + 1024 ≤ 3072) × (length (now sums) ≡ 32) × ((p : ℕ) → p < 32 → getD (now sums) p 0 < 4294967040) ⌝ }
+    ensures { λ _. ⌜ Adds (column at 1024 (now (arcs .entry))) t 32 (now (sums .entry)) (now (sums .exit)) ⌝ }
+{
+    let row = at + 32 * t;
+    let mut p: usize = 0;
+    while p < 32 {
+        sums[p] += wide(arcs[row + p]);
+        p += 1;
+    }
+}
+
+// The sums of a step's events among the arcs of a kind, by place: in the inputs what they take, in the outputs what they make.
+pub fn sums(arcs: &[u8; 3072], at: usize, step: &[u8; 128], count: usize) -> [u32; 32]
+    requires { ⌜ IsStep (now step) count × (at + 1024 ≤ 3072) ⌝ }
+    ensures { λ r. ⌜ Sums (cellAt (column at 1024 (now (arcs .entry)))) (take count (now (step .entry))) r ⌝ }
+{
+    let mut r = [0u32; 32];
+    let mut i: usize = 0;
+    while i < count {
+        add_row(&mut r, arcs, at, step[i] as usize);
+        i += 1;
+    }
+    r
+}
+
 // What transition t has in an array of arcs is added to sums by place.
-fn add_row(sums: &mut [u32; 32], cells: &[u8; 1024], t: usize)
+fn add_cells(sums: &mut [u32; 32], cells: &[u8; 1024], t: usize)
     requires { ⌜ (t < 32) × (length (now sums) ≡ 32) × ((p : ℕ) → p < 32 → getD (now sums) p 0 < 4294967040) ⌝ }
     ensures { λ _. ⌜ Adds (now (cells .entry)) t 32 (now (sums .entry)) (now (sums .exit)) ⌝ }
 {
@@ -26,14 +54,14 @@ fn add_row(sums: &mut [u32; 32], cells: &[u8; 1024], t: usize)
 }
 
 // The sums of a step's events in an array of arcs, by place: in the inputs what they take, in the outputs what they make.
-pub fn sums(cells: &[u8; 1024], step: &[u8; 128], count: usize) -> [u32; 32]
+pub fn row_sums(cells: &[u8; 1024], step: &[u8; 128], count: usize) -> [u32; 32]
     requires { ⌜ IsStep (now step) count ⌝ }
     ensures { λ r. ⌜ Sums (cellAt (now (cells .entry))) (take count (now (step .entry))) r ⌝ }
 {
     let mut r = [0u32; 32];
     let mut i: usize = 0;
     while i < count {
-        add_row(&mut r, cells, step[i] as usize);
+        add_cells(&mut r, cells, step[i] as usize);
         i += 1;
     }
     r
