@@ -1,9 +1,16 @@
 -- What ties an array to the numbers of a line.
 use Prim.Native.Nat.{ℕ, _≤_, _<_}
 use mathlib.Core.Path.{_≡_}
-use mathlib.Core.List.{List}
-use lib.ListN.{length, take}
-use Rattle.spec.specs.Lists.{In}
+use mathlib.Core.Bool.{true}
+use mathlib.Core.List.{List, _∷_}
+use lib.Dec.{leb}
+use lib.ListN.{length, take, set, drop}
+use Rattle.spec.specs.Lists.{In, any}
+use Rattle.spec.specs.Text.{linesOf, mostDigits}
+use Rattle.spec.specs.Forms.{isList, numbersOf}
+use Rattle.spec.specs.declared.Class.{Class}
+use Rattle.lines.specs.Lines.{lineOf}
+use Rattle.number_lines.specs.declared.Listed.{Listed}
 
 -- at most so many numbers, each below a bound
 pub record Few (most bound : ℕ) (ns : List ℕ) : Type 0 where
@@ -14,3 +21,25 @@ pub record Few (most bound : ℕ) (ns : List ℕ) : Type 0 where
 pub record Begins (xs ns : List ℕ) : Type 0 where
   pub long : length xs ≡ 128
   pub numbers : take (length ns) xs ≡ ns
+
+-- number i of a line is put into an array, where it has room there
+pub record Puts (old : List ℕ) (i v : ℕ) (new : List ℕ) : Type 0 where
+  pub long : length new ≡ 128
+  pub put : i < 128 → v < 256 → new ≡ set old i v
+
+-- a list line with a letter of this class, from one position up to `next`, and its numbers in an array
+pub record Listing (k : Class) (s : List ℕ) (at : ℕ) (r : Listed) (xs : List ℕ) : Type 0 where
+  pub bytes : List ℕ
+  pub lines : linesOf (drop at s) ≡ lineOf bytes true ∷ linesOf (drop (r .next) s)
+  pub within : r .next ≤ length s
+  pub list : isList mostDigits k bytes ≡ true
+  pub count : r .count ≡ length (numbersOf mostDigits bytes)
+  pub few : r .count < length s
+  pub high : (known : ℕ) → leb known (r .high) ≡ any (leb known) (numbersOf mostDigits bytes)
+  pub numbers : Few 128 256 (numbersOf mostDigits bytes) → Begins xs (numbersOf mostDigits bytes)
+
+-- such a line is read, or the position stays
+pub record ListAt (k : Class) (s : List ℕ) (at : ℕ) (r : Listed) (xs : List ℕ) : Type 0 where
+  pub long : length xs ≡ 128
+  pub start : at ≤ r .next
+  pub line : at < r .next → Listing k s at r xs

@@ -1,15 +1,18 @@
 // Lines of one letter and one number or more, as those of a log and of an arrangement are: judged, counted and read.
 ghost use mathlib.Core.Path.{_≡_};
 ghost use mathlib.Core.Bool.{_&&_};
-ghost use Prim.Native.Nat.{_+_, _≤_};
+ghost use Prim.Native.Nat.{_+_, _≤_, max};
 ghost use lib.Dec.{leb};
 ghost use lib.ListN.{length};
 ghost use Rattle.spec.specs.Lists.{any};
-ghost use Rattle.spec.specs.Text.{mostDigits};
+ghost use Rattle.spec.specs.Text.{mostDigits, classOf};
 ghost use Rattle.spec.specs.Forms.{isList, numbersOf};
 ghost use Rattle.spec.specs.Build.{isStepLine};
 ghost use Rattle.lines.specs.Lines.{lineOf};
-ghost use Rattle.number_lines.specs.Numbers.{Few, Begins};
+ghost use Rattle.plain.specs.Plain.{Opens};
+ghost use Rattle.number_lines.specs.Numbers.{Few, Begins, Puts, ListAt};
+use digits::number_from;
+use digits::stands;
 use fields::is_list;
 use fields::letter_at;
 use fields::number_at;
@@ -77,4 +80,69 @@ pub fn numbers(l: &[u8]) -> [u8; 128]
         at = v.next;
     }
     xs
+}
+
+// A list line in one walk: how many numbers it has, the greatest of them, and where the next line starts.
+pub struct Listed {
+    pub count: usize,
+    pub high: usize,
+    pub next: usize,
+}
+
+fn greater(a: usize, b: usize) -> usize
+    ensures { λ r. ⌜ r ≡ max a b ⌝ }
+{
+    if a < b { b } else { a }
+}
+
+// Number i of a line goes into an array that has room for the first 128, each below 256.
+fn put(xs: &mut [u8; 128], i: usize, v: usize)
+    requires { ⌜ length (now xs) ≡ 128 ⌝ }
+    ensures { λ _. ⌜ Puts (now (xs .entry)) i v (now (xs .exit)) ⌝ }
+{
+    if 128 <= i {
+        return;
+    }
+    xs[i] = (v % 256) as u8;
+}
+
+// The line that starts at a position, if it is ended and is this letter and one number or more. A line of another form
+// leaves `next` at the position, for the functions above.
+pub fn list_at(letter: u8, text: &[u8], at: usize, xs: &mut [u8; 128]) -> Listed
+    requires { ⌜ Opens letter × (length (now xs) ≡ 128) ⌝ }
+    ensures { λ r. ⌜ ListAt (classOf letter) (now (text .entry)) at r (now (xs .exit)) ⌝ }
+{
+    let none = Listed {
+        count: 0,
+        high: 0,
+        next: at,
+    };
+    if !stands(letter, text, at) {
+        return none;
+    }
+    let mut seen: usize = 0;
+    let mut high: usize = 0;
+    let mut end = at + 1;
+    while stands(b',', text, end) {
+        let from = end + 1;
+        let v = number_from(4, text, from);
+        if v.end <= from {
+            return none;
+        }
+        put(xs, seen, v.value);
+        high = greater(high, v.value);
+        seen += 1;
+        end = v.end;
+    }
+    if seen == 0 {
+        return none;
+    }
+    if !stands(10, text, end) {
+        return none;
+    }
+    Listed {
+        count: seen,
+        high,
+        next: end + 1,
+    }
 }

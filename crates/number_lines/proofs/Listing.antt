@@ -1,0 +1,168 @@
+-- A list line, walked from its letter on: what is read so far, and what follows from a comma or the line end behind it.
+use Prim.Native.Nat.{ℕ, zero, suc, _+_, _%_, _≤_, _<_, max}
+use mathlib.Core.Path.{_≡_, refl, sym, ap, _∙_}
+use mathlib.Core.Bool.{Bool, true, false, _&&_, _||_}
+use mathlib.Core.List.{List, [], _∷_, _++_, map, append-assoc, Memᴰ·append-left, Memᴰ·append-right}
+use native.Mathlib.Nat.{mod-eq-of-lt}
+use native.Mathlib.Numerals.{add-one}
+use native.Mathlib.Omega.{arith}
+use lib.Dec.{leb, eqb}
+use lib.ListN.{length, getD, take, set, length-append, length-set}
+use lib.Seq.{take-suc-set}
+use borrow.Author.Tests.{le-leb, lt-leb, eq-eqb}
+use Rattle.spec.specs.Lists.{any, every}
+use Rattle.spec.specs.Text.{classCode, classOf, alike}
+use Rattle.spec.specs.Forms.{aNumber, valueOf, isList, numbersOf}
+use Rattle.spec.specs.declared.Class.{Class}
+use Rattle.spec.specs.declared.Field.{Field}
+use Rattle.spec.specs.declared.Field.the-variants.{Number}
+use Rattle.lists.specs.Laws.{here, leb-max}
+use Rattle.digits.specs.Digits.{between, Stands, IsField}
+use Rattle.plain.specs.Plain.{Begins, Opens, PlainLine}
+use Rattle.plain.proofs.Plain.{Tail, last-field, more-fields, plain-line}
+use Rattle.number_lines.specs.Numbers.{Few, Begins as BeginsWith, Puts, Listing, ListAt}
+use Rattle.number_lines.specs.declared.Listed.{Listed}
+
+-- ---- what is read
+
+-- the numbers ns have been read from a line, and the last of them, or the letter, ends before `end`
+pub record Read (s : List ℕ) (at end : ℕ) (ns : List ℕ) : Type 0 where
+  pub more : Stands 44 s end → (next : ℕ) (fs : List Field) → Tail 4 s (end + 1) next fs → PlainLine 4 s at next (map Number ns ++ fs)
+  pub ends : 0 < length ns → Stands 10 s end → PlainLine 4 s at (end + 1) (map Number ns)
+
+-- they are counted, the greatest of them is known, and the array has them as far as it has room
+pub record Kept (xs : List ℕ) (count high : ℕ) (ns : List ℕ) : Type 0 where
+  pub long : length xs ≡ 128
+  pub counted : count ≡ length ns
+  pub highest : (known : ℕ) → 0 < known → leb known high ≡ any (leb known) ns
+  pub array : Few 128 256 ns → take count xs ≡ ns
+
+map-more : (ns : List ℕ) (v : ℕ) (fs : List Field) → map Number (ns ++ v ∷ []) ++ fs ≡ map Number ns ++ Number v ∷ fs
+map-more [] v fs = refl
+map-more (n ∷ ns) v fs = ap (λ (z : List Field). Number n ∷ z) (map-more ns v fs)
+
+map-last : (ns : List ℕ) (v : ℕ) → map Number (ns ++ v ∷ []) ≡ map Number ns ++ Number v ∷ []
+map-last [] v = refl
+map-last (n ∷ ns) v = ap (λ (z : List Field). Number n ∷ z) (map-last ns v)
+
+module _ {s : List ℕ} {at : ℕ} where
+  pub read-none : {b : ℕ} → Opens b → Stands b s at → Read s at (at + 1) []
+  read-none {b} o w = record {
+    more = λ c next fs t. plain-line (record { within = w .within; letter = rw (w .byte) o }) c (let z : at + 1 + 1 ≡ at + 2 = omega arith in rw z at t);
+    ends = λ h. absurd (omega arith);
+  }
+
+  pub read-more : {end e v : ℕ} {ns : List ℕ} → Read s at end ns → Stands 44 s end → end + 1 ≤ e → IsField 4 (between s (end + 1) e) (Number v) → Read s at e (ns ++ v ∷ [])
+  read-more {end} {e} {v} {ns} r w h p = record {
+    more = λ c next fs t. rw (map-more ns v fs) (r .more w next (Number v ∷ fs) (more-fields h p c t));
+    ends = λ z c. rw (map-last ns v) (r .more w (e + 1) (Number v ∷ []) (last-field h p c));
+  }
+
+-- ---- what is kept
+
+any-last : (q : ℕ → Bool) (ns : List ℕ) (v : ℕ) → any q (ns ++ v ∷ []) ≡ (any q ns || q v)
+unfolding any
+any-last q [] v = or-none (q v)
+  where
+    or-none : (b : Bool) → (b || false) ≡ b
+    or-none true = refl
+    or-none false = refl
+any-last q (n ∷ ns) v = rw (any-last q ns v) (or-assoc (q n) (any q ns) (q v))
+  where
+    or-assoc : (a b c : Bool) → (a || (b || c)) ≡ ((a || b) || c)
+    or-assoc true b c = refl
+    or-assoc false b c = refl
+
+few-before : (ns : List ℕ) (v : ℕ) → Few 128 256 (ns ++ v ∷ []) → Few 128 256 ns
+few-before ns v f = record { few = omega (arith, f .few, length-append ns (v ∷ [])); low = λ n m. f .low n (Memᴰ·append-left (v ∷ []) m) }
+
+pub kept-none : {xs : List ℕ} → length xs ≡ 128 → Kept xs 0 0 []
+unfolding any
+kept-none h = record { long = h; counted = refl; highest = λ known z. lt-leb known 0 z; array = λ f. refl }
+
+pub kept-more : {xs ys ns : List ℕ} {count high v : ℕ} → Kept xs count high ns → Puts xs count v ys → Kept ys (count + 1) (max high v) (ns ++ v ∷ [])
+kept-more {xs} {ys} {ns} {count} {high} {v} k p = record {
+  long = p .long;
+  counted = omega (arith, k .counted, length-append ns (v ∷ []));
+  highest = λ known z. leb-max known high v ∙ ap (λ b. b || leb known v) (k .highest known z) ∙ sym (any-last (leb known) ns v);
+  array = λ f.
+      let c : count < 128 = omega (arith, k .counted, f .few, length-append ns (v ∷ [])) in
+      rw (p .put c (f .low v (Memᴰ·append-right ns here)), add-one count, take-suc-set xs count v (omega (arith, k .long)), k .array (few-before ns v f));
+}
+
+pub puts : (xs : List ℕ) (i v : ℕ) → length xs ≡ 128 → Puts xs i v (set xs i (v % 256))
+puts xs i v h = record { long = length-set xs i (v % 256) ∙ h; put = λ z l. ap (set xs i) (mod-eq-of-lt l) }
+
+-- ---- the whole line
+
+all-numbers : (ns : List ℕ) → every aNumber (map Number ns) ≡ true
+unfolding every
+all-numbers [] = refl
+all-numbers (n ∷ ns) = all-numbers ns
+
+values : (ns : List ℕ) → map valueOf (map Number ns) ≡ ns
+values [] = refl
+values (n ∷ ns) = ap (λ (z : List ℕ). n ∷ z) (values ns)
+
+count-fields : (ns : List ℕ) → length (map Number ns) ≡ length ns
+count-fields [] = refl
+count-fields (n ∷ ns) = ap suc (count-fields ns)
+
+any-zero : (ns : List ℕ) → 0 < length ns → any (leb 0) ns ≡ true
+unfolding any
+any-zero [] h = absurd (omega arith)
+any-zero (n ∷ ns) h = rw (le-leb 0 n (omega arith))
+
+module _ {s : List ℕ} {at next : ℕ} (ns : List ℕ) (l : PlainLine 4 s at next (map Number ns)) (h : 0 < length ns) where
+  is-list : {b : ℕ} → getD s at 0 ≡ b → isList 4 (classOf b) (l .bytes) ≡ true
+  unfolding isList alike
+  is-list {b} e = rw (l .letter, l .fields, e, eq-eqb (classCode (classOf b)) (classCode (classOf b)) refl, le-leb 1 (length (map Number ns)) (omega (arith, count-fields ns))) (all-numbers ns)
+
+  numbers-are : numbersOf 4 (l .bytes) ≡ ns
+  unfolding numbersOf
+  numbers-are = rw (l .fields) (values ns)
+
+-- what is known of a list line at a comma or a line end
+pub record Walked (s : List ℕ) (at : ℕ) (xs : List ℕ) (count high end : ℕ) : Type 0 where
+  pub numbers : List ℕ
+  pub read : Read s at end numbers
+  pub kept : Kept xs count high numbers
+  pub few : at + count < end
+  pub within : end ≤ length s
+
+pub listing : {s xs : List ℕ} {at b count high end : ℕ} → Walked s at xs count high end → Stands b s at → 0 < count → Stands 10 s end
+    → Listing (classOf b) s at (record { count = count; high = high; next = end + 1 }) xs
+listing {s} {xs} {at} {b} {count} {high} {end} w o h e =
+    let some : 0 < length (w .numbers) = omega (arith, w .kept .counted) in
+    let l = w .read .ends some e in
+    let q = numbers-are (w .numbers) l some in
+    record {
+      bytes = l .bytes;
+      lines = l .lines;
+      within = omega (arith, e .within);
+      list = is-list (w .numbers) l some (o .byte);
+      count = w .kept .counted ∙ ap length (sym q);
+      few = omega (arith, e .within, w .few);
+      high = λ known. rw q (highest known some);
+      numbers = rw q (λ f. record { long = w .kept .long; numbers = rw (← w .kept .counted) (w .kept .array f) });
+    }
+  where
+    highest : (known : ℕ) → 0 < length (w .numbers) → leb known high ≡ any (leb known) (w .numbers)
+    highest zero some = rw (any-zero (w .numbers) some) (le-leb 0 high (omega arith))
+    highest (suc n) some = w .kept .highest (suc n) (omega arith)
+
+pub no-list : {k : Class} {s xs : List ℕ} {at : ℕ} → length xs ≡ 128 → ListAt k s at (record { count = 0; high = 0; next = at }) xs
+no-list h = record { long = h; start = omega arith; line = λ z. absurd (omega arith) }
+
+pub walk-start : {s xs : List ℕ} {at b : ℕ} → length xs ≡ 128 → Opens b → Stands b s at → Walked s at xs 0 0 (at + 1)
+walk-start h o w = record { numbers = []; read = read-none o w; kept = kept-none h; few = omega arith; within = omega (arith, w .within) }
+
+pub walk-on : {s xs ys : List ℕ} {at count high end e v : ℕ} → Walked s at xs count high end → Stands 44 s end → end + 1 < e → e ≤ length s
+    → IsField 4 (between s (end + 1) e) (Number v) → Puts xs count v ys → Walked s at ys (count + 1) (max high v) e
+walk-on {v = v} w c h l p u = record {
+  numbers = w .numbers ++ v ∷ [];
+  read = read-more (w .read) c (omega arith) p;
+  kept = kept-more (w .kept) u;
+  few = omega (arith, w .few);
+  within = l;
+}
