@@ -10,6 +10,7 @@ use Rattle.steps.specs.Holds.{cellAt}
 use Rattle.runs.specs.Flows.{flows}
 use Rattle.runs.specs.Consume.{taking, made-of}
 use Rattle.conditions.specs.Conditions.{conditionsIn, Sized, Cursors}
+use Rattle.columns.specs.Columns.{column}
 use Rattle.playing.specs.declared.History.{History}
 
 -- ---- events
@@ -29,6 +30,19 @@ pub record Added (k : ℕ) (new : List ℕ) (n : ℕ) (ts ks : List ℕ) (r : �
   pub events : eventsIn r ts′ ks′ ≡ eventsIn n ts ks ++ map (inStep k) new
 
 -- ---- histories
+
+-- the history that columns of a record's bytes hold, with the steps of its events and the cursors of its places beside them
+abbrev pub historyAt : (events conditions : ℕ) (rec steps next : List ℕ) → History
+historyAt events conditions rec steps next = record {
+  events = events;
+  transitions = column 0 128 rec;
+  steps = steps;
+  conditions = conditions;
+  places = column 128 512 rec;
+  producers = column 640 512 rec;
+  consumers = column 1152 512 rec;
+  next = next;
+}
 
 unfoldable pub eventsOf : History → List Event
 eventsOf h = eventsIn (h .events) (h .transitions) (h .steps)
