@@ -11,6 +11,7 @@ use lib.Count.{trailingZeros}
 use lib.Dec.{eqb, ltb}
 use lib.ListN.{length, getD, length-append}
 use borrow.Author.Tests.{eq-eqb, ne-eqb, lt-ltb, le-ltb}
+use Rattle.playing.specs.Holds.{History, historyAt}
 use Rattle.spec.specs.Lists.{upTo, flat}
 use Rattle.spec.specs.Record.{Mark, markLine}
 use Rattle.lists.specs.Laws
@@ -18,10 +19,9 @@ use Rattle.lists.specs.Tables.{table-same}
 use Rattle.columns.specs.Columns.{column, column-at}
 use Rattle.bit_sets.specs.Bits.{bit}
 use Rattle.steps.specs.Holds.{cellAt}
-use Rattle.playing.specs.declared.History.{History}
 use Rattle.record.specs.Holds.{kindCode, noMark}
 use Rattle.record_lines.specs.Lines.{dueAt, earlierAt, kindIf, markBytes}
-use Rattle.recording.specs.Bytes.{joinedTo, eventBytes, conditionBytes, marksBytes, historyBytes, historyAt, CodedTo, Writable}
+use Rattle.recording.specs.Bytes.{joinedTo, eventBytes, conditionBytes, marksBytes, historyBytes, CodedTo, Writable}
 use Rattle.recording.specs.Notes.{noteOf, notesOf, notesTo, historyNotes, NotesHistory, noteIf, notesIf, Puts, Room, textOf}
 use Rattle.recording.specs.Sets.{bitAt, Placed, WatchedBy}
 use Rattle.recording.specs.declared.Ends.{Ends}

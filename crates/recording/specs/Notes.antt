@@ -5,13 +5,13 @@ use mathlib.Core.Bool.{not, _&&_, cond}
 use mathlib.Core.List.{List, [], _∷_, _++_, map}
 use lib.Dec.{eqb}
 use lib.ListN.{length, getD}
+use Rattle.playing.specs.Holds.{History}
 use Rattle.spec.specs.Lists.{upTo, flat}
 use Rattle.spec.specs.Record.{Mark, markLine}
 use Rattle.columns.specs.Columns.{column}
 use Rattle.writing.specs.Written.{Wrote}
 use Rattle.record.specs.Holds.{kindCode, noMark}
 use Rattle.record.specs.declared.Counts.{Counts}
-use Rattle.playing.specs.declared.History.{History}
 use Rattle.record_lines.specs.Lines.{dueAt, earlierAt, kindIf}
 use Rattle.recording.specs.Bytes.{historyBytes}
 use Rattle.recording.specs.declared.Ends.{Ends}

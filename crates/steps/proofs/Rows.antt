@@ -35,6 +35,13 @@ module _ (cells : List ℕ) (t : ℕ) where
   pub adds-end : {old new : List ℕ} {i n : ℕ} → i ≡ n → Adds cells t i old new → Adds cells t n old new
   adds-end {old} {new} e a = subst (λ (k : ℕ). Adds cells t k old new) e a
 
+pub input-read : (arcs : List ℕ) (t p : ℕ) → t < 32 → p < 32 → getD arcs (32 * t + p) 0 ≡ getD (column 0 1024 arcs) (32 * t + p) 0
+input-read arcs t p h l = ap (λ (i : ℕ). getD arcs i 0) (omega arith) ∙ cell-read arcs 0 t p h l
+
+-- the marking is the first column of the counts by place
+pub token-read : (counts : List ℕ) (p : ℕ) → p < 32 → getD (column 0 32 counts) p 0 ≡ getD counts p 0
+token-read counts p h = column-at 0 32 counts p h ∙ ap (λ (i : ℕ). getD counts i 0) (omega arith)
+
 -- ---- all rows
 
 pub sums-none : (f : ℕ → ℕ → ℕ) → Sums f [] (replicate 32 0)

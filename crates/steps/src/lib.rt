@@ -3,7 +3,8 @@ ghost use mathlib.Core.Path.{_≡_};
 ghost use Prim.Native.Nat.{ℕ, _+_, _<_, _≤_};
 ghost use lib.ListN.{length, getD, take};
 ghost use Rattle.columns.specs.Columns.{column};
-ghost use Rattle.steps.specs.Holds.{IsStep, cellAt, Adds, Sums, falls, blocks, Plays, Playable};
+ghost use Rattle.lists.specs.Stretch.{MappedFrom};
+ghost use Rattle.steps.specs.Holds.{IsStep, cellAt, Adds, Sums, falls, blocks};
 
 // ---- a step
 
@@ -69,14 +70,22 @@ pub fn row_sums(cells: &[u8; 1024], step: &[u8; 128], count: usize) -> [u32; 32]
 
 // ---- a step at a marking
 
+// What is counted by place stands in one array, 32 entries each: the marking, the conditions, the events that the place
+// inhibits, and the first condition that may be free.
+pub const HELD: usize = 32;
+
+pub const WATCHED: usize = 64;
+
+pub const NEXT: usize = 96;
+
 // Whether some place has fewer tokens than are taken from it.
-pub fn short(marking: &[u32; 32], taken: &[u32; 32], places: usize) -> bool
+pub fn short(counts: &[u32; 128], taken: &[u32; 32], places: usize) -> bool
     requires { ⌜ places ≤ 32 ⌝ }
-    ensures { λ r. ⌜ r ≡ falls (now (marking .entry)) (now (taken .entry)) places ⌝ }
+    ensures { λ r. ⌜ r ≡ falls (column 0 32 (now (counts .entry))) (now (taken .entry)) places ⌝ }
 {
     let mut p: usize = 0;
     while p < places {
-        if marking[p] < taken[p] {
+        if counts[p] < taken[p] {
             return true;
         }
         p += 1;
@@ -85,13 +94,13 @@ pub fn short(marking: &[u32; 32], taken: &[u32; 32], places: usize) -> bool
 }
 
 // Whether some place that is not empty inhibits one of the step's events; `guards` are their sums in the inhibitors.
-pub fn inhibited(marking: &[u32; 32], guards: &[u32; 32], places: usize) -> bool
+pub fn inhibited(counts: &[u32; 128], guards: &[u32; 32], places: usize) -> bool
     requires { ⌜ places ≤ 32 ⌝ }
-    ensures { λ r. ⌜ r ≡ blocks (now (marking .entry)) (now (guards .entry)) places ⌝ }
+    ensures { λ r. ⌜ r ≡ blocks (column 0 32 (now (counts .entry))) (now (guards .entry)) places ⌝ }
 {
     let mut p: usize = 0;
     while p < places {
-        if (0 < marking[p]) & (0 < guards[p]) {
+        if (0 < counts[p]) & (0 < guards[p]) {
             return true;
         }
         p += 1;
@@ -106,56 +115,28 @@ fn wide_count(k: u16) -> u32
     k as u32
 }
 
-// The token counts of a net as a marking.
-pub fn marking_of(tokens: &[u16; 32]) -> [u32; 32]
-    requires { ⌜ length (now tokens) ≡ 32 ⌝ }
-    ensures { λ r. ⌜ r ≡ now (tokens .entry) ⌝ }
+// The token counts of a net, put into the counts by place from `at` on.
+pub fn put_tokens(tokens: &[u16; 32], counts: &mut [u32; 128], at: usize)
+    requires { ⌜ (length (now counts) ≡ 128) × (at + 32 ≤ 128) ⌝ }
+    ensures { λ _. ⌜ MappedFrom (now (counts .entry)) at 32 (λ p. getD (now (tokens .entry)) p 0) (now (counts .exit)) ⌝ }
 {
-    let mut r = [0u32; 32];
     let mut p: usize = 0;
     while p < 32 {
-        r[p] = wide_count(tokens[p]);
+        let i = at + p;
+        counts[i] = wide_count(tokens[p]);
         p += 1;
     }
-    r
 }
 
-// ---- one running marking
+// ---- a run
 
-// It is lent by `&mut` and changed by `play_step`. The borrow checker covers no function with a reference to a struct, so
-// `play_step` is thin and proved by hand, and so is `play`, which lends its local; `played` does the work, by value.
-pub struct Marking {
-    pub counts: [u32; 32],
-}
-
-// The marking after a step: in each place what the step's events take is gone, then what they make is there.
-fn played(marking: Marking, taken: &[u32; 32], made: &[u32; 32], places: usize) -> Marking
-    requires { ⌜ Playable places (marking .counts) (now taken) (now made) ⌝ }
-    ensures { λ r. ⌜ Plays places (now (taken .entry)) (now (made .entry)) marking r ⌝ }
-{
-    let mut m = marking.counts;
-    let mut p: usize = 0;
-    while p < places {
-        m[p] = m[p] - taken[p] + made[p];
-        p += 1;
-    }
-    Marking { counts: m }
-}
-
-// The marking that is lent is changed by a step.
-pub fn play_step(m: &mut Marking, taken: &[u32; 32], made: &[u32; 32], places: usize)
-    requires { ⌜ Playable places (now m .counts) (now taken) (now made) ⌝ }
-    ensures { λ _. ⌜ Plays places (now (taken .entry)) (now (made .entry)) (now (m .entry)) (now (m .exit)) ⌝ }
-{
-    *m = played(*m, taken, made, places);
-}
-
-// A marking changed by a step, for those who hold it by value.
-pub fn play(marking: Marking, taken: &[u32; 32], made: &[u32; 32], places: usize) -> Marking
-    requires { ⌜ Playable places (marking .counts) (now taken) (now made) ⌝ }
-    ensures { λ after. ⌜ Plays places (now (taken .entry)) (now (made .entry)) marking after ⌝ }
-{
-    let mut run = marking;
-    play_step(&mut run, taken, made, places);
-    run
+// How far a run has come, beside the arrays that hold it: the line of the log that is next, its events and its conditions,
+// and how often an event made a condition in a place that inhibits it; and how large its net is.
+pub struct Extent {
+    pub places: usize,
+    pub transitions: usize,
+    pub line: usize,
+    pub events: usize,
+    pub conditions: usize,
+    pub own: usize,
 }
