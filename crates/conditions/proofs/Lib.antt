@@ -2,3 +2,4 @@ pub mod Coded
 pub mod Tokens
 pub mod Taking
 pub mod Making
+pub mod Lent

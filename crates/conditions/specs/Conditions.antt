@@ -8,6 +8,7 @@ use lib.Dec.{eqb}
 use lib.ListN.{length, getD}
 use Rattle.spec.specs.Lists.{upTo}
 use Rattle.spec.specs.Record.{Condition}
+use Rattle.columns.specs.Columns.{column}
 use Rattle.steps.specs.Holds.{cellAt}
 use Rattle.runs.specs.Flows.{Flow, flow, spread}
 use Rattle.runs.specs.Consume.{taking}
@@ -71,3 +72,24 @@ pub record Made (cs : List Condition) (n : ℕ) (ps gs fs : List ℕ) (r : ℕ) 
   pub next : r ≡ n + length cs
   pub sized : Sized ps′ gs′ fs′
   pub conditions : conditionsIn r ps′ gs′ fs′ ≡ conditionsIn n ps gs fs ++ cs
+
+-- ---- by columns of a record's bytes, and of the counts by place
+
+pub record ReadyAt (n : ℕ) (rec counts : List ℕ) : Type 0 where
+  pub long : 1664 ≤ length rec
+  pub wide : length counts ≡ 128
+  pub ready : Ready n (column 128 512 rec) (column 1152 512 rec) (column 96 32 counts)
+
+-- the tokens were taken, and nothing in front of the consumers and of the cursors changed
+pub record TookAt (xs : List Flow) (n : ℕ) (rec counts rec′ counts′ : List ℕ) : Type 0 where
+  pub took : Took xs n (column 128 512 rec) (column 1152 512 rec) (column 96 32 counts) (column 1152 512 rec′) (column 96 32 counts′)
+  pub long : length rec′ ≡ length rec
+  pub wide : length counts′ ≡ length counts
+  pub kept : (at k : ℕ) → at + k ≤ 1152 → column at k rec′ ≡ column at k rec
+  pub counted : (at k : ℕ) → at + k ≤ 96 → column at k counts′ ≡ column at k counts
+
+-- the conditions were made, and nothing in front of their places changed
+pub record MadeAt (cs : List Condition) (n : ℕ) (rec : List ℕ) (r : ℕ) (rec′ : List ℕ) : Type 0 where
+  pub made : Made cs n (column 128 512 rec) (column 640 512 rec) (column 1152 512 rec) r (column 128 512 rec′) (column 640 512 rec′) (column 1152 512 rec′)
+  pub long : length rec′ ≡ length rec
+  pub kept : (at k : ℕ) → at + k ≤ 128 → column at k rec′ ≡ column at k rec

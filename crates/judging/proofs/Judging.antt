@@ -13,21 +13,18 @@ use Rattle.spec.specs.Lists.{In, upTo, sumOf, asCount}
 use Rattle.spec.specs.Net.{Net, places, takes, makes, inhibits}
 use Rattle.spec.specs.Step.{EnabledAt, short, inhibited, play}
 use Rattle.spec.specs.Build.{Event, Run as RunD, inStep, takeAll, makeAll, playStep, marksDue}
-use Rattle.steps.specs.Holds.{HoldsStep, HoldsMarking, Sums, Arcs, cellAt, falls, blocks, Plays}
-use Rattle.steps.specs.declared.Marking.{Marking}
+use Rattle.lists.specs.Mapped.{Mapped}
+use Rattle.steps.specs.Holds.{HoldsStep, HoldsMarking, Sums, Arcs, cellAt, falls, blocks, moved}
 use Rattle.steps.proofs.Held.{step-length, sums-held, short-held, inhibited-held, play-held}
 use Rattle.runs.specs.Flows.{flows}
 use Rattle.runs.specs.Consume.{made-of, makeAll-makings, length-takeAll}
 use Rattle.runs.specs.Steps.{enabled-tests}
 use Rattle.runs.specs.Built.{Good, good-step}
-use Rattle.tallying.specs.Tally.{entryAt, timesAt, Tallied, Tallies}
-use Rattle.playing.specs.Holds.{eventsOf, conditionsOf, Grown}
-use Rattle.tallying.specs.declared.Tally.{Tally}
-use Rattle.playing.specs.declared.History.{History}
+use Rattle.tallying.specs.Tally.{entryAt, timesAt, Tally, Tallied, Tallies}
+use Rattle.playing.specs.Holds.{History, eventsOf, conditionsOf, Grown}
 use Rattle.tallying.proofs.Held.{tally-grown, marks-tallied}
 use Rattle.playing.proofs.Held.{flows-total, events-grown, conditions-grown}
-use Rattle.judging.specs.Holds.{HoldsRun, stepOn}
-use Rattle.judging.specs.declared.Run.{Run}
+use Rattle.judging.specs.Holds.{Run, HoldsRun, stepOn}
 use Rattle.judging.proofs.Reaching.{events-length, events-held, conditions-held}
 
 module _ {is os hs xs : List ℕ} {size m k : ℕ} {x : Run} (N : Net) (ts : List ℕ) (r : RunD)
@@ -36,22 +33,22 @@ module _ {is os hs xs : List ℕ} {size m k : ℕ} {x : Run} (N : Net) (ts : Lis
   after = playStep N k ts r
 
   module _ {tk : List ℕ} (TK : Sums (cellAt is) (take size xs) tk) where
-    is-short : falls (x .marking .counts) tk m ≡ short N (r .marking) ts
-    is-short = ap (falls (x .marking .counts) tk) (A .places) ∙ short-held N refl (H .marking) (sums-held (A .inputs) S TK)
+    is-short : falls (x .marking) tk m ≡ short N (r .marking) ts
+    is-short = ap (falls (x .marking) tk) (A .places) ∙ short-held N refl (H .marking) (sums-held (A .inputs) S TK)
 
-    pub answers-24 : falls (x .marking .counts) tk m ≡ true → stepOn N k ts r ≡ refuses 24 k
+    pub answers-24 : falls (x .marking) tk m ≡ true → stepOn N k ts r ≡ refuses 24 k
     unfolding stepOn _>>_ refuse_at_when_
     answers-24 a = rw (sym is-short ∙ a)
 
-    module _ (a : falls (x .marking .counts) tk m ≡ false) {gd : List ℕ} (GD : Sums (cellAt hs) (take size xs) gd) where
-      is-inhibited : blocks (x .marking .counts) gd m ≡ inhibited N (r .marking) ts
-      is-inhibited = ap (blocks (x .marking .counts) gd) (A .places) ∙ inhibited-held N refl (H .marking) (sums-held (A .inhibitors) S GD)
+    module _ (a : falls (x .marking) tk m ≡ false) {gd : List ℕ} (GD : Sums (cellAt hs) (take size xs) gd) where
+      is-inhibited : blocks (x .marking) gd m ≡ inhibited N (r .marking) ts
+      is-inhibited = ap (blocks (x .marking) gd) (A .places) ∙ inhibited-held N refl (H .marking) (sums-held (A .inhibitors) S GD)
 
-      pub answers-25 : blocks (x .marking .counts) gd m ≡ true → stepOn N k ts r ≡ refuses 25 k
+      pub answers-25 : blocks (x .marking) gd m ≡ true → stepOn N k ts r ≡ refuses 25 k
       unfolding stepOn _>>_ refuse_at_when_
       answers-25 b = rw (sym is-short ∙ a, sym is-inhibited ∙ b)
 
-      module _ (b : blocks (x .marking .counts) gd m ≡ false) {md : List ℕ} (MD : Sums (cellAt os) (take size xs) md) where
+      module _ (b : blocks (x .marking) gd m ≡ false) {md : List ℕ} (MD : Sums (cellAt os) (take size xs) md) where
         enabled : EnabledAt N (r .marking) ts
         enabled = enabled-tests N (r .marking) ts .0 (sym is-short ∙ a, sym is-inhibited ∙ b)
 
@@ -101,7 +98,7 @@ module _ {is os hs xs : List ℕ} {size m k : ℕ} {x : Run} (N : Net) (ts : Lis
                 le-ltb 4096 (length (marksDue N after)) (omega (arith, marks-tallied N after (A .places) good-after tally-after)),
               )
 
-            pub run-after : {mk : Marking} {h : History} → 0 < size → Plays m tk md (x .marking) mk → Grown k (take size xs) is os m (x .history) h
+            pub run-after : {mk : List ℕ} {h : History} → 0 < size → Mapped (x .marking) m (moved (x .marking) tk md) mk → Grown k (take size xs) is os m (x .history) h
                 → HoldsRun N (k + 1) (record { marking = mk; tally = t; history = h }) after
             run-after {mk} {h} l M G = record {
               good = rw (add-one k) good-after;

@@ -1,26 +1,13 @@
 // One step of a log, judged and played on the run that the steps before it left.
 ghost use mathlib.Core.Path.{_≡_};
-ghost use Prim.Native.Nat.{_+_, _≤_, _<_};
-ghost use Rattle.steps.specs.Holds.{IsStep};
-ghost use Rattle.judging.specs.Holds.{Reached, StepsOn};
-use playing::History;
+ghost use Rattle.judging.specs.Holds.{Steppable, SteppedOn};
 use playing::grow;
-use steps::Marking;
+use steps::Extent;
 use steps::inhibited;
-use steps::play;
 use steps::short;
 use steps::sums;
-use tallying::Tally;
-use tallying::products;
-use tallying::tally_step;
-use tallying::total;
-
-// What a log played so far: the running marking, what is counted, and the history.
-pub struct Run {
-    pub marking: Marking,
-    pub tally: Tally,
-    pub history: History,
-}
+use tallying::own_all;
+use tallying::settle;
 
 // The answer to a step, or to the lines of a log: a refusal with its line.
 pub enum LogAnswer {
@@ -34,68 +21,60 @@ pub enum LogAnswer {
     OverMarks(usize),
 }
 
-// The answer, and the run after it.
+// The answer, and how far the run has come; a refusal says nothing of the arrays that hold the run.
 pub struct Played {
     pub answer: LogAnswer,
-    pub run: Run,
+    pub run: Extent,
 }
 
-fn refused(answer: LogAnswer, run: Run) -> Played
+fn refused(answer: LogAnswer, run: Extent) -> Played
     ensures { λ s. ⌜ s ≡ record { answer = answer; run = run } ⌝ }
 {
     Played { answer, run }
 }
 
-// Step k is judged and played.
+// The next step is judged and played.
 pub fn step_on(
-    k: usize,
     step: &[u8; 128],
     count: usize,
-    inputs: &[u8; 1024],
-    outputs: &[u8; 1024],
-    inhibitors: &[u8; 1024],
-    places: usize,
-    r: Run,
+    arcs: &[u8; 3072],
+    x: Extent,
+    rec: &mut [u8],
+    steps: &mut [u8; 128],
+    counts: &mut [u32; 128],
 ) -> Played
-    requires { ⌜ IsStep (now step) count × (0 < count) × (r .history .events + count ≤ 128) × Reached (now inputs) (now outputs) (now inhibitors) places k r ⌝ }
-    ensures { λ s. ⌜ StepsOn (now (inputs .entry)) (now (outputs .entry)) (now (inhibitors .entry)) places k (now (step .entry)) count r s ⌝ }
+    requires { ⌜ Steppable (now step) count (now arcs) x (now rec) (now steps) (now counts) ⌝ }
+    ensures { λ s. ⌜ SteppedOn (now (step .entry)) count (now (arcs .entry)) x (now (rec .entry)) (now (steps .entry)) (now (counts .entry)) s (now (rec .exit)) (now (steps .exit)) (now (counts .exit)) ⌝ }
 {
-    let marking = r.marking.counts;
-    let tally = r.tally;
-    let history = r.history;
-    let taken = sums(inputs, step, count);
-    if short(&marking, &taken, places) {
-        return refused(LogAnswer::TooFewTokens(k), r);
+    let places = x.places;
+    let line = x.line;
+    let taken = sums(arcs, 0, step, count);
+    if short(counts, &taken, places) {
+        return refused(LogAnswer::TooFewTokens(line), x);
     }
-    let guards = sums(inhibitors, step, count);
-    if inhibited(&marking, &guards, places) {
-        return refused(LogAnswer::Inhibited(k), r);
+    let guards = sums(arcs, 2048, step, count);
+    if inhibited(counts, &guards, places) {
+        return refused(LogAnswer::Inhibited(line), x);
     }
-    let made = sums(outputs, step, count);
-    if 512 < history.conditions + total(&made, places) {
-        return refused(LogAnswer::OverConditions(k), r);
+    let made = sums(arcs, 1024, step, count);
+    let settled = settle(counts, &taken, &made, &guards, places);
+    if 512 < x.conditions + settled.made {
+        return refused(LogAnswer::OverConditions(line), x);
     }
-    let t = tally_step(
-        tally,
-        &made,
-        &guards,
-        step,
-        count,
-        inhibitors,
-        outputs,
-        places,
-    );
-    let held = t.held;
-    let watched = t.watched;
-    if 4096 + t.own < products(&held, &watched, places) {
-        return refused(LogAnswer::OverMarks(k), r);
+    let own = x.own + own_all(arcs, step, count, places);
+    if 4096 + own < settled.marks {
+        return refused(LogAnswer::OverMarks(line), x);
     }
+    let conditions = grow(step, count, arcs, x, rec, steps, counts);
     Played {
         answer: LogAnswer::Goes,
-        run: Run {
-            marking: play(r.marking, &taken, &made, places),
-            tally: t,
-            history: grow(k, step, count, inputs, outputs, places, history),
+        run: Extent {
+            places,
+            transitions: x.transitions,
+            line: line + 1,
+            events: x.events + count,
+            conditions,
+            own,
         },
     }
 }

@@ -1,21 +1,24 @@
 -- The run at the initial marking.
-use Prim.Native.Nat.{ℕ, _+_, _<_}
+use Prim.Native.Nat.{ℕ, _+_, _≤_, _<_}
 use mathlib.Core.Path.{_≡_, refl, sym, ap, _∙_}
 use mathlib.Core.List.{List, []}
+use native.Mathlib.Decide.{decLe}
 use native.Mathlib.Omega.{arith}
 use lib.Dec.{eqb}
-use lib.ListN.{length, getD, take, replicate, length-replicate}
+use lib.ListN.{length, getD, take, List·getD-eq-default}
 use lib.Seq.{ext-getD, getD-take, length-take-le}
 use Rattle.spec.specs.Lists.{count, sumOf}
 use Rattle.spec.specs.Net.{Net, places}
 use Rattle.spec.specs.Build.{start, initialOf}
-use Rattle.lists.specs.Arrays.{blank}
 use Rattle.steps.specs.Holds.{HoldsMarking}
 use Rattle.runs.specs.Built.{good-start, start-count, blank as blankCondition}
-use Rattle.tallying.specs.Tally.{heldIn, watchedFrom, ownAll, Tallied}
-use Rattle.playing.specs.Holds.{Starts}
-use Rattle.playing.specs.declared.History.{History}
+use Rattle.lists.specs.Stretch.{MappedFrom}
+use Rattle.columns.specs.Columns.{column, column-length, column-at}
+use Rattle.steps.proofs.Rows.{token-read}
+use Rattle.tallying.specs.Tally.{heldIn, watchedFrom, ownAll, tallyAt, Tallied}
+use Rattle.playing.specs.Holds.{History, Starts}
 use Rattle.judging.specs.Holds.{HoldsRun}
+use Rattle.logs.specs.Holds.{Beginnable}
 
 module _ {m : ℕ} {tokens : List ℕ} (N : Net) (h : HoldsMarking m tokens (N .tokens)) where
   pub tokens-are : take m tokens ≡ N .tokens
@@ -24,24 +27,53 @@ module _ {m : ℕ} {tokens : List ℕ} (N : Net) (h : HoldsMarking m tokens (N .
       long : length (take m tokens) ≡ m
       long = length-take-le m tokens (omega (arith, h .few, h .long))
 
-  tallied : Tallied N (start N) (record { held = tokens; watched = replicate 32 0; own = 0 })
-  unfolding start
-  tallied = record {
-    longHeld = h .long;
-    longWatched = length-replicate {A = ℕ} 32 0;
-    held = λ p l. h .tokens p ∙ sym (start-count (heldIn p) p (λ q. unfold heldIn blankCondition in refl) (N .tokens));
-    watched = λ p l. blank 32 p ∙ unfold count in refl;
-    own = unfold ownAll sumOf in refl;
-  }
+  module _ (counts : List ℕ) (l : length counts ≡ 128) (hd : column 32 32 counts ≡ tokens) (wt : (p : ℕ) → p < 32 → getD (column 64 32 counts) p 0 ≡ 0) where
+    tallied : Tallied N (start N) (tallyAt 0 counts)
+    unfolding start
+    tallied = record {
+      longHeld = column-length 32 32 counts (omega arith);
+      longWatched = column-length 64 32 counts (omega arith);
+      held = λ p k. ap (λ (z : List ℕ). getD z p 0) hd ∙ h .tokens p ∙ sym (start-count (heldIn p) p (λ q. unfold heldIn blankCondition in refl) (N .tokens));
+      watched = λ p k. wt p (omega (arith, h .few, h .places)) ∙ unfold count in refl;
+      own = unfold ownAll sumOf in refl;
+    }
 
-  pub begins : {mk : List ℕ} {g : History} → mk ≡ tokens → Starts (take m tokens) g
-      → HoldsRun N 1 (record { marking = record { counts = mk }; tally = record { held = mk; watched = replicate 32 0; own = 0 }; history = g }) (start N)
-  begins e S = rw e record {
-    good = good-start N;
-    marking = unfold start in record { long = h .long; few = omega (arith, h .few, h .places); places = refl; tokens = h .tokens };
-    tally = tallied;
-    whole = S .whole;
-    events = unfold start in (S .events);
-    conditions = unfold start in (S .conditions ∙ ap (initialOf 0) tokens-are);
-    early = omega arith;
-  }
+    pub begins : {g : History} → column 0 32 counts ≡ tokens → Starts (take m tokens) g → HoldsRun N 1 (record { marking = column 0 32 counts; tally = tallyAt 0 counts; history = g }) (start N)
+    begins e S = record {
+      good = good-start N;
+      marking = unfold start in (rw e record { long = h .long; few = omega (arith, h .few, h .places); places = refl; tokens = h .tokens });
+      tally = tallied;
+      whole = S .whole;
+      events = unfold start in (S .events);
+      conditions = unfold start in (S .conditions ∙ ap (initialOf 0) tokens-are);
+      early = omega arith;
+    }
+
+-- the counts by place, into which the tokens were put twice
+module _ {tokens counts counts₁ counts₂ : List ℕ} {m : ℕ} {rec : List ℕ} (B : Beginnable tokens m rec counts)
+    (A : MappedFrom counts 0 32 (λ p. getD tokens p 0) counts₁) (C : MappedFrom counts₁ 32 32 (λ p. getD tokens p 0) counts₂) where
+  pub put-long : length counts₂ ≡ 128
+  put-long = C .long ∙ A .long ∙ B .wide
+
+  pub put-marking : column 0 32 counts₂ ≡ tokens
+  put-marking = ext-getD 0 _ tokens (long ∙ sym (B .tokens)) (λ p l. let h : p < 32 = omega (arith, long) in
+      token-read counts₂ p h ∙ C .before p h ∙ ap (λ (i : ℕ). getD counts₁ i 0) (omega arith) ∙ A .here p h)
+    where
+      long : length (column 0 32 counts₂) ≡ 32
+      long = column-length 0 32 counts₂ (omega (arith, put-long))
+
+  pub put-held : column 32 32 counts₂ ≡ tokens
+  put-held = ext-getD 0 _ tokens (long ∙ sym (B .tokens)) (λ p l. let h : p < 32 = omega (arith, long) in column-at 32 32 counts₂ p h ∙ C .here p h)
+    where
+      long : length (column 32 32 counts₂) ≡ 32
+      long = column-length 32 32 counts₂ (omega (arith, put-long))
+
+  pub put-blank : (at p : ℕ) → 64 ≤ at → p < 32 → getD (column at 32 counts₂) p 0 ≡ 0
+  put-blank at p h l = column-at at 32 counts₂ p l ∙ C .beyond (at + p) (omega arith) ∙ A .beyond (at + p) (omega arith) ∙ B .blank (at + p)
+
+  -- the cursors are at the first condition
+  pub put-cursors : (p : ℕ) → getD (column 96 32 counts₂) p 0 ≡ 0
+  put-cursors p = elim (decLe 32 p) [
+    | yes h ↦ List·getD-eq-default (column 96 32 counts₂) 0 (omega (arith, column-length 96 32 counts₂ (omega (arith, put-long))))
+    | no h ↦ put-blank 96 p (omega arith) (omega arith)
+  ]

@@ -1,24 +1,24 @@
 // The lines of a log, judged and played one after the other from the initial marking.
 ghost use mathlib.Core.Path.{_≡_};
-ghost use Prim.Native.Nat.{_≤_};
+ghost use Prim.Native.Nat.{_≤_, _<_};
 ghost use lib.ListN.{length, take};
 ghost use Rattle.spec.specs.Lists.{sum};
 ghost use Rattle.lines.specs.Lines.{lineOf};
-ghost use Rattle.judging.specs.Holds.{logAnswer, Reached};
-ghost use Rattle.logs.specs.Holds.{given, LinesOn, Begun, PlaysLog, Begins};
+ghost use Rattle.judging.specs.Holds.{logAnswer, given};
+ghost use Rattle.logs.specs.Holds.{Readable, LineRead, StepAt, Begun, PlayedLog, Beginnable, BeginsAt};
 use judging::LogAnswer;
 use judging::Played;
-use judging::Run;
 use judging::step_on;
 use lines::line_at;
 use number_lines::any_unknown;
 use number_lines::count_numbers;
 use number_lines::is_step_line;
+use number_lines::list_at;
 use number_lines::numbers;
 use playing::start;
-use steps::Marking;
-use steps::marking_of;
-use tallying::Tally;
+use steps::Extent;
+use steps::HELD;
+use steps::put_tokens;
 
 // Whether a log, or a line of it, was played.
 pub fn goes(a: LogAnswer) -> bool
@@ -36,78 +36,95 @@ pub fn goes(a: LogAnswer) -> bool
     }
 }
 
-fn refused(answer: LogAnswer, run: Run) -> Played
-    ensures { λ s. ⌜ s ≡ record { answer = answer; run = run } ⌝ }
-{
-    Played { answer, run }
+// A line of a log as a step: the answer to what is known of it without the marking, how many events it has, and where the
+// next line starts.
+pub struct StepLine {
+    pub answer: LogAnswer,
+    pub count: usize,
+    pub next: usize,
 }
 
-// Line k of a log is judged and played.
-fn log_line(
-    k: usize,
-    l: &[u8],
-    ended: bool,
-    inputs: &[u8; 1024],
-    outputs: &[u8; 1024],
-    inhibitors: &[u8; 1024],
-    places: usize,
-    transitions: usize,
-    r: Run,
-) -> Played
-    requires { ⌜ (transitions ≤ 32) × Reached (now inputs) (now outputs) (now inhibitors) places k r ⌝ }
-    ensures { λ s. ⌜ LinesOn (now (inputs .entry)) (now (outputs .entry)) (now (inhibitors .entry)) places transitions k (lineOf (now (l .entry)) ended) r s ⌝ }
+fn read_as(answer: LogAnswer, count: usize, next: usize) -> StepLine
+    ensures { λ r. ⌜ r ≡ record { answer = answer; count = count; next = next } ⌝ }
 {
-    let events = r.history.events;
-    if !is_step_line(l, ended) {
-        return refused(LogAnswer::Malformed(k), r);
+    StepLine {
+        answer,
+        count,
+        next,
     }
-    if any_unknown(l, transitions) {
-        return refused(LogAnswer::UnknownTransition(k), r);
+}
+
+// Any line as a step; its transitions go into an array.
+fn any_line(l: &[u8], ended: bool, next: usize, x: Extent, step: &mut [u8; 128]) -> StepLine
+    requires { ⌜ Readable x (now step) ⌝ }
+    ensures { λ r. ⌜ (r .next ≡ next) × LineRead (lineOf (now (l .entry)) ended) x (r .answer) (r .count) (now (step .exit)) ⌝ }
+{
+    let line = x.line;
+    if !is_step_line(l, ended) {
+        return read_as(LogAnswer::Malformed(line), 0, next);
+    }
+    if any_unknown(l, x.transitions) {
+        return read_as(LogAnswer::UnknownTransition(line), 0, next);
     }
     let count = count_numbers(l);
-    if 128 < events + count {
-        return refused(LogAnswer::OverEvents(k), r);
+    if 128 < x.events + count {
+        return read_as(LogAnswer::OverEvents(line), 0, next);
     }
-    let step = numbers(l);
-    step_on(k, &step, count, inputs, outputs, inhibitors, places, r)
+    *step = numbers(l);
+    read_as(LogAnswer::Goes, count, next)
+}
+
+// The line that starts at a position as a step: a plain one is read in one walk.
+fn step_at(log: &[u8], at: usize, x: Extent, step: &mut [u8; 128]) -> StepLine
+    requires { ⌜ (at < length (now log)) × Readable x (now step) ⌝ }
+    ensures { λ r. ⌜ StepAt (now (log .entry)) at x r (now (step .exit)) ⌝ }
+{
+    let line = x.line;
+    let plain = list_at(b'S', log, at, step);
+    if at < plain.next {
+        if x.transitions <= plain.high {
+            return read_as(LogAnswer::UnknownTransition(line), 0, plain.next);
+        }
+        if 128 < x.events + plain.count {
+            return read_as(LogAnswer::OverEvents(line), 0, plain.next);
+        }
+        return read_as(LogAnswer::Goes, plain.count, plain.next);
+    }
+    let any = line_at(log, at);
+    let end = any.end;
+    any_line(&log[at..end], any.ended, any.next, x, step)
 }
 
 // The lines of a log are judged and played, from a run at the initial marking.
 pub fn play_log(
     log: &[u8],
-    inputs: &[u8; 1024],
-    outputs: &[u8; 1024],
-    inhibitors: &[u8; 1024],
-    places: usize,
-    transitions: usize,
-    r: Run,
+    arcs: &[u8; 3072],
+    x: Extent,
+    rec: &mut [u8],
+    steps: &mut [u8; 128],
+    counts: &mut [u32; 128],
 ) -> Played
-    requires { ⌜ Begun (now inputs) (now outputs) (now inhibitors) places transitions r ⌝ }
-    ensures { λ s. ⌜ PlaysLog (now (inputs .entry)) (now (outputs .entry)) (now (inhibitors .entry)) places transitions (now (log .entry)) r s ⌝ }
+    requires { ⌜ Begun (now arcs) x (now rec) (now steps) (now counts) ⌝ }
+    ensures { λ s. ⌜ PlayedLog (now (log .entry)) (now (arcs .entry)) x (now (rec .entry)) (now (steps .entry)) (now (counts .entry)) s (now (rec .exit)) (now (steps .exit)) (now (counts .exit)) ⌝ }
 {
-    let mut run = r;
-    let mut k: usize = 1;
+    let mut step = [0u8; 128];
+    let mut run = x;
     let mut at: usize = 0;
     while at < log.len() {
-        let line = line_at(log, at);
-        let end = line.end;
-        let played = log_line(
-            k,
-            &log[at..end],
-            line.ended,
-            inputs,
-            outputs,
-            inhibitors,
-            places,
-            transitions,
-            run,
-        );
-        let answer = played.answer;
-        run = played.run;
+        let line = step_at(log, at, run, &mut step);
+        let answer = line.answer;
         if !goes(answer) {
             return Played { answer, run };
         }
-        k += 1;
+        let played = step_on(&step, line.count, arcs, run, rec, steps, counts);
+        run = played.run;
+        let judged = played.answer;
+        if !goes(judged) {
+            return Played {
+                answer: judged,
+                run,
+            };
+        }
         at = line.next;
     }
     Played {
@@ -116,19 +133,25 @@ pub fn play_log(
     }
 }
 
-// The run at the initial marking.
-pub fn begin(tokens: &[u16; 32], places: usize) -> Run
-    requires { ⌜ (places ≤ 32) × (length (now tokens) ≡ 32) × (sum (take places (now tokens)) ≤ 512) ⌝ }
-    ensures { λ r. ⌜ Begins places (now (tokens .entry)) r ⌝ }
+// The run at the initial marking, in arrays of which the counts by place are 0.
+pub fn begin(
+    tokens: &[u16; 32],
+    places: usize,
+    transitions: usize,
+    rec: &mut [u8],
+    counts: &mut [u32; 128],
+) -> Extent
+    requires { ⌜ Beginnable (now tokens) places (now rec) (now counts) ⌝ }
+    ensures { λ x. ⌜ BeginsAt (now (tokens .entry)) places transitions x (now (rec .entry)) (now (rec .exit)) (now (counts .exit)) ⌝ }
 {
-    let marking = marking_of(tokens);
-    Run {
-        marking: Marking { counts: marking },
-        tally: Tally {
-            held: marking,
-            watched: [0u32; 32],
-            own: 0,
-        },
-        history: start(tokens, places),
+    put_tokens(tokens, counts, 0);
+    put_tokens(tokens, counts, HELD);
+    Extent {
+        places,
+        transitions,
+        line: 1,
+        events: 0,
+        conditions: start(tokens, places, rec),
+        own: 0,
     }
 }

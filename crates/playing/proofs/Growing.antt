@@ -9,9 +9,10 @@ use Rattle.spec.specs.Build.{isFree}
 use Rattle.steps.specs.Holds.{cellAt}
 use Rattle.runs.specs.Flows.{Flow, flows}
 use Rattle.runs.specs.Consume.{taking, made-of}
-use Rattle.conditions.specs.Conditions.{conditionIn, conditionsIn, freeAt, Cursors, Sized, Took, Made}
-use Rattle.playing.specs.Holds.{eventsOf, conditionsOf, Added, Whole, Grown}
-use Rattle.playing.specs.declared.History.{History}
+use Rattle.conditions.specs.Conditions.{conditionIn, conditionsIn, freeAt, Cursors, Took, Made, ReadyAt, TookAt, MadeAt}
+use Rattle.columns.specs.Columns.{column}
+use Rattle.steps.specs.declared.Extent.{Extent}
+use Rattle.playing.specs.Holds.{History, eventsOf, conditionsOf, Added, AddedAt, Whole, Grown, Growable, GrownAt}
 use Rattle.conditions.proofs.Coded.{length-conditions, condition-at, free-is}
 
 -- the old conditions are as they were
@@ -51,3 +52,29 @@ grown {k} {m} {r} {ts} {inputs} {outputs} {h = h} count W l f A T M = record {
   events = unfold eventsOf in (A .events);
   conditions = unfold conditionsOf in (M .conditions ∙ ap (λ z. z ++ map made-of (flows (cellAt outputs) m (h .events) ts)) (T .conditions (h .producers)));
 }
+
+-- once the events are added, the conditions are ready
+pub taking-ready : {ts rec steps counts rec₁ steps₁ : List ℕ} {k count made r : ℕ} {x : Extent} → Growable count made x rec steps counts → AddedAt k ts (x .events) rec steps r rec₁ steps₁ → ReadyAt (x .conditions) rec₁ counts
+taking-ready G A = record {
+  long = omega (arith, G .long, A .long);
+  wide = G .wide;
+  ready = rw (A .kept 128 512 (omega arith), A .kept 1152 512 (omega arith)) record { few = G .whole .conditions; long = G .whole .sized .consumers; wide = G .whole .wide; cursors = G .whole .cursors };
+}
+
+-- and from these by the lent arrays, one after the other
+pub grows : {ts arcs rec steps counts rec₁ steps₁ rec₂ counts₂ rec₃ : List ℕ} {r : ℕ} {x : Extent} (count : ℕ)
+    → Growable count (length (flows (cellAt (column 1024 1024 arcs)) (x .places) (x .events) ts)) x rec steps counts
+    → AddedAt (x .line) ts (x .events) rec steps (x .events + count) rec₁ steps₁
+    → TookAt (flows (cellAt (column 0 1024 arcs)) (x .places) (x .events) ts) (x .conditions) rec₁ counts rec₂ counts₂
+    → MadeAt (map made-of (flows (cellAt (column 1024 1024 arcs)) (x .places) (x .events) ts)) (x .conditions) rec₂ r rec₃
+    → GrownAt ts count arcs x rec steps counts r rec₃ steps₁ counts₂
+grows {ts} {arcs} {rec} {rec₂ = rec₂} {rec₃ = rec₃} {r = r} {x = x} count G A T M = record {
+  grown = rw (M .kept 0 128 (omega arith), T .kept 0 128 (omega arith))
+      (grown count (G .whole) (G .events) (G .conditions) (A .added) (rw (A .kept 128 512 (omega arith), A .kept 1152 512 (omega arith)) at (T .took)) made);
+  long = M .long ∙ T .long ∙ A .long;
+  wide = T .wide;
+  counted = T .counted;
+}
+  where
+    made : Made (map made-of (flows (cellAt (column 1024 1024 arcs)) (x .places) (x .events) ts)) (x .conditions) (column 128 512 rec) (column 640 512 rec) (column 1152 512 rec₂) r (column 128 512 rec₃) (column 640 512 rec₃) (column 1152 512 rec₃)
+    made = rw (T .kept 128 512 (omega arith), A .kept 128 512 (omega arith), T .kept 640 512 (omega arith), A .kept 640 512 (omega arith)) at (M .made)

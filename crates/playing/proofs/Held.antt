@@ -16,8 +16,7 @@ use Rattle.steps.specs.Holds.{cellAt, HoldsStep, Sums, Arcs}
 use Rattle.steps.proofs.Held.{cells-are}
 use Rattle.runs.specs.Flows.{flow, spread, flows, in-flows, flows-sum}
 use Rattle.runs.specs.Consume.{taking, made-of, takeAll-taking, makeAll-makings}
-use Rattle.playing.specs.Holds.{eventIn, eventsIn, eventsOf, conditionsOf, Grown}
-use Rattle.playing.specs.declared.History.{History}
+use Rattle.playing.specs.Holds.{History, eventIn, eventsIn, eventsOf, conditionsOf, Grown}
 
 -- ---- the tokens of a step by arrays
 

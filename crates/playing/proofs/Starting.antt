@@ -4,17 +4,17 @@ use mathlib.Core.Path.{_≡_, refl, sym, ap, ap₂, _∙_}
 use mathlib.Core.Option.{none}
 use mathlib.Core.List.{List, [], _∷_, _++_, append-nil, append-assoc}
 use native.Mathlib.Omega.{arith}
-use lib.ListN.{length, getD, take, drop, replicate, length-append, length-replicate}
+use lib.ListN.{length, getD, take, drop, replicate, length-append}
 use lib.Seq.{take-add, length-take-le}
 use Rattle.spec.specs.Lists.{from, upTo, sum}
 use Rattle.spec.specs.Record.{Condition}
 use Rattle.spec.specs.Build.{initialOf}
 use Rattle.lists.specs.Along.{take-more}
-use Rattle.lists.specs.Arrays.{blank}
 use Rattle.lists.specs.Grouped.{sum-append}
 use Rattle.runs.specs.Growth.{initial-length}
-use Rattle.conditions.specs.Conditions.{decoded, conditionIn, conditionsIn, fresh, Sized, Made}
-use Rattle.playing.specs.Holds.{eventIn, eventsIn, eventsOf, conditionsOf, Whole, Starts}
+use Rattle.conditions.specs.Conditions.{decoded, conditionsIn, fresh, MadeAt}
+use Rattle.columns.specs.Columns.{column-length}
+use Rattle.playing.specs.Holds.{eventsIn, eventsOf, conditionsOf, historyAt, Starts}
 
 initial-append : (a : ℕ) (xs ys : List ℕ) → initialOf a (xs ++ ys) ≡ initialOf a xs ++ initialOf (a + length xs) ys
 unfolding initialOf
@@ -51,18 +51,18 @@ module _ (ks : List ℕ) (p v : ℕ) (l : p < length ks) (e : v ≡ getD ks p 0)
         ap sum (ap (λ (z : ℕ). take z ks) d ∙ take-add (p + 1) (m - (p + 1)) ks),
       )
 
-pub starts : {tokens ps gs fs ps′ gs′ fs′ : List ℕ} {r : ℕ} → sum tokens ≤ 512 → Made (initialOf 0 tokens) 0 ps gs fs r ps′ gs′ fs′
-    → Starts tokens (record { events = 0; transitions = replicate 128 0; steps = replicate 128 0; conditions = r; places = ps′; producers = gs′; consumers = fs′; next = replicate 32 0 })
-starts {tokens} h M = record {
+pub starts : {tokens rec rec′ steps next : List ℕ} {r : ℕ} → sum tokens ≤ 512 → 1664 ≤ length rec → length steps ≡ 128 → length next ≡ 32 → ((p : ℕ) → getD next p 0 ≡ 0)
+    → MadeAt (initialOf 0 tokens) 0 rec r rec′ → Starts tokens (historyAt 0 r rec′ steps next)
+starts {tokens} {rec′ = rec′} h l k w z M = record {
   whole = record {
     events = omega arith;
-    conditions = omega (arith, M .next, initial-length 0 tokens);
-    transitions = length-replicate {A = ℕ} 128 0;
-    steps = length-replicate {A = ℕ} 128 0;
-    sized = M .sized;
-    wide = length-replicate {A = ℕ} 32 0;
-    cursors = record { within = λ p. omega (arith, blank 32 p); passed = λ p j l. absurd (omega (arith, blank 32 p)) };
+    conditions = omega (arith, M .made .next, initial-length 0 tokens);
+    transitions = column-length 0 128 rec′ (omega (arith, M .long));
+    steps = k;
+    sized = M .made .sized;
+    wide = w;
+    cursors = record { within = λ p. omega (arith, z p); passed = λ p j l. absurd (omega (arith, z p)) };
   };
   events = unfold eventsOf eventsIn upTo from in refl;
-  conditions = unfold conditionsOf conditionsIn upTo from in (M .conditions);
+  conditions = unfold conditionsOf conditionsIn upTo from in (M .made .conditions);
 }

@@ -7,10 +7,11 @@ use Rattle.spec.specs.Lists.{upTo}
 use Rattle.spec.specs.Record.{Condition}
 use Rattle.spec.specs.Build.{Event, initialOf, inStep}
 use Rattle.steps.specs.Holds.{cellAt}
+use Rattle.steps.specs.declared.Extent.{Extent}
 use Rattle.runs.specs.Flows.{flows}
 use Rattle.runs.specs.Consume.{taking, made-of}
 use Rattle.conditions.specs.Conditions.{conditionsIn, Sized, Cursors}
-use Rattle.playing.specs.declared.History.{History}
+use Rattle.columns.specs.Columns.{column}
 
 -- ---- events
 
@@ -28,7 +29,38 @@ pub record Added (k : ℕ) (new : List ℕ) (n : ℕ) (ts ks : List ℕ) (r : �
   pub steps : length ks′ ≡ 128
   pub events : eventsIn r ts′ ks′ ≡ eventsIn n ts ks ++ map (inStep k) new
 
+-- by the transitions of a record's bytes; nothing behind these changed
+pub record AddedAt (k : ℕ) (new : List ℕ) (n : ℕ) (rec ks : List ℕ) (r : ℕ) (rec′ ks′ : List ℕ) : Type 0 where
+  pub added : Added k new n (column 0 128 rec) ks r (column 0 128 rec′) ks′
+  pub long : length rec′ ≡ length rec
+  pub kept : (at j : ℕ) → 128 ≤ at → column at j rec′ ≡ column at j rec
+
 -- ---- histories
+
+-- its events, with their transitions and their steps, and its conditions, with their places, producers and consumers, where
+-- 128 stands for no event; of each place, no condition with a number below `next` is free
+pub record History : Type 0 where
+  pub events : ℕ
+  pub transitions : List ℕ
+  pub steps : List ℕ
+  pub conditions : ℕ
+  pub places : List ℕ
+  pub producers : List ℕ
+  pub consumers : List ℕ
+  pub next : List ℕ
+
+-- the history that columns of a record's bytes hold, with the steps of its events and the cursors of its places beside them
+abbrev pub historyAt : (events conditions : ℕ) (rec steps next : List ℕ) → History
+historyAt events conditions rec steps next = record {
+  events = events;
+  transitions = column 0 128 rec;
+  steps = steps;
+  conditions = conditions;
+  places = column 128 512 rec;
+  producers = column 640 512 rec;
+  consumers = column 1152 512 rec;
+  next = next;
+}
 
 unfoldable pub eventsOf : History → List Event
 eventsOf h = eventsIn (h .events) (h .transitions) (h .steps)
@@ -57,3 +89,26 @@ pub record Starts (tokens : List ℕ) (h : History) : Type 0 where
   pub whole : Whole h
   pub events : eventsOf h ≡ []
   pub conditions : conditionsOf h ≡ initialOf 0 tokens
+
+-- ---- by lent arrays
+
+-- the history of a run that has come so far
+abbrev pub historyOf : Extent → (rec steps counts : List ℕ) → History
+historyOf x rec steps counts = historyAt (x .events) (x .conditions) rec steps (column 96 32 counts)
+
+-- what a step of so many events, which make so many conditions, relies on
+pub record Growable (count made : ℕ) (x : Extent) (rec steps counts : List ℕ) : Type 0 where
+  pub line : x .line < 256
+  pub places : x .places ≤ 32
+  pub events : x .events + count ≤ 128
+  pub conditions : x .conditions + made ≤ 512
+  pub long : 1664 ≤ length rec
+  pub wide : length counts ≡ 128
+  pub whole : Whole (historyOf x rec steps counts)
+
+-- the history grew, and of the counts by place only the cursors changed
+pub record GrownAt (ts : List ℕ) (count : ℕ) (arcs : List ℕ) (x : Extent) (rec steps counts : List ℕ) (r : ℕ) (rec′ steps′ counts′ : List ℕ) : Type 0 where
+  pub grown : Grown (x .line) ts (column 0 1024 arcs) (column 1024 1024 arcs) (x .places) (historyOf x rec steps counts) (historyAt (x .events + count) r rec′ steps′ (column 96 32 counts′))
+  pub long : length rec′ ≡ length rec
+  pub wide : length counts′ ≡ length counts
+  pub counted : (at k : ℕ) → at + k ≤ 96 → column at k counts′ ≡ column at k counts

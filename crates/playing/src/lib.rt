@@ -2,28 +2,17 @@
 ghost use mathlib.Core.Path.{_≡_};
 ghost use Prim.Native.Nat.{_+_, _≤_, _<_};
 ghost use lib.ListN.{length, take};
+ghost use Rattle.columns.specs.Columns.{column};
 ghost use Rattle.runs.specs.Flows.{flows};
 ghost use Rattle.steps.specs.Holds.{IsStep, cellAt};
 ghost use Rattle.spec.specs.Lists.{sum};
 ghost use Rattle.spec.specs.Build.{initialOf};
-ghost use Rattle.conditions.specs.Conditions.{Sized, Made};
-ghost use Rattle.playing.specs.Holds.{Added, Whole, Grown, Starts};
+ghost use Rattle.conditions.specs.Conditions.{MadeAt};
+ghost use Rattle.playing.specs.Holds.{AddedAt, Growable, GrownAt};
 use conditions::make_step;
 use conditions::make_times;
 use conditions::take_step;
-
-// Its events, with their transitions and their steps, and its conditions, with their places, producers and consumers, where
-// 128 stands for no event. Of each place, no condition with a number below `next` is free.
-pub struct History {
-    pub events: usize,
-    pub transitions: [u8; 128],
-    pub steps: [u8; 128],
-    pub conditions: usize,
-    pub places: [u8; 512],
-    pub producers: [u8; 512],
-    pub consumers: [u8; 512],
-    pub next: [u16; 32],
-}
+use steps::Extent;
 
 // The events of step k are put behind the first n.
 fn add_events(
@@ -31,75 +20,37 @@ fn add_events(
     step: &[u8; 128],
     count: usize,
     n: usize,
-    transitions: &mut [u8; 128],
+    rec: &mut [u8],
     steps: &mut [u8; 128],
 )
-    requires { ⌜ (k < 256) × (n + count ≤ 128) × (length (now step) ≡ 128) × (length (now transitions) ≡ 128) × (length (now steps) ≡ 128) ⌝ }
-    ensures { λ _. ⌜ Added k (take count (now (step .entry))) n (now (transitions .entry)) (now (steps .entry)) (n + count) (now (transitions .exit)) (now (steps .exit)) ⌝ }
+    requires { ⌜ (k < 256) × (n + count ≤ 128) × (length (now step) ≡ 128) × (1664 ≤ length (now rec)) × (length (now steps) ≡ 128) ⌝ }
+    ensures { λ _. ⌜ AddedAt k (take count (now (step .entry))) n (now (rec .entry)) (now (steps .entry)) (n + count) (now (rec .exit)) (now (steps .exit)) ⌝ }
 {
     let mut i: usize = 0;
     while i < count {
         let at = n + i;
-        transitions[at] = step[i];
+        rec[at] = step[i];
         steps[at] = k as u8;
         i += 1;
     }
 }
 
-// The history after step k.
+// The history after a step, in the lent arrays; how many conditions it has.
 pub fn grow(
-    k: usize,
     step: &[u8; 128],
     count: usize,
-    inputs: &[u8; 1024],
-    outputs: &[u8; 1024],
-    m: usize,
-    h: History,
-) -> History
-    requires { ⌜ (k < 256) × (m ≤ 32) × IsStep (now step) count × (h .events + count ≤ 128) × (h .conditions + length (flows (cellAt (now outputs)) m (h .events) (take count (now step))) ≤ 512) × Whole h ⌝ }
-    ensures { λ r. ⌜ Grown k (take count (now (step .entry))) (now (inputs .entry)) (now (outputs .entry)) m h r ⌝ }
+    arcs: &[u8; 3072],
+    x: Extent,
+    rec: &mut [u8],
+    steps: &mut [u8; 128],
+    counts: &mut [u32; 128],
+) -> usize
+    requires { ⌜ IsStep (now step) count × Growable count (length (flows (cellAt (column 1024 1024 (now arcs))) (x .places) (x .events) (take count (now step)))) x (now rec) (now steps) (now counts) ⌝ }
+    ensures { λ r. ⌜ GrownAt (take count (now (step .entry))) count (now (arcs .entry)) x (now (rec .entry)) (now (steps .entry)) (now (counts .entry)) r (now (rec .exit)) (now (steps .exit)) (now (counts .exit)) ⌝ }
 {
-    let e = h.events;
-    let n = h.conditions;
-    let mut transitions = h.transitions;
-    let mut steps = h.steps;
-    let mut places = h.places;
-    let mut producers = h.producers;
-    let mut consumers = h.consumers;
-    let mut next = h.next;
-    add_events(k, step, count, e, &mut transitions, &mut steps);
-    take_step(
-        e,
-        step,
-        count,
-        inputs,
-        m,
-        n,
-        &places,
-        &mut consumers,
-        &mut next,
-    );
-    let conditions = make_step(
-        e,
-        step,
-        count,
-        outputs,
-        m,
-        n,
-        &mut places,
-        &mut producers,
-        &mut consumers,
-    );
-    History {
-        events: e + count,
-        transitions,
-        steps,
-        conditions,
-        places,
-        producers,
-        consumers,
-        next,
-    }
+    add_events(x.line, step, count, x.events, rec, steps);
+    take_step(step, count, arcs, x, rec, counts);
+    make_step(step, count, arcs, x, rec)
 }
 
 fn wider(x: u16) -> usize
@@ -109,42 +60,15 @@ fn wider(x: u16) -> usize
 }
 
 // The conditions of the initial marking, by place; how many there are.
-fn initial(
-    tokens: &[u16; 32],
-    m: usize,
-    places: &mut [u8; 512],
-    producers: &mut [u8; 512],
-    consumers: &mut [u8; 512],
-) -> usize
-    requires { ⌜ (m ≤ 32) × (length (now tokens) ≡ 32) × (sum (take m (now tokens)) ≤ 512) × Sized (now places) (now producers) (now consumers) ⌝ }
-    ensures { λ r. ⌜ Made (initialOf 0 (take m (now (tokens .entry)))) 0 (now (places .entry)) (now (producers .entry)) (now (consumers .entry)) r (now (places .exit)) (now (producers .exit)) (now (consumers .exit)) ⌝ }
+pub fn start(tokens: &[u16; 32], m: usize, rec: &mut [u8]) -> usize
+    requires { ⌜ (m ≤ 32) × (length (now tokens) ≡ 32) × (sum (take m (now tokens)) ≤ 512) × (1664 ≤ length (now rec)) ⌝ }
+    ensures { λ r. ⌜ MadeAt (initialOf 0 (take m (now (tokens .entry)))) 0 (now (rec .entry)) r (now (rec .exit)) ⌝ }
 {
     let mut r: usize = 0;
     let mut p: usize = 0;
     while p < m {
-        r = make_times(128, p, wider(tokens[p]), r, places, producers, consumers);
+        r = make_times(128, p, wider(tokens[p]), r, rec);
         p += 1;
     }
     r
-}
-
-// The history before the first step.
-pub fn start(tokens: &[u16; 32], m: usize) -> History
-    requires { ⌜ (m ≤ 32) × (length (now tokens) ≡ 32) × (sum (take m (now tokens)) ≤ 512) ⌝ }
-    ensures { λ r. ⌜ Starts (take m (now (tokens .entry))) r ⌝ }
-{
-    let mut places = [0u8; 512];
-    let mut producers = [0u8; 512];
-    let mut consumers = [0u8; 512];
-    let conditions = initial(tokens, m, &mut places, &mut producers, &mut consumers);
-    History {
-        events: 0,
-        transitions: [0u8; 128],
-        steps: [0u8; 128],
-        conditions,
-        places,
-        producers,
-        consumers,
-        next: [0u16; 32],
-    }
 }

@@ -1,4 +1,2 @@
 pub mod Rows
-pub mod Playing
 pub mod Held
-pub mod Lent

@@ -1,6 +1,6 @@
 -- Rows of an array of arcs, one for each event of a step, added up.
 use Prim.Native.Nat.{ℕ, _+_, _*_, _≤_, _<_}
-use mathlib.Core.Path.{_≡_, sym, ap₂, _∙_, subst}
+use mathlib.Core.Path.{_≡_, sym, ap, ap₂, _∙_, subst}
 use mathlib.Core.List.{List, []}
 use native.Mathlib.Nat.{le-refl}
 use native.Mathlib.Omega.{arith}
@@ -11,9 +11,14 @@ use Rattle.spec.specs.Lists.{sumOf}
 use Rattle.lists.specs.Arrays.{blank}
 use Rattle.lists.specs.Along.{sumOf-more}
 use Rattle.lists.specs.Mapped.{mapped-none, mapped-more}
+use Rattle.columns.specs.Columns.{column, column-at}
 use Rattle.steps.specs.Holds.{cellAt, added, Adds, Sums}
 
 -- ---- one row
+
+-- a cell of a kind of arcs, as the code reads it
+pub cell-read : (arcs : List ℕ) (at t p : ℕ) → t < 32 → p < 32 → getD arcs (at + 32 * t + p) 0 ≡ getD (column at 1024 arcs) (32 * t + p) 0
+cell-read arcs at t p h l = ap (λ (i : ℕ). getD arcs i 0) (omega arith) ∙ sym (column-at at 1024 arcs (32 * t + p) (omega arith))
 
 module _ (cells : List ℕ) (t : ℕ) where
   pub adds-none : (xs : List ℕ) → Adds cells t 0 xs xs
@@ -29,6 +34,13 @@ module _ (cells : List ℕ) (t : ℕ) where
 
   pub adds-end : {old new : List ℕ} {i n : ℕ} → i ≡ n → Adds cells t i old new → Adds cells t n old new
   adds-end {old} {new} e a = subst (λ (k : ℕ). Adds cells t k old new) e a
+
+pub input-read : (arcs : List ℕ) (t p : ℕ) → t < 32 → p < 32 → getD arcs (32 * t + p) 0 ≡ getD (column 0 1024 arcs) (32 * t + p) 0
+input-read arcs t p h l = ap (λ (i : ℕ). getD arcs i 0) (omega arith) ∙ cell-read arcs 0 t p h l
+
+-- the marking is the first column of the counts by place
+pub token-read : (counts : List ℕ) (p : ℕ) → p < 32 → getD (column 0 32 counts) p 0 ≡ getD counts p 0
+token-read counts p h = column-at 0 32 counts p h ∙ ap (λ (i : ℕ). getD counts i 0) (omega arith)
 
 -- ---- all rows
 

@@ -8,8 +8,8 @@ use lib.Dec.{ltb}
 use Rattle.spec.specs.Lists.{any, sumOf, upTo, asCount}
 use Rattle.spec.specs.Net.{Net, places, takes, makes, inhibits}
 use Rattle.lists.specs.Mapped.{Mapped}
+use Rattle.columns.specs.Columns.{column}
 use Rattle.net.specs.Holds.{Cells}
-use Rattle.steps.specs.declared.Marking.{Marking}
 
 -- ---- a step
 
@@ -53,6 +53,10 @@ pub record Arcs (N : Net) (is os hs : List ℕ) (m : ℕ) : Type 0 where
   pub outputs : Cells os (makes N)
   pub inhibitors : Cells hs (λ t p. asCount (inhibits N p t))
 
+-- one array holds them all: its inputs, its outputs and its inhibitors, kind after kind
+abbrev pub ArcsAt : Net → List ℕ → ℕ → Type 0
+ArcsAt N arcs m = Arcs N (column 0 1024 arcs) (column 1024 1024 arcs) (column 2048 1024 arcs) m
+
 -- ---- a marking
 
 -- an array has the token counts of a marking of n places, and 0 beyond
@@ -73,10 +77,6 @@ blocks xs guards places = any (λ p. ltb 0 (getD xs p 0) && ltb 0 (getD guards p
 -- the tokens of place p once those taken are gone and those made are there
 unfoldable pub moved : List ℕ → List ℕ → List ℕ → ℕ → ℕ
 moved xs taken made p = getD xs p 0 - getD taken p 0 + getD made p 0
-
--- one marking is the other after a step, at the first places
-abbrev pub Plays : ℕ → List ℕ → List ℕ → Marking → Marking → Type 0
-Plays places taken made m r = Mapped (m .counts) places (moved (m .counts) taken made) (r .counts)
 
 -- what playing relies on: enough tokens are there, and those made fit
 pub record Playable (places : ℕ) (xs taken made : List ℕ) : Type 0 where

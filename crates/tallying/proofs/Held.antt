@@ -15,8 +15,7 @@ use Rattle.steps.proofs.Held.{cells-are, cells-summed}
 use Rattle.runs.specs.Flows.{flows, flows-sum}
 use Rattle.runs.specs.Consume.{made-of, makeAll-makings, count-blind}
 use Rattle.runs.specs.Built.{Good}
-use Rattle.tallying.specs.Tally.{heldIn, watchedFrom, ownOf, ownAll, bothAt, bothOf, timesAt, AtMost, Small, Tallies, Tallied}
-use Rattle.tallying.specs.declared.Tally.{Tally}
+use Rattle.tallying.specs.Tally.{heldIn, watchedFrom, ownOf, ownAll, bothAt, bothOf, timesAt, AtMost, Tally, Small, Tallies, Tallied}
 use Rattle.tallying.proofs.Marks.{marks-counted}
 
 -- ---- the tally after a step

@@ -1,3 +1,4 @@
 pub mod Marks
 pub mod Tallying
+pub mod Places
 pub mod Held

@@ -5,6 +5,7 @@ use mathlib.Core.Bool.{Bool, true, false, cond}
 use mathlib.Core.List.{List, [], _∷_, _++_, append-assoc, append-nil}
 use native.Mathlib.Numerals.{add-one}
 use native.Mathlib.Nat.{add-zero, le-of-eq}
+use native.Mathlib.Decide.{decLt}
 use native.Mathlib.Omega.{arith}
 use lib.Dec.{ltb}
 use lib.ListN.{length, set, take, drop, getD, length-set, length-append}
@@ -14,7 +15,7 @@ use Rattle.spec.specs.Text.{digit, digits, fieldsBytes, fieldBytes}
 use Rattle.spec.specs.Buffer.{over}
 use Rattle.spec.specs.declared.Field.{Field}
 use Rattle.spec.specs.declared.Field.the-variants.{Number, Dash, Wrong, Absent}
-use Rattle.writing.specs.Written.{putAt, Wrote, lineBytes}
+use Rattle.writing.specs.Written.{putAt, Wrote, lastTwo, lineBytes}
 
 -- ---- writes
 
@@ -53,12 +54,20 @@ pub one : (old : List ℕ) (at b : ℕ) → Wrote old at (b ∷ []) (at + 1) (se
 unfolding putAt
 one old at b = record { next = refl; bytes = refl }
 
+pub two : (old : List ℕ) (at a b : ℕ) → Wrote old at (a ∷ b ∷ []) (at + 2) (set (set old at a) (at + 1) b)
+unfolding putAt
+two old at a b = record { next = refl; bytes = refl }
+
 -- a write, and another where it ended
 pub after : {old mid new : List ℕ} {at i r : ℕ} {xs ys : List ℕ} → Wrote old at xs i mid → Wrote mid i ys r new → Wrote old at (xs ++ ys) r new
 after {old} {at} {xs} {ys} a b = record {
   next = omega (arith, length-append xs ys, a .next, b .next);
   bytes = b .bytes ∙ ap₂ (λ (m : List ℕ) (k : ℕ). putAt m k ys) (a .bytes) (a .next) ∙ put-put old at xs ys;
 }
+
+-- where two writes fit, the second fits after the first
+pub room-after : {old new : List ℕ} {at r : ℕ} {xs : List ℕ} (ys : List ℕ) → Wrote old at xs r new → at + length (xs ++ ys) ≤ length old → r + length ys ≤ length new
+room-after {xs = xs} ys w h = omega (arith, length-append xs ys, w .next, wrote-length w)
 
 -- ---- numbers
 
@@ -67,92 +76,38 @@ unfolding digits digit
 digits-low zero n h l = absurd (omega arith)
 digits-low (suc most) n h l = rw (lt-ltb n 10 l)
 
-pub digits-high : (most n : ℕ) → 0 < most → 10 ≤ n → digits most n ≡ digits (most - 1) (n / 10) ++ (48 + n % 10) ∷ []
+digits-high : (most n : ℕ) → 0 < most → 10 ≤ n → digits most n ≡ digits (most - 1) (n / 10) ++ (48 + n % 10) ∷ []
 unfolding digits digit
 digits-high zero n h l = absurd (omega arith)
 digits-high (suc most) n h l = let e : suc most - 1 ≡ most = omega arith in rw (le-ltb n 10 l, e)
 
-pub digits-none : (most n : ℕ) → most ≡ 0 → digits most n ≡ []
+digits-none : (n : ℕ) → digits 0 n ≡ []
 unfolding digits
-digits-none most n e = rw e
+digits-none n = refl
 
--- how many digits are written, one after the other
-pub count-one : (most n count : ℕ) → count < most → n < 10 → length (digits (most - count) n) ≡ 1
-count-one most n count h l = ap length (digits-low (most - count) n (omega arith) l)
+-- what stands before the last digit
+digits-more : (most n : ℕ) {xs : List ℕ} → 0 < most → 10 ≤ n → digits (most - 1) (n / 10) ≡ xs → digits most n ≡ xs ++ (48 + n % 10) ∷ []
+digits-more most n h l e = digits-high most n h l ∙ ap (λ (ys : List ℕ). ys ++ (48 + n % 10) ∷ []) e
 
-pub count-more : (most n count : ℕ) → count < most → 10 ≤ n → length (digits (most - count) n) ≡ length (digits (most - (count + 1)) (n / 10)) + 1
-count-more most n count h l =
-    let e : most - count - 1 ≡ most - (count + 1) = omega arith in
-    ap length (digits-high (most - count) n (omega arith) l) ∙ length-append (digits (most - count - 1) (n / 10)) ((48 + n % 10) ∷ []) ∙ rw e
+-- numbers of two, three and four digits
+pub digits-two : (n : ℕ) → 10 ≤ n → n < 100 → digits 4 n ≡ lastTwo n
+digits-two n h l = let q : n / 10 % 10 ≡ n / 10 = omega arith in rw q (digits-more 4 n (omega arith) h (digits-low 3 (n / 10) (omega arith) (omega arith)))
 
-pub count-none : (most n count : ℕ) → most ≤ count → length (digits (most - count) n) ≡ 0
-count-none most n count h = let e : most - count ≡ 0 = omega arith in ap length (digits-none (most - count) n e)
+pub digits-three : (n : ℕ) → 100 ≤ n → n < 1000 → digits 4 n ≡ (48 + n / 100) ∷ lastTwo n
+digits-three n h l =
+    let q : n / 10 / 10 ≡ n / 100 = omega arith in
+    rw (← q) (digits-more 4 n (omega arith) (omega arith) (digits-more 3 (n / 10) (omega arith) (omega arith) (digits-low 2 (n / 10 / 10) (omega arith) (omega arith))))
 
--- a value put behind a write, before or after it
-behind : (old : List ℕ) (at j d : ℕ) (xs : List ℕ) → at + length xs ≤ j → putAt (set old j d) at xs ≡ set (putAt old at xs) j d
-unfolding putAt
-behind old at j d [] h = refl
-behind old at j d (x ∷ xs) h =
-    ap (λ (s : List ℕ). putAt s (at + 1) xs) (set-comm old j at d x (λ e. absurd (omega (arith, e)))) ∙ behind (set old at x) (at + 1) j d xs (omega arith)
+digits-last : (n : ℕ) → digits 1 n ≡ (48 + n % 10) ∷ []
+digits-last n = elim (decLt n 10) [
+  | yes l ↦ digits-low 1 n (omega arith) l ∙ ap (λ (z : ℕ). (48 + z) ∷ []) (omega arith)
+  | no d ↦ digits-more 1 n (omega arith) (omega arith) (digits-none (n / 10))
+]
 
-put-snoc : (old : List ℕ) (at d : ℕ) (xs : List ℕ) → putAt (set old (at + length xs) d) at xs ≡ putAt old at (xs ++ d ∷ [])
-unfolding putAt
-put-snoc old at d xs = behind old at (at + length xs) d xs (omega arith) ∙ put-put old at xs (d ∷ [])
-
--- The digits written from their end on: what is left to write is the digits of the rest, before position i.
-pub record Left (old : List ℕ) (at most n : ℕ) (i rest : ℕ) (now : List ℕ) : Type 0 where
-  pub least : ℕ
-  pub size : i ≡ at + length (digits least rest)
-  pub bytes : putAt now at (digits least rest) ≡ putAt old at (digits most n)
-
-module _ {old : List ℕ} {at most n : ℕ} where
-  pub left-all : (i : ℕ) → i ≡ length (digits most n) → Left old at most n (at + i) n old
-  left-all i e = record { least = most; size = ap (λ (z : ℕ). at + z) e; bytes = refl }
-
-  pub left-none : {rest : ℕ} {now : List ℕ} {i : ℕ} → i ≤ at → Left old at most n i rest now → now ≡ putAt old at (digits most n)
-  left-none {rest} {now} h l = go (digits (l .least) rest) (omega (arith, l .size)) (l .bytes)
-    where
-      go : (xs : List ℕ) → length xs ≡ 0 → putAt now at xs ≡ putAt old at (digits most n) → now ≡ putAt old at (digits most n)
-      go [] e b = unfold putAt in b
-      go (x ∷ xs) e b = absurd (omega (arith, e))
-
-  module _ {i rest : ℕ} (now : List ℕ) (h : at < i) where
-    -- the last digit of the rest is written, and the others are left
-    left-low : (m : ℕ) → rest < 10 → i ≡ at + length (digits (suc m) rest) → putAt now at (digits (suc m) rest) ≡ putAt old at (digits most n)
-        → Left old at most n (i - 1) (rest / 10) (set now (i - 1) (48 + rest % 10))
-    unfolding putAt
-    left-low m l e b =
-        let d = digits-low (suc m) rest (omega arith) l in
-        let k : i - 1 ≡ at = omega (arith, e, ap length d) in
-        let z : rest % 10 ≡ rest = omega arith in
-        record {
-          least = 0;
-          size = rw (digits-none 0 (rest / 10) refl, k) (omega arith);
-          bytes = rw (digits-none 0 (rest / 10) refl, k, z) (ap (putAt now at) (sym d) ∙ b);
-        }
-
-    left-high : (m : ℕ) → 10 ≤ rest → i ≡ at + length (digits (suc m) rest) → putAt now at (digits (suc m) rest) ≡ putAt old at (digits most n)
-        → Left old at most n (i - 1) (rest / 10) (set now (i - 1) (48 + rest % 10))
-    left-high m l e b =
-        let d = digits-high (suc m) rest (omega arith) l in
-        let p : suc m - 1 ≡ m = omega arith in
-        let xs = digits m (rest / 10) in
-        let f : digits (suc m) rest ≡ xs ++ (48 + rest % 10) ∷ [] = d ∙ ap (λ (k : ℕ). digits k (rest / 10) ++ (48 + rest % 10) ∷ []) p in
-        let k : i - 1 ≡ at + length xs = omega (arith, e, ap length f, length-append xs ((48 + rest % 10) ∷ [])) in
-        record { least = m; size = k; bytes = rw k (put-snoc now at (48 + rest % 10) xs ∙ ap (putAt now at) (sym f) ∙ b) }
-
-    pub left-on : Left old at most n i rest now → Left old at most n (i - 1) (rest / 10) (set now (i - 1) (48 + rest % 10))
-    left-on l = go (l .least) (l .size) (l .bytes)
-      where
-        by-size : (m : ℕ) (t : Bool) → ltb rest 10 ≡ t → i ≡ at + length (digits (suc m) rest) → putAt now at (digits (suc m) rest) ≡ putAt old at (digits most n)
-            → Left old at most n (i - 1) (rest / 10) (set now (i - 1) (48 + rest % 10))
-        by-size m true t e b = left-low m (ltb-true rest 10 t) e b
-        by-size m false t e b = left-high m (ltb-false rest 10 t) e b
-
-        go : (m : ℕ) → i ≡ at + length (digits m rest) → putAt now at (digits m rest) ≡ putAt old at (digits most n)
-            → Left old at most n (i - 1) (rest / 10) (set now (i - 1) (48 + rest % 10))
-        go zero e b = absurd (omega (arith, e, ap length (digits-none 0 rest refl)))
-        go (suc m) e b = by-size m (ltb rest 10) refl e b
+pub digits-four : (n : ℕ) → 1000 ≤ n → digits 4 n ≡ lastTwo (n / 100) ++ lastTwo n
+digits-four n h =
+    let q : n / 10 / 10 ≡ n / 100 = omega arith in
+    rw (← q) (digits-more 4 n (omega arith) (omega arith) (digits-more 3 (n / 10) (omega arith) (omega arith) (digits-more 2 (n / 10 / 10) (omega arith) (omega arith) (digits-last (n / 10 / 10 / 10)))))
 
 -- ---- fields
 
@@ -180,6 +135,15 @@ fields-append (x ∷ xs) ys = ap (λ l. 44 ∷ l) (ap (λ l. fieldBytes x ++ l) 
 pub field-one : (f : Field) → fieldsBytes (f ∷ []) ≡ 44 ∷ fieldBytes f
 unfolding fieldsBytes
 field-one f = ap (λ l. 44 ∷ l) (append-nil (fieldBytes f))
+
+-- a comma and a number
+pub next-bytes : (n : ℕ) → fieldsBytes (Number n ∷ []) ≡ 44 ∷ digits 4 n
+unfolding fieldBytes
+next-bytes n = field-one (Number n)
+
+-- the first field, and what stands behind it
+pub fields-front : (f : Field) (fs : List Field) (ys : List ℕ) → fieldsBytes (f ∷ fs) ++ ys ≡ fieldsBytes (f ∷ []) ++ (fieldsBytes fs ++ ys)
+fields-front f fs ys = ap (λ (l : List ℕ). l ++ ys) (fields-append (f ∷ []) fs) ∙ append-assoc (fieldsBytes (f ∷ [])) (fieldsBytes fs) ys
 
 -- one field more
 pub fields-more : (fs : List Field) (i : ℕ) (d : Field) → i < length fs → fieldsBytes (take (i + 1) fs) ≡ fieldsBytes (take i fs) ++ fieldsBytes (getD fs i d ∷ [])

@@ -1,6 +1,6 @@
 -- What a write leaves behind.
 use mathlib.Core.Path.{_≡_}
-use Prim.Native.Nat.{ℕ, _+_}
+use Prim.Native.Nat.{ℕ, _+_, _/_, _%_}
 use mathlib.Core.List.{List, [], _∷_, _++_}
 use lib.ListN.{length, set}
 use Rattle.spec.specs.Text.{fieldsBytes}
@@ -15,6 +15,10 @@ putAt old at (b ∷ bs) = putAt (set old at b) (at + 1) bs
 pub record Wrote (old : List ℕ) (at : ℕ) (bs : List ℕ) (r : ℕ) (new : List ℕ) : Type 0 where
   pub next : r ≡ at + length bs
   pub bytes : new ≡ putAt old at bs
+
+-- the last two digits of a number
+abbrev pub lastTwo : ℕ → List ℕ
+lastTwo n = (48 + n / 10 % 10) ∷ (48 + n % 10) ∷ []
 
 -- the line with this letter, as its byte, and these fields
 abbrev pub lineBytes : ℕ → List Field → List ℕ

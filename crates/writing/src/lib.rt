@@ -4,7 +4,8 @@ ghost use Prim.Native.Nat.{_+_, _<_, _≤_};
 ghost use mathlib.Core.List.{_∷_, []};
 ghost use lib.ListN.{length, take};
 ghost use Rattle.spec.specs.Text.{digits, fieldBytes, fieldsBytes};
-ghost use Rattle.writing.specs.Written.{Wrote, lineBytes};
+ghost use Rattle.spec.specs.declared.Field.the-variants.{Number};
+ghost use Rattle.writing.specs.Written.{Wrote, lastTwo, lineBytes};
 use spec::Field;
 
 pub fn put_byte(out: &mut [u8], at: usize, b: u8) -> usize
@@ -15,36 +16,42 @@ pub fn put_byte(out: &mut [u8], at: usize, b: u8) -> usize
     at + 1
 }
 
-// How many digits a number is written with, where only the last `most` of them are written.
-fn digit_count(most: usize, n: usize) -> usize
-    ensures { λ r. ⌜ (r ≡ length (digits most n)) × (r ≤ most) ⌝ }
+// The last two digits of a number in base ten.
+fn put_two(out: &mut [u8], at: usize, n: usize) -> usize
+    requires { ⌜ at + 2 ≤ length (now out) ⌝ }
+    ensures { λ r. ⌜ Wrote (now (out .entry)) at (lastTwo n) r (now (out .exit)) ⌝ }
 {
-    let mut count: usize = 0;
-    let mut rest = n;
-    while count < most {
-        count += 1;
-        if rest < 10 {
-            return count;
-        }
-        rest = rest / 10;
-    }
-    count
+    out[at] = (48 + n / 10 % 10) as u8;
+    out[at + 1] = (48 + n % 10) as u8;
+    at + 2
 }
 
-// The last `most` digits of a number in base ten, without leading zeros: the last one first, from their end on.
-pub fn put_digits(out: &mut [u8], at: usize, most: usize, n: usize) -> usize
-    requires { ⌜ at + length (digits most n) ≤ length (now out) ⌝ }
-    ensures { λ r. ⌜ Wrote (now (out .entry)) at (digits most n) r (now (out .exit)) ⌝ }
+// A number in base ten without leading zeros; of one from 10,000 on the last four digits.
+fn put_number(out: &mut [u8], at: usize, n: usize) -> usize
+    requires { ⌜ at + length (digits 4 n) ≤ length (now out) ⌝ }
+    ensures { λ r. ⌜ Wrote (now (out .entry)) at (digits 4 n) r (now (out .exit)) ⌝ }
 {
-    let end = at + digit_count(most, n);
-    let mut i = end;
-    let mut rest = n;
-    while at < i {
-        i -= 1;
-        out[i] = (48 + rest % 10) as u8;
-        rest = rest / 10;
+    if n < 10 {
+        return put_byte(out, at, (48 + n) as u8);
     }
-    end
+    if n < 100 {
+        return put_two(out, at, n);
+    }
+    if n < 1000 {
+        let next = put_byte(out, at, (48 + n / 100) as u8);
+        return put_two(out, next, n);
+    }
+    let next = put_two(out, at, n / 100);
+    put_two(out, next, n)
+}
+
+// A comma and the number behind it.
+pub fn put_next(out: &mut [u8], at: usize, n: usize) -> usize
+    requires { ⌜ at + length (fieldsBytes (Number n ∷ [])) ≤ length (now out) ⌝ }
+    ensures { λ r. ⌜ Wrote (now (out .entry)) at (fieldsBytes (Number n ∷ [])) r (now (out .exit)) ⌝ }
+{
+    let digits = put_byte(out, at, b',');
+    put_number(out, digits, n)
 }
 
 // The bytes of a field.
@@ -53,7 +60,7 @@ fn put_value(out: &mut [u8], at: usize, f: Field) -> usize
     ensures { λ r. ⌜ Wrote (now (out .entry)) at (fieldBytes f) r (now (out .exit)) ⌝ }
 {
     match f {
-        Field::Number(n) => put_digits(out, at, 4, n),
+        Field::Number(n) => put_number(out, at, n),
         Field::Dash => put_byte(out, at, b'-'),
         Field::Wrong => at,
         Field::Absent => at,

@@ -1,30 +1,34 @@
+-- So many as were counted are made.
 use Prim.Native.Nat.{_+_, _-_, _≤_}
 use mathlib.Core.Path.{_≡_, refl}
 use native.Mathlib.Omega.{arith}
-use lib.ListN.{replicate}
-use Rattle.conditions.specs.Conditions.{fresh, Made}
-use Rattle.conditions.proofs.Making.{made-nothing, made-one, made-again, made-as}
+use lib.ListN.{replicate, length-set}
+use Rattle.conditions.specs.Conditions.{fresh, MadeAt}
+use Rattle.conditions.proofs.Lent.{makes-nothing, makes-one, makes-again, makes-as}
 use Rattle.conditions.proofs.make_times.Statement.{statement}
 use Rattle.conditions.proofs.make_times.Tie as tie
 
 abbrev Inv-loop : tie.InvT-loop
-Inv-loop v p count n places₀ producers₀ consumers₀ k₀ places producers consumers k =
-    (k ≤ count) × Made (replicate k (fresh v p)) n places₀ producers₀ consumers₀ (n + k) places producers consumers
+Inv-loop v p count n rec₀ k₀ rec k = (k ≤ count) × MadeAt (replicate k (fresh v p)) n rec₀ (n + k) rec
 
 abbrev μ-loop : tie.MeasureT-loop
-μ-loop v p count n places₀ producers₀ consumers₀ k₀ places producers consumers k = count - k
+μ-loop v p count n rec₀ k₀ rec k = count - k
 
 pub make-times-spec : {M : Type 1} → statement M
 make-times-spec = tie.close (tie.spec Inv-loop μ-loop
-    (λ c. (omega arith, made-as (made-nothing (c .pre .2)) refl (omega arith)))
+    (λ c. (omega arith, makes-as (makes-nothing (c .pre .2)) refl (omega arith)))
     (λ c. omega arith)
     (λ c. omega arith)
     (λ c. omega arith)
+    (λ c. omega (arith, c .before .loop .inv .1 .long))
+    (λ c. omega arith)
+    (λ c. simp length-set (omega (arith, c .before .loop .inv .1 .long)))
+    (λ c. omega arith)
+    (λ c. simp length-set (omega (arith, c .before .loop .inv .1 .long)))
     (λ c. omega arith)
     (λ c. omega arith)
+    (λ c. let l = c .before in let M = l .loop .inv .1 in
+    (omega arith, makes-as (makes-again (l .loop .k) M (makes-one _ _ _ _ (omega (arith, M .long)) (omega arith))) refl (omega arith)))
     (λ c. omega arith)
-    (λ c. omega arith)
-    (λ c. let l = c .before in
-    (omega arith, made-as (made-again (l .loop .k) (l .loop .inv .1) (made-one _ _ _ _ _ _ (l .loop .inv .1 .sized) (omega arith))) refl (omega arith)))
-    (λ c. omega arith)
-    (λ c. let l = c .before in let e : l .loop .k ≡ l .before .args .count = omega arith in made-as (l .loop .inv .1) (rw e) (rw e)))
+    (λ c. c .before .loop .inv .1 .long)
+    (λ c. let l = c .before in let e : l .loop .k ≡ l .before .args .count = omega arith in makes-as (l .loop .inv .1) (rw e) (rw e)))

@@ -1,6 +1,9 @@
+-- The cursor says where to look, and what is found is taken.
+use mathlib.Core.Path.{sym, _∙_}
 use native.Mathlib.Omega.{arith}
-use borrow.Author.Needs.{needs}
-use Rattle.conditions.proofs.Taking.{took-none, took-one}
+use lib.ListN.{length-set}
+use Rattle.columns.specs.Columns.{column-at}
+use Rattle.conditions.proofs.Lent.{takes-none, takes-one}
 use Rattle.conditions.proofs.take_one.Statement.{statement}
 use Rattle.conditions.proofs.take_one.Tie as tie
 
@@ -8,14 +11,21 @@ pub take-one-spec : {M : Type 1} → statement M
 take-one-spec = tie.close (tie.spec
     (λ c. omega arith)
     (λ c. omega arith)
+    (λ c. omega arith)
     (λ c κs. tt)
-    (λ c κs. let s = c .before .before .before in (omega (arith, s .pre .2 .cursors .within (s .args .p)), s .pre .2 .few))
-    (λ c. let f = c .before in let w = f .before .before in took-none _ _ _ _ _ _ _ _ (w .before .before .pre .2) (w .wider .ensures) (f .first-free .ensures) (c .if1 .taken))
-    (λ c. search needs)
-    (λ c. search needs)
-    (λ c. search needs)
-    (λ c. search needs)
-    (λ c. search needs)
-    (λ c. search needs)
-    (λ c. let f = c .before in let w = f .before .before in let s = w .before .before in
-    took-one _ _ _ _ _ _ _ _ (s .pre .2) (w .wider .ensures) (f .first-free .ensures) (s .pre .0) (s .pre .1) (c .if1 .left)))
+    (λ c κs. let w = c .before in let s = w .before .before .before in let R = s .pre .2 in
+    (omega (arith, w .wider .ensures, column-at 96 32 (s .args .counts .now) (s .args .p) (s .pre .1), R .ready .cursors .within (s .args .p)), R .ready .few, R .long))
+    (λ c. omega arith)
+    (λ c. let f = c .before in let w = f .before .before in let s = w .before .before .before in
+    takes-none _ _ _ _ _ _ _ (s .pre .2) (w .wider .ensures ∙ sym (column-at 96 32 (s .args .counts .now) (s .args .p) (s .pre .1))) (f .first-free .ensures) (c .if1 .taken))
+    (λ c. omega arith)
+    (λ c. omega arith)
+    (λ c. omega arith)
+    (λ c. omega arith)
+    (λ c. omega arith)
+    (λ c. omega arith)
+    (λ c. omega arith)
+    (λ c. omega arith)
+    (λ c. length-set (c .before .before .before .before .before .before .args .rec .now) _ _)
+    (λ c. let f = c .before in let w = f .before .before in let s = w .before .before .before in
+    takes-one _ _ _ _ _ _ _ (s .pre .2) (w .wider .ensures ∙ sym (column-at 96 32 (s .args .counts .now) (s .args .p) (s .pre .1))) (f .first-free .ensures) (s .pre .0) (s .pre .1) (c .if1 .left)))

@@ -1,5 +1,10 @@
+-- The tokens are the marking and the first conditions.
+use mathlib.Core.Path.{_≡_, refl, sym, _∙_}
+use native.Mathlib.Omega.{arith}
 use borrow.Author.Needs.{needs}
-use Rattle.logs.proofs.Beginning.{begins}
+use Rattle.columns.specs.Columns.{column-length}
+use Rattle.playing.proofs.Starting.{starts}
+use Rattle.logs.proofs.Beginning.{begins, put-long, put-marking, put-held, put-blank, put-cursors}
 use Rattle.logs.proofs.begin.Statement.{statement}
 use Rattle.logs.proofs.begin.Tie as tie
 
@@ -7,4 +12,15 @@ pub begin-spec : {M : Type 1} → statement M
 begin-spec = tie.close (tie.spec
     (λ c κs. search needs)
     (λ c κs. search needs)
-    (λ c N h. begins N h (c .before .marking-of .ensures) (c .start .ensures)))
+    (λ c κs. search needs)
+    (λ c. search needs)
+    (λ c. let st = c .before .before in let d = st .before .before in let a = d .before .before in let s = a .before .before .before in let B = s .pre in let A = a .put-tokens .ensures in let C = d .put-tokens2 .ensures in
+    record {
+      places = refl;
+      transitions = refl;
+      line = refl;
+      long = st .start .ensures .long;
+      wide = put-long B A C;
+      begins = λ steps k N h. begins N h _ (put-long B A C) (put-held B A C) (λ p l. put-blank B A C 64 p (omega arith) l) (put-marking B A C)
+          (starts (B .most) (B .long) k (column-length 96 32 _ (omega (arith, put-long B A C))) (put-cursors B A C) (st .start .ensures));
+    }))

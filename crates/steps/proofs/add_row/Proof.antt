@@ -1,31 +1,34 @@
 use Prim.Native.Nat.{_-_, _≤_}
+use mathlib.Core.Path.{_∙_}
 use native.Mathlib.Nat.{le-refl}
 use native.Mathlib.Omega.{arith}
+use Rattle.columns.specs.Columns.{column}
 use Rattle.steps.specs.Holds.{Adds}
-use Rattle.steps.proofs.Rows.{adds-none, adds-more, adds-end}
+use Rattle.steps.proofs.Rows.{cell-read, adds-none, adds-more, adds-end}
 use Rattle.steps.proofs.add_row.Statement.{statement}
 use Rattle.steps.proofs.add_row.Tie as tie
 
 abbrev Inv-loop : tie.InvT-loop
-Inv-loop sums₀ cells t p₀ sums p = (p ≤ 32) × Adds cells t p sums₀ sums
+Inv-loop sums₀ arcs at t row p₀ sums p = (p ≤ 32) × Adds (column at 1024 arcs) t p sums₀ sums
 
 abbrev μ-loop : tie.MeasureT-loop
-μ-loop sums₀ cells t p₀ sums p = 32 - p
+μ-loop sums₀ arcs at t row p₀ sums p = 32 - p
 
 pub add-row-spec : {M : Type 1} → statement M
 add-row-spec = tie.close (tie.spec Inv-loop μ-loop
-    (λ c. (omega arith, adds-none _ _ _))
     (λ c. omega arith)
+    (λ c. omega arith)
+    (λ c. (omega arith, adds-none _ _ _))
     (λ c. omega arith)
     (λ c. omega arith)
     (λ c κs. tt)
     (λ c. omega arith)
     (λ c. omega arith)
     (λ c. let l = c .before .before .before .before in
-    omega (arith, l .loop .inv .1 .mapped .beyond (l .loop .p) (le-refl (l .loop .p)), l .before .pre .2 (l .loop .p) (omega arith), c .before .wide .ensures .1))
+    omega (arith, l .loop .inv .1 .mapped .beyond (l .loop .p) (le-refl (l .loop .p)), l .before .pre .3 (l .loop .p) (omega arith), c .before .wide .ensures .1))
     (λ c. omega arith)
     (λ c. omega arith)
     (λ c. omega arith)
-    (λ c. let l = c .before .before .before .before in
-    (omega arith, adds-more _ _ _ (omega arith) (c .before .wide .ensures .0) (c .before .wide .ensures .1) (l .loop .inv .1)))
+    (λ c. let l = c .before .before .before .before in let a = l .before .args in
+    (omega arith, adds-more _ _ _ (omega arith) (c .before .wide .ensures .0 ∙ cell-read (a .arcs .now) (a .at) (a .t) (l .loop .p) (omega arith) (omega arith)) (c .before .wide .ensures .1) (l .loop .inv .1)))
     (λ c. adds-end _ _ (omega arith) (c .before .loop .inv .1)))

@@ -1,5 +1,5 @@
 use Prim.Native.Nat.{ℕ, _-_, _≤_}
-use mathlib.Core.Path.{_≡_, sym, _∙_}
+use mathlib.Core.Path.{_≡_, sym, ap, _∙_}
 use mathlib.Core.Bool.{Bool, _&&_}
 use mathlib.Core.List.{List}
 use native.Mathlib.Omega.{arith}
@@ -7,7 +7,9 @@ use lib.Dec.{ltb}
 use lib.ListN.{getD}
 use Rattle.spec.specs.Lists.{any, from}
 use Rattle.lists.specs.Search.{any-start, any-hit, any-on, any-end}
+use Rattle.columns.specs.Columns.{column}
 use Rattle.steps.specs.Holds.{blocks}
+use Rattle.steps.proofs.Rows.{token-read}
 use Rattle.steps.proofs.inhibited.Statement.{statement}
 use Rattle.steps.proofs.inhibited.Tie as tie
 
@@ -19,10 +21,10 @@ unfolding blocks
 starts xs ys n = any-start (both xs ys) n
 
 abbrev Inv-loop : tie.InvT-loop
-Inv-loop marking guards places p₀ p = (p ≤ places) × (any (both marking guards) (from p (places - p)) ≡ blocks marking guards places)
+Inv-loop counts guards places p₀ p = (p ≤ places) × (any (both (column 0 32 counts) guards) (from p (places - p)) ≡ blocks (column 0 32 counts) guards places)
 
 abbrev μ-loop : tie.MeasureT-loop
-μ-loop marking guards places p₀ p = places - p
+μ-loop counts guards places p₀ p = places - p
 
 pub inhibited-spec : {M : Type 1} → statement M
 inhibited-spec = tie.close (tie.spec Inv-loop μ-loop
@@ -32,10 +34,10 @@ inhibited-spec = tie.close (tie.spec Inv-loop μ-loop
     (λ c. omega arith)
     (λ c. omega arith)
     (λ c. let l = c .before .before .before .before in let a = l .before .args in
-    sym (any-hit (both (a .marking .now) (a .guards .now)) _ _ (c .before .before .before .loop-test .taken) (c .if1 .taken)) ∙ l .loop .inv .1)
+    sym (any-hit (both (column 0 32 (a .counts .now)) (a .guards .now)) _ _ (c .before .before .before .loop-test .taken) (ap (λ (z : ℕ). ltb 0 z && ltb 0 (getD (a .guards .now) (l .loop .p) 0)) (token-read (a .counts .now) (l .loop .p) (omega arith)) ∙ c .if1 .taken)) ∙ l .loop .inv .1)
     (λ c. omega arith)
     (λ c. omega arith)
     (λ c. let l = c .before .before .before .before in let a = l .before .args in
-    (omega arith, any-on (both (a .marking .now) (a .guards .now)) _ _ (c .before .before .before .loop-test .taken) (c .if1 .left) ∙ l .loop .inv .1))
+    (omega arith, any-on (both (column 0 32 (a .counts .now)) (a .guards .now)) _ _ (c .before .before .before .loop-test .taken) (ap (λ (z : ℕ). ltb 0 z && ltb 0 (getD (a .guards .now) (l .loop .p) 0)) (token-read (a .counts .now) (l .loop .p) (omega arith)) ∙ c .if1 .left) ∙ l .loop .inv .1))
     (λ c. let l = c .before in let a = l .before .args in
-    sym (any-end (both (a .marking .now) (a .guards .now)) _ _ (c .loop-test .left)) ∙ l .loop .inv .1))
+    sym (any-end (both (column 0 32 (a .counts .now)) (a .guards .now)) _ _ (c .loop-test .left)) ∙ l .loop .inv .1))

@@ -3,24 +3,25 @@ use mathlib.Core.Path.{_≡_, refl}
 use native.Mathlib.Omega.{arith}
 use lib.ListN.{take}
 use lib.Seq.{length-take-le}
+use Rattle.columns.specs.Columns.{column}
 use Rattle.steps.specs.Holds.{cellAt, Sums}
 use Rattle.steps.proofs.Rows.{sums-none, sums-more}
 use Rattle.steps.proofs.sums.Statement.{statement}
 use Rattle.steps.proofs.sums.Tie as tie
 
 abbrev Inv-loop : tie.InvT-loop
-Inv-loop cells step count r₀ i₀ r i = (i ≤ count) × Sums (cellAt cells) (take i step) r
+Inv-loop arcs at step count r₀ i₀ r i = (i ≤ count) × Sums (cellAt (column at 1024 arcs)) (take i step) r
 
 abbrev μ-loop : tie.MeasureT-loop
-μ-loop cells step count r₀ i₀ r i = count - i
+μ-loop arcs at step count r₀ i₀ r i = count - i
 
 pub sums-spec : {M : Type 1} → statement M
 sums-spec = tie.close (tie.spec Inv-loop μ-loop
     (λ c. (omega arith, sums-none _))
     (λ c. omega arith)
-    (λ c. let l = c .before .before .before in omega (arith, l .before .pre .known (l .loop .i) (omega arith)))
+    (λ c. let l = c .before .before .before in omega (arith, l .before .pre .0 .known (l .loop .i) (omega arith)))
     (λ c κs. let l = c .before .before .before in let s = l .loop .inv .1 in
-    (l .before .pre .known (l .loop .i) (omega arith), s .long, λ p h. omega (arith, s .most p h, length-take-le (l .loop .i) (l .before .args .step .now) (omega arith))))
+    (l .before .pre .0 .known (l .loop .i) (omega arith), l .before .pre .1, s .long, λ p h. omega (arith, s .most p h, length-take-le (l .loop .i) (l .before .args .step .now) (omega arith))))
     (λ c. omega arith)
     (λ c. omega arith)
     (λ c. let l = c .before .before .before .before in

@@ -3,16 +3,17 @@ use mathlib.Core.Path.{_≡_, sym}
 use native.Mathlib.Omega.{arith}
 use lib.ListN.{take}
 use Rattle.spec.specs.Lists.{sumOf}
+use Rattle.columns.specs.Columns.{column}
 use Rattle.tallying.specs.Tally.{bothOf}
 use Rattle.tallying.proofs.Tallying.{all-none, all-next}
 use Rattle.tallying.proofs.own_all.Statement.{statement}
 use Rattle.tallying.proofs.own_all.Tie as tie
 
 abbrev Inv-loop : tie.InvT-loop
-Inv-loop inhibitors outputs step count m r₀ i₀ r i = (i ≤ count) × (r ≤ 2080800 * i) × (r ≡ sumOf (bothOf inhibitors outputs m) (take i step))
+Inv-loop arcs step count m r₀ i₀ r i = (i ≤ count) × (r ≤ 2080800 * i) × (r ≡ sumOf (bothOf (column 2048 1024 arcs) (column 1024 1024 arcs) m) (take i step))
 
 abbrev μ-loop : tie.MeasureT-loop
-μ-loop inhibitors outputs step count m r₀ i₀ r i = count - i
+μ-loop arcs step count m r₀ i₀ r i = count - i
 
 pub own-all-spec : {M : Type 1} → statement M
 own-all-spec = tie.close (tie.spec Inv-loop μ-loop
@@ -24,5 +25,5 @@ own-all-spec = tie.close (tie.spec Inv-loop μ-loop
     (λ c. omega arith)
     (λ c. omega arith)
     (λ c. let w = c .before in let l = w .before .before .before in let a = l .before .args in
-    (omega arith, omega arith, all-next (bothOf (a .inhibitors .now) (a .outputs .now) (a .m)) (a .step .now) (l .loop .i) _ (omega arith) (l .loop .inv .2) (w .wide .ensures .0) (c .own-of .ensures .0)))
+    (omega arith, omega arith, all-next (bothOf (column 2048 1024 (a .arcs .now)) (column 1024 1024 (a .arcs .now)) (a .m)) (a .step .now) (l .loop .i) _ (omega arith) (l .loop .inv .2) (w .wide .ensures .0) (c .own-of .ensures .0)))
     (λ c. let l = c .before in let e : l .loop .i ≡ l .before .args .count = omega arith in (rw (← e) (l .loop .inv .2), omega arith)))

@@ -15,7 +15,7 @@ put-value-spec = tie.close (tie.spec
     (λ c. c .match .keys3)
     (λ c. c .match .keys4)
     (λ c. search needs)
-    (λ c. rw (number-bytes (c .before .before .before .before .before .f .given .1)) (c .before .before .put-digits .ensures))
+    (λ c. rw (number-bytes (c .before .before .before .before .before .f .given .1)) (c .before .before .put-number .ensures))
     (λ c. search needs)
     (λ c. rw (dash-bytes (c .before .before .before .before .enum-told .given .1)) (c .before .before .put-byte .ensures))
     (λ c. rw (wrong-bytes (c .enum-told2 .given .1)) (none _ _))

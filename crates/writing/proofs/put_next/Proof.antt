@@ -1,0 +1,15 @@
+use mathlib.Core.Path.{ap}
+use native.Mathlib.Omega.{arith}
+use borrow.Author.Needs.{needs}
+use lib.ListN.{length}
+use Rattle.writing.proofs.Laws.{after, next-bytes, wrote-length}
+use Rattle.writing.proofs.put_next.Statement.{statement}
+use Rattle.writing.proofs.put_next.Tie as tie
+
+pub put-next-spec : {M : Type 1} → statement M
+put-next-spec = tie.close (tie.spec
+    (λ c κs. omega (arith, ap length (next-bytes (c .before .before .args .n))))
+    (λ c κs. let w = c .before .before .before .put-byte .ensures in
+    omega (arith, ap length (next-bytes (c .before .before .before .before .before .before .args .n)), w .next, wrote-length w))
+    (λ c. search needs)
+    (λ c. rw next-bytes (after (c .before .before .before .before .before .before .put-byte .ensures) (c .before .before .put-number .ensures))))
