@@ -15,7 +15,7 @@ use Rattle.order.specs.Below.{maxBelow, max-suc}
 use Rattle.reach.specs.Rows.{cellOf, way, Raised as RaisedOne}
 use Rattle.record.specs.declared.Counts.{Counts}
 use Rattle.record.specs.Holds.{conditionOf}
-use Rattle.row_pairs.specs.Relation.{pairIn, conditionPairIn, markPairIn, overall, relationIn, Raised, Filled}
+use Rattle.row_pairs.specs.Relation.{pairIn, conditionPairIn, markPairIn, Ended, overall, relationIn, Raised, Filled}
 
 -- ---- one entry
 
@@ -84,6 +84,16 @@ unfolding markPairIn
 mark-raised rec k he hc hp hq hn hf ht r =
     let x = getD rec (1664 + k) 0 in
     raised-as (λ i j l. rw (hf, hn, ht, hp, hq, he, hc) (picked (eqb x 1) (eqb x 2) (λ y. ne-eqb x 2 (λ z. omega (arith, eqb-true x 1 y))) _ _ _ i j l)) r
+
+-- a mark whose pair is one of events has the event that its kind asks for
+pub mark-ended : (rec : List ℕ) (k : ℕ) {e c p q n from to : ℕ} → e ≡ getD rec (5760 + k) 0 → c ≡ conditionOf rec k → p ≡ getD rec (640 + c) 0 → q ≡ getD rec (1152 + c) 0
+    → n ≡ cond (eqb (getD rec (1664 + k) 0) 2) q 128 → from ≡ cond (eqb (getD rec (1664 + k) 0) 1) e n → to ≡ cond (eqb (getD rec (1664 + k) 0) 1) p e
+    → (from < 128) × (to < 128) → Ended rec k
+mark-ended rec k he hc hp hq hn hf ht b =
+    let x = getD rec (1664 + k) 0 in record {
+      before = λ y. rw (← hc, ← hp) (rw (ht, eq-eqb x 1 y) at (b .1));
+      after = λ y. rw (← hc, ← hq) (rw (hf, ne-eqb x 1 (λ z. omega (arith, y, z)), hn, eq-eqb x 2 y) at (b .0));
+    }
 
 -- the marks' pairs in rows that had none, then the conditions'
 pub filled : {t₁ t₂ : List ℕ} (s : Counts) (rec : List ℕ) → ((i j : ℕ) → i < 128 → j < 128 → cellOf t₁ i j ≡ overall (markPairIn rec) (s .marks) i j) → Raised t₁ (overall (conditionPairIn rec) (s .conditions)) t₂ → Filled t₁ (relationIn s rec) t₂

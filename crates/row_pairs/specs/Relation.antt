@@ -24,6 +24,11 @@ markPairIn rec k i j =
     cond (eqb (getD rec (1664 + k) 0) 1) (pairIn (getD rec (5760 + k) 0) (getD rec (640 + conditionOf rec k) 0) 1 i j)
     (cond (eqb (getD rec (1664 + k) 0) 2) (pairIn (getD rec (1152 + conditionOf rec k) 0) (getD rec (5760 + k) 0) 2 i j) 0)
 
+-- mark k has the event that its kind asks for: under B a producer, under A a consumer
+pub record Ended (rec : List ℕ) (k : ℕ) : Type 0 where
+  pub before : getD rec (1664 + k) 0 ≡ 1 → getD rec (640 + conditionOf rec k) 0 < 128
+  pub after : getD rec (1664 + k) 0 ≡ 2 → getD rec (1152 + conditionOf rec k) 0 < 128
+
 -- the greatest that the first n say
 unfoldable pub overall : (ℕ → ℕ → ℕ → ℕ) → ℕ → ℕ → ℕ → ℕ
 overall v n i j = maxBelow n (λ k. v k i j)

@@ -21,5 +21,5 @@ raise-marks-spec = tie.close (tie.spec Inv-loop μ-loop
     (λ c. omega arith)
     (λ c. omega arith)
     (λ c. let l = c .before .before .before in
-    (omega arith, omega (arith, c .raise-mark .ensures .long), overall-more _ (l .loop .inv .2) (c .raise-mark .ensures)))
+    (omega arith, omega (arith, c .raise-mark .ensures .0 .long), overall-more _ (l .loop .inv .2) (c .raise-mark .ensures .0)))
     (λ c. overall-end _ _ (omega arith) (c .before .loop .inv .2)))
