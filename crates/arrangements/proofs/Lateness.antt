@@ -126,9 +126,6 @@ module _ (t xs : List ℕ) (m : ℕ) where
         (unites-join (w .lacking a) u (unites-one d (ap (λ (z : Row). z .path) e)))
   ]
 
-pub in-line : (x m : ℕ) → 0 < x → x ≤ m → (ltb 0 x && ltb x (m + 1)) ≡ true
-in-line x m p q = true-and (lt-ltb 0 x p) (lt-ltb x (m + 1) (omega arith))
-
 pub lacking-end : (t xs : List ℕ) (m : ℕ) (d n : ℕ) {s : Set} → d ≡ n → Unites (pathOf t) (Lacks d m xs) s → Unites (pathOf t) (Lacks n m xs) s
 lacking-end t xs m d n {s} e u = subst (λ (z : ℕ). Unites (pathOf t) (Lacks z m xs) s) e u
 

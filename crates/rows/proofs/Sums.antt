@@ -103,30 +103,23 @@ transitions-more : (trans es : List ℕ) (x : ℕ) → transitionsOf trans (es +
 unfolding transitionsOf
 transitions-more trans es x = map-append (λ e. getD trans e 0) es (x ∷ [])
 
--- the events up to place i
-pub record Playing (places : ℕ) (arcs trans lined : List ℕ) (from i : ℕ) (old new : List ℕ) : Type 0 where
-  pub start : from ≤ i
-  pub plays : Plays places arcs trans lined from i old new
+-- the events up to place i of an array
+pub plays-none : {places : ℕ} {arcs trans lined : List ℕ} {from : ℕ} {old : List ℕ} → length old ≡ 64 → Room old from → Plays places arcs trans lined from from old old
+plays-none h r = record { long = h; room = r; played = λ tokens s. s }
 
-pub playing-none : {places : ℕ} {arcs trans lined : List ℕ} {from : ℕ} {old : List ℕ} → length old ≡ 64 → Room old from → Playing places arcs trans lined from from old old
-playing-none h r = record { start = omega arith; plays = record { long = h; room = r; played = λ tokens s. s } }
-
-pub playing-more : {places : ℕ} {arcs trans lined : List ℕ} {from i : ℕ} (t : ℕ) {old now mid new : List ℕ} → places ≤ 32 → i < length lined → t ≡ getD trans (getD lined i 0) 0
-    → AddsArcs now 0 arcs (1024 + 32 * t) places mid → AddsArcs mid 32 arcs (32 * t) places new → Playing places arcs trans lined from i old now → Playing places arcs trans lined from (i + 1) old new
-playing-more {places} {arcs} {trans} {lined} {from} {i} t {old} {now} {mid} {new} few l e a b g = record {
-  start = omega (arith, g .start);
-  plays = record {
-    long = b .mapped .long ∙ a .mapped .long ∙ g .plays .long;
-    room = event-room t few a b i (g .plays .room);
-    played = λ tokens s. subst (λ (ts : List ℕ). Played places tokens arcs ts new) one-more (event-played t few a b (g .plays .played tokens s));
-  };
+pub plays-more : {places : ℕ} {arcs trans lined : List ℕ} {from i : ℕ} (t : ℕ) {old now mid new : List ℕ} → places ≤ 32 → i < length lined → t ≡ getD trans (getD lined i 0) 0
+    → AddsArcs now 0 arcs (1024 + 32 * t) places mid → AddsArcs mid 32 arcs (32 * t) places new → Plays places arcs trans lined from i old now → Plays places arcs trans lined from (i + 1) old new
+plays-more {places} {arcs} {trans} {lined} {i = i} t {new = new} few l e a b g = record {
+  long = b .mapped .long ∙ a .mapped .long ∙ g .long;
+  room = event-room t few a b i (g .room);
+  played = λ tokens s. subst (λ (ts : List ℕ). Played places tokens arcs ts new) one-more (event-played t few a b (g .played tokens s));
 }
   where
     one-more : transitionsOf trans (take i lined) ++ t ∷ [] ≡ transitionsOf trans (take (i + 1) lined)
     one-more = rw (take-more 0 lined i l, e) (sym (transitions-more trans (take i lined) (getD lined i 0)))
 
-pub playing-end : {places : ℕ} {arcs trans lined : List ℕ} {from i : ℕ} {old new : List ℕ} (to : ℕ) → i ≡ to → Playing places arcs trans lined from i old new → Plays places arcs trans lined from to old new
-playing-end {places} {arcs} {trans} {lined} {from} {i} {old} {new} to e g = subst (λ (j : ℕ). Plays places arcs trans lined from j old new) e (g .plays)
+pub plays-end : {places : ℕ} {arcs trans lined : List ℕ} {from i : ℕ} {old new : List ℕ} (to : ℕ) → i ≡ to → Plays places arcs trans lined from i old new → Plays places arcs trans lined from to old new
+plays-end {places} {arcs} {trans} {lined} {from} {i} {old} {new} to e g = subst (λ (j : ℕ). Plays places arcs trans lined from j old new) e g
 
 -- ---- the first row
 
