@@ -42,32 +42,6 @@ pub fn sums(arcs: &[u8; 3072], at: usize, step: &[u8; 128], count: usize) -> [u3
     r
 }
 
-// What transition t has in an array of arcs is added to sums by place.
-fn add_cells(sums: &mut [u32; 32], cells: &[u8; 1024], t: usize)
-    requires { ⌜ (t < 32) × (length (now sums) ≡ 32) × ((p : ℕ) → p < 32 → getD (now sums) p 0 < 4294967040) ⌝ }
-    ensures { λ _. ⌜ Adds (now (cells .entry)) t 32 (now (sums .entry)) (now (sums .exit)) ⌝ }
-{
-    let mut p: usize = 0;
-    while p < 32 {
-        sums[p] += wide(cells[32 * t + p]);
-        p += 1;
-    }
-}
-
-// The sums of a step's events in an array of arcs, by place: in the inputs what they take, in the outputs what they make.
-pub fn row_sums(cells: &[u8; 1024], step: &[u8; 128], count: usize) -> [u32; 32]
-    requires { ⌜ IsStep (now step) count ⌝ }
-    ensures { λ r. ⌜ Sums (cellAt (now (cells .entry))) (take count (now (step .entry))) r ⌝ }
-{
-    let mut r = [0u32; 32];
-    let mut i: usize = 0;
-    while i < count {
-        add_cells(&mut r, cells, step[i] as usize);
-        i += 1;
-    }
-    r
-}
-
 // ---- a step at a marking
 
 // What is counted by place stands in one array, 32 entries each: the marking, the conditions, the events that the place
