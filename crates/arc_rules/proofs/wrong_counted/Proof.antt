@@ -1,0 +1,54 @@
+-- No event before e has wrong arcs.
+use Prim.Native.Nat.{ℕ, _-_, _≤_}
+use native.Mathlib.Omega.{arith}
+use mathlib.Core.Path.{_≡_, _∙_}
+use Rattle.spec.specs.Lists.{from, first, lowest}
+use Rattle.lists.specs.Search.{lowest-start, first-on}
+use Rattle.lists.specs.Lowest.{lowest-hit, lowest-end}
+use Rattle.columns.specs.Columns.{column}
+use Rattle.arc_rules.specs.Tests.{arcsWrong}
+use Rattle.arc_rules.proofs.Arcs.{arcs-said, arcs-lowest}
+use Rattle.arc_rules.proofs.wrong_counted.Statement.{statement}
+use Rattle.arc_rules.proofs.wrong_counted.Tie as tie
+
+abbrev Inv-loop : tie.InvT-loop
+Inv-loop places arcs rec consumed produced n e₀ e =
+    (e ≤ n) × (first (arcsWrong rec consumed (column 0 1024 arcs) produced (column 1024 1024 arcs) places) (from e (n - e)) ≡ lowest (arcsWrong rec consumed (column 0 1024 arcs) produced (column 1024 1024 arcs) places) n)
+
+abbrev μ-loop : tie.MeasureT-loop
+μ-loop places arcs rec consumed produced n e₀ e = n - e
+
+pub wrong-counted-spec : {M : Type 1} → statement M
+wrong-counted-spec = tie.close (tie.spec Inv-loop μ-loop
+    (λ c κs. let s = c .before .before .before .before in (s .pre .1 .conditions, omega arith, s .pre .1 .long, s .pre .1 .consumers, s .pre .2))
+    (λ c κs. let s = c .before .before .before .before .before .before .before .before in (s .pre .1 .conditions, omega arith, s .pre .1 .long, s .pre .1 .producers, s .pre .3))
+    (λ c. (omega arith, lowest-start _ _))
+    (λ c. let i = c .before in let s = i .before .before .before .before .before .before .before .before .before .before .before .before .before in omega (arith, s .pre .1 .events, s .pre .1 .long, i .loop-test .taken))
+    (λ c κs. tt)
+    (λ c κs. let w = c .before in let i = w .before .before in let l = i .before in let s = l .before .before .before .before .before .before .before .before .before .before .before .before in (
+      omega (arith, l .before .before .before .before .before .before .before .tally .ensures .1 .room, i .loop-test .taken),
+      omega (arith, s .pre .1 .events, i .loop-test .taken),
+      omega arith,
+      omega (arith, w .wide .ensures .0, s .pre .1 .transition (l .loop .e) (i .loop-test .taken)),
+      s .pre .0,
+    ))
+    (λ c κs. let w = c .before .before .before in let i = w .before .before in let l = i .before in let s = l .before .before .before .before .before .before .before .before .before .before .before .before in (
+      omega (arith, l .before .before .before .tally2 .ensures .1 .room, i .loop-test .taken),
+      omega (arith, s .pre .1 .events, i .loop-test .taken),
+      omega arith,
+      omega (arith, w .wide .ensures .0, s .pre .1 .transition (l .loop .e) (i .loop-test .taken)),
+      s .pre .0,
+    ))
+    (λ c. let l = c .before .before .before .before .before .before .before .before in l .before .before .before .before .before .before .before .tally .ensures .0)
+    (λ c. let l = c .before .before .before .before .before .before .before .before in l .before .before .before .tally2 .ensures .0)
+    (λ c net N R ep ei eo h. let p = c .before in let q = p .before .before in let w = q .before .before in let i = w .before .before in let l = i .before in
+    arcs-lowest net _ _ N R h _ _ (l .before .before .before .before .before .before .before .tally .ensures .1) (l .before .before .before .tally2 .ensures .1) _ (rw (ep, ei, eo) (lowest-hit _ _ _ (l .loop .inv .1) (i .loop-test .taken)
+    (arcs-said _ _ _ _ _ _ _ _ _ _ (w .wide .ensures .0) (q .arcs-wrong .ensures) (p .arcs-wrong2 .ensures) ∙ c .if1 .taken))))
+    (λ c. omega arith)
+    (λ c. omega arith)
+    (λ c. let p = c .before in let q = p .before .before in let w = q .before .before in let i = w .before .before in let l = i .before in
+    (omega arith, first-on _ _ _ (i .loop-test .taken) (arcs-said _ _ _ _ _ _ _ _ _ _ (w .wide .ensures .0) (q .arcs-wrong .ensures) (p .arcs-wrong2 .ensures) ∙ c .if1 .left) ∙ l .loop .inv .1))
+    (λ c. c .before .before .before .before .before .before .before .before .tally .ensures .0)
+    (λ c. c .before .before .before .before .tally2 .ensures .0)
+    (λ c net N R ep ei eo h. let l = c .before in
+    arcs-lowest net _ _ N R h _ _ (l .before .before .before .before .before .before .before .tally .ensures .1) (l .before .before .before .tally2 .ensures .1) _ (rw (ep, ei, eo) (lowest-end _ _ _ (l .loop .inv .1) (l .loop .inv .0) (c .loop-test .left)))))
