@@ -20,7 +20,7 @@ weaken() { # FUNCTION CALL WRONG: pti_FUNCTION promises nothing, and makes the w
     s/(fn pti_\Q$n\E\([^{]*?ensures )\{[^\n]*\}\n/$1\{ λ r. ⌜ r ≡ r ⌝ }\n/ or die "no contract of pti_$n\n";
     s/(fn pti_\Q$n\E\(.*?\n\{[^}]*?)\b\Q$c\E/$1$w/s or die "no call in pti_$n\n"' "$work/crates/pti/src/lib.rt"
 }
-weaken read_net 'read_net(net)' 'read_net(b"")'
+weaken read_net 'net_answer(net)' 'net_answer(b"")'
 weaken build 'build(net, log, out)' 'build(log, net, out)'
 weaken check 'check(net, text, table)' 'check(text, net, table)'
 weaken replay 'replay(net, text, arrangement, rows)' 'replay(net, arrangement, text, rows)'
