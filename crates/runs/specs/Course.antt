@@ -142,7 +142,7 @@ module _ (N : Net) (R : RunRecord) (W : WellFormed N R) (P : Process N R) (lines
       go After q w t = let r = some-end (c .consumer) w in has-left lines k c (r .1) (omega (arith, kept .strict _ (after-pair R i q (r .1)) refl))
 
   -- where a mark is due there is one
-  due-mark : (j e : ℕ) → j < length (R .conditions) → e < length (R .events) → due N e (transitionOf R e) (conditionAt R j) ≡ true
+  due-mark : (j e : ℕ) → j < length (R .conditions) → e < length (R .events) → due N R j e ≡ true
       → (m : Mark) × In m (R .marks) × (m .condition ≡ j) × (m .event ≡ e)
   unfolding isAt
   due-mark j e l h d =

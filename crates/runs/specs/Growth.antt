@@ -6,30 +6,31 @@ use native.Mathlib.Omega.{arith}
 use mathlib.Core.Bool.{Bool, true, false, cond}
 use mathlib.Core.List.{List, [], _∷_, _++_, map}
 use lib.ListN.{length, length-append, length-map, length-replicate, replicate}
-use Rattle.spec.specs.Lists.{count, sum}
+use Rattle.spec.specs.Lists.{from, upTo, flat, count, sum}
 use Rattle.spec.specs.Net.{Net}
-use Rattle.spec.specs.Record.{Condition, Mark, due}
-use Rattle.spec.specs.Build.{Event, Run, initialOf, start, inStep, takeAll, makeAll, consumedBy, playStep, playSteps, runOf, markOf, marksOn, marksFrom, marksDue, recordOf, recordFor}
+use Rattle.spec.specs.Record.{Condition, Mark}
+use Rattle.spec.specs.Build.{Event, Run, initialOf, start, inStep, takeAll, makeAll, consumedBy, playStep, playSteps, runOf, marksDue, recordOf, recordFor}
 use Rattle.spec.specs.declared.Limits.{Limits}
 use Rattle.lists.specs.Laws.{count-append}
+use Rattle.runs.specs.MarkWalks.{dueFor, markOf, marksOn, marksFrom, marks-walked}
 use Rattle.runs.specs.Consume.{count-blind, length-takeAll}
 use Rattle.runs.specs.Built.{blank}
 use Rattle.runs.specs.ReadRecord.{Fits}
 
 -- ---- how many marks are due
 
-pub on-length : (N : Net) (es : List Event) (e : ℕ) (v : Event) (i : ℕ) (cs : List Condition) → length (marksOn N es e v i cs) ≡ count (due N e (v .transition)) cs
+pub on-length : (N : Net) (es : List Event) (e : ℕ) (v : Event) (i : ℕ) (cs : List Condition) → length (marksOn N es e v i cs) ≡ count (dueFor N e (v .transition)) cs
 unfolding marksOn count
 on-length N es e v i [] = refl
-on-length N es e v i (c ∷ cs) = go (due N e (v .transition) c) (markOf es (v .step) e i c) (on-length N es e v (suc i) cs)
+on-length N es e v i (c ∷ cs) = go (dueFor N e (v .transition) c) (markOf es (v .step) e i c) (on-length N es e v (suc i) cs)
   where
-    go : (b : Bool) (m : Mark) → length (marksOn N es e v (suc i) cs) ≡ count (due N e (v .transition)) cs
-        → length (cond b (m ∷ marksOn N es e v (suc i) cs) (marksOn N es e v (suc i) cs)) ≡ cond b (suc (count (due N e (v .transition)) cs)) (count (due N e (v .transition)) cs)
+    go : (b : Bool) (m : Mark) → length (marksOn N es e v (suc i) cs) ≡ count (dueFor N e (v .transition)) cs
+        → length (cond b (m ∷ marksOn N es e v (suc i) cs) (marksOn N es e v (suc i) cs)) ≡ cond b (suc (count (dueFor N e (v .transition)) cs)) (count (dueFor N e (v .transition)) cs)
     go true m h = ap suc h
     go false m h = h
 
 -- more events, and conditions among which as many marks or more are due
-from-grows : (N : Net) (es fs : List Event) (cs ds : List Condition) → ((e t : ℕ) → count (due N e t) cs ≤ count (due N e t) ds)
+from-grows : (N : Net) (es fs : List Event) (cs ds : List Condition) → ((e t : ℕ) → count (dueFor N e t) cs ≤ count (dueFor N e t) ds)
     → (e : ℕ) (vs ws : List Event) → length (marksFrom N es cs e vs) ≤ length (marksFrom N fs ds e (vs ++ ws))
 unfolding marksFrom
 from-grows N es fs cs ds h e [] ws = zero-le
@@ -43,9 +44,9 @@ from-grows N es fs cs ds h e (v ∷ vs) ws = omega (
   from-grows N es fs cs ds h (suc e) vs ws,
 )
 
-due-grows : (N : Net) (e t n : ℕ) (ts : List ℕ) (cs : List Condition) → count (due N e t) cs ≤ count (due N e t) (takeAll N n ts cs ++ makeAll N n ts)
-unfolding due consumedBy
-due-grows N e t n ts cs = omega (arith, count-append (due N e t) (takeAll N n ts cs) (makeAll N n ts), count-blind (due N e t) (λ e c. refl) N n ts cs)
+due-grows : (N : Net) (e t n : ℕ) (ts : List ℕ) (cs : List Condition) → count (dueFor N e t) cs ≤ count (dueFor N e t) (takeAll N n ts cs ++ makeAll N n ts)
+unfolding dueFor consumedBy
+due-grows N e t n ts cs = omega (arith, count-append (dueFor N e t) (takeAll N n ts cs) (makeAll N n ts), count-blind (dueFor N e t) (λ e c. refl) N n ts cs)
 
 -- ---- steps
 
@@ -73,14 +74,16 @@ module _ (N : Net) where
 
 module _ (lim : Limits) (N : Net) where
   fits-before : (k : ℕ) (ts : List ℕ) (r : Run) → Fits lim (recordOf N (playStep N k ts r)) → Fits lim (recordOf N r)
-  unfolding recordOf playStep marksDue
+  unfolding recordOf playStep
   fits-before k ts r F =
       let n = length (r .events) in
       let cs : List Condition = takeAll N n ts (r .conditions) ++ makeAll N n ts in
       record {
         events = omega (arith, F .events, step-events N k ts r, length-map (r .events) (λ (v : Event). v .transition));
         conditions = omega (arith, F .conditions, length-append (takeAll N n ts (r .conditions)) (makeAll N n ts), length-takeAll N n ts (r .conditions));
-        marks = le-trans (from-grows N (r .events) _ (r .conditions) cs (λ e t. due-grows N e t n ts (r .conditions)) 0 (r .events) (map (inStep k) ts)) (F .marks);
+        marks = rw (marks-walked N r) (le-trans
+            (from-grows N (r .events) _ (r .conditions) cs (λ e t. due-grows N e t n ts (r .conditions)) 0 (r .events) (map (inStep k) ts))
+            (rw (marks-walked N (playStep N k ts r)) at (F .marks)));
       }
 
   fits-earlier : (k : ℕ) (tss : List (List ℕ)) (r : Run) → Fits lim (recordOf N (playSteps N k tss r)) → Fits lim (recordOf N r)
@@ -100,5 +103,5 @@ initial-length p [] = refl
 initial-length p (k ∷ ks) = omega (arith, length-append (replicate k (blank p)) (initialOf (suc p) ks), length-replicate k (blank p), initial-length (suc p) ks)
 
 pub start-fits : (lim : Limits) (N : Net) → sum (N .tokens) ≤ lim .conditions → Fits lim (recordFor N [])
-unfolding recordFor recordOf runOf playSteps start marksDue marksFrom
+unfolding recordFor recordOf runOf playSteps start marksDue flat upTo from
 start-fits lim N h = record { events = zero-le; conditions = omega (arith, initial-length 0 (N .tokens)); marks = zero-le }

@@ -52,7 +52,7 @@ module _ (N : Net) (R : RunRecord) where
   count-mark c e b h = Laws.any-count (isAt c e) (R .marks) ∙ ap (ltb 0) h ∙ Laws.count-pos b
 
   marks-rule : (e : ℕ) → ((c : ℕ) → c < length (R .conditions) → count (isAt c e) (R .marks) ≤ 1) → (wrongMarks N R e ≡ false)
-      ↔ ((c : ℕ) → c < length (R .conditions) → count (isAt c e) (R .marks) ≡ asCount (due N e (transitionOf R e) (conditionAt R c)))
+      ↔ ((c : ℕ) → c < length (R .conditions) → count (isAt c e) (R .marks) ≡ asCount (due N R c e))
   unfolding wrongMarks wrongMarkAt
   marks-rule e once = (
     λ h c l. mark-count c e _ (once c l) (same-is _ _ .0 (Laws.not-is-false _ (Laws.any-none (wrongMarkAt N R e) _ h c (Laws.upTo-in (length (R .conditions)) l)))),

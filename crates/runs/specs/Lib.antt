@@ -10,6 +10,7 @@ pub mod Play
 pub mod Flows
 pub mod Consume
 pub mod Built
+pub mod MarkWalks
 pub mod Marks
 pub mod Log
 pub mod Bytes

@@ -15,14 +15,14 @@ use Rattle.spec.specs.Net.{Net}
 use Rattle.spec.specs.Step.{EnabledAt, markingAfter}
 use Rattle.spec.specs.Order.{pairs}
 use Rattle.spec.specs.Process.{Process, WellFormed}
-use Rattle.spec.specs.Build.{Event, noEvent, Run, start, inStep, playStep, playSteps, runOf, recordOf, recordFor}
+use Rattle.spec.specs.Build.{Event, noEvent, Run, stepOf, start, inStep, playStep, playSteps, runOf, recordOf, recordFor}
 use Rattle.spec.specs.Arrangement.{Arrangement, times, index}
 use Rattle.spec.specs.Runs.{markingAt, EnabledSequence, KeepsOrder, asSteps, eventLines}
 use Rattle.order.specs.Index.{index-here, index-there}
 use Rattle.lists.specs.Laws
 use Rattle.runs.specs.Pairs.{KeepsPairs, pairs-order}
 use Rattle.runs.specs.Sources.{bounded}
-use Rattle.runs.specs.Built.{stepOf, Good, good-start, good-step}
+use Rattle.runs.specs.Built.{Good, good-start, good-step}
 use Rattle.runs.specs.Marks.{well-formed, process, steps-keep}
 
 -- ---- the lines of a sequence's events

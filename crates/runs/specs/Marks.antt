@@ -16,13 +16,14 @@ use Rattle.spec.specs.Net.{Net, takes, makes}
 use Rattle.spec.specs.Record.{RunRecord, Condition, Mark, noCondition, transitionOf, isNone, isAt, due}
 use Rattle.spec.specs.Order.{Pair, pairs}
 use Rattle.spec.specs.Process.{Process, WellFormed, below, wrongEnd}
-use Rattle.spec.specs.Build.{Event, noEvent, Run, earlier, markOf, marksOn, marksFrom, marksDue, recordOf}
+use Rattle.spec.specs.Build.{Event, noEvent, Run, stepOf, marksDue, recordOf}
 use Rattle.spec.specs.declared.MarkKind.{MarkKind}
 use Rattle.spec.specs.declared.MarkKind.the-variants.{Before, After}
 use Rattle.lists.specs.Laws
 use Rattle.runs.specs.Pairs.{KeepsPairs, no-cycle}
 use Rattle.runs.specs.Sources.{between, each-pair}
-use Rattle.runs.specs.Built.{stepOf, firedBy, ConsumedBefore, ProducedSince, Sound, Good}
+use Rattle.runs.specs.MarkWalks.{dueFor, earlier, markOf, marksOn, marksFrom, marks-walked}
+use Rattle.runs.specs.Built.{firedBy, ConsumedBefore, ProducedSince, Sound, Good}
 
 -- the kind of a mark that an event of step k has at a condition
 abbrev kindFor : List Event → ℕ → Condition → MarkKind
@@ -36,7 +37,7 @@ record OnMark (N : Net) (es : List Event) (e : ℕ) (v : Event) (j : ℕ) (cs : 
   inside : nth < length cs
   condition : m .condition ≡ j + nth
   event : m .event ≡ e
-  isDue : due N e (v .transition) (getD cs nth noCondition) ≡ true
+  isDue : dueFor N e (v .transition) (getD cs nth noCondition) ≡ true
   kind : m .kind ≡ kindFor es (v .step) (getD cs nth noCondition)
 
 -- a mark of one of the events vs, numbered from e, at one of the conditions cs
@@ -45,19 +46,19 @@ record FromMark (N : Net) (es : List Event) (cs : List Condition) (e : ℕ) (vs 
   inside : nth < length vs
   event : m .event ≡ e + nth
   condition : m .condition < length cs
-  isDue : due N (m .event) (getD vs nth noEvent .transition) (getD cs (m .condition) noCondition) ≡ true
+  isDue : dueFor N (m .event) (getD vs nth noEvent .transition) (getD cs (m .condition) noCondition) ≡ true
   kind : m .kind ≡ kindFor es (getD vs nth noEvent .step) (getD cs (m .condition) noCondition)
 
 module _ (N : Net) (es : List Event) where
   in-marksOn : (e : ℕ) (v : Event) (j : ℕ) (cs : List Condition) {m : Mark} → In m (marksOn N es e v j cs) → OnMark N es e v j cs m
   unfolding marksOn markOf
   in-marksOn e v j [] i = absurd (List·Memᴰ·not-nil i)
-  in-marksOn e v j (c ∷ cs) {m} i = elim (Laws.true-or-false (due N e (v .transition) c)) [
+  in-marksOn e v j (c ∷ cs) {m} i = elim (Laws.true-or-false (dueFor N e (v .transition) c)) [
     | inl d ↦ elim (List·Memᴰ·cases-cons (rw d at i)) [ inl z ↦ first d z | inr a ↦ later (in-marksOn e v (suc j) cs a) ]
     | inr d ↦ later (in-marksOn e v (suc j) cs (rw d at i))
   ]
     where
-      first : due N e (v .transition) c ≡ true → m ≡ markOf es (v .step) e j c → OnMark N es e v j (c ∷ cs) m
+      first : dueFor N e (v .transition) c ≡ true → m ≡ markOf es (v .step) e j c → OnMark N es e v j (c ∷ cs) m
       first d z = record {
         nth = 0;
         inside = omega arith;
@@ -99,13 +100,13 @@ count-due w false m ms = omega (arith, Laws.count-false {b = false} refl)
 
 module _ (N : Net) (es : List Event) where
   count-on : (e : ℕ) (v : Event) (j : ℕ) (cs : List Condition) (c i : ℕ) → c ≡ j + i → i < length cs
-      → count (isAt c e) (marksOn N es e v j cs) ≡ asCount (due N e (v .transition) (getD cs i noCondition))
+      → count (isAt c e) (marksOn N es e v j cs) ≡ asCount (dueFor N e (v .transition) (getD cs i noCondition))
   unfolding marksOn
   count-on e v j [] c i q l = absurd (not-suc-le-zero l)
   count-on e v j (x ∷ cs) c zero q l = omega (
     arith,
-    count-due (isAt c e) (due N e (v .transition) x) (markOf es (v .step) e j x) (marksOn N es e v (suc j) cs),
-    ap asCount (here-at (due N e (v .transition) x)),
+    count-due (isAt c e) (dueFor N e (v .transition) x) (markOf es (v .step) e j x) (marksOn N es e v (suc j) cs),
+    ap asCount (here-at (dueFor N e (v .transition) x)),
     Laws.count-none (isAt c e) (marksOn N es e v (suc j) cs) (λ m a. not-at c e m (λ z y. omega (arith, in-marksOn N es e v (suc j) cs a .condition))),
   )
     where
@@ -113,8 +114,8 @@ module _ (N : Net) (es : List Event) where
       here-at b = unfold isAt markOf in (rw (eq-eqb j c (omega arith), eq-eqb e e refl) (and-true b))
   count-on e v j (x ∷ cs) c (suc i) q l = omega (
     arith,
-    count-due (isAt c e) (due N e (v .transition) x) (markOf es (v .step) e j x) (marksOn N es e v (suc j) cs),
-    Laws.count-false (not-here (due N e (v .transition) x)),
+    count-due (isAt c e) (dueFor N e (v .transition) x) (markOf es (v .step) e j x) (marksOn N es e v (suc j) cs),
+    Laws.count-false (not-here (dueFor N e (v .transition) x)),
     count-on e v (suc j) cs c i (omega arith) (le-of-suc-le-suc l),
   )
     where
@@ -122,7 +123,7 @@ module _ (N : Net) (es : List Event) where
       not-here b = rw (not-at c e (markOf es (v .step) e j x) (λ z y. unfold markOf in (omega arith))) (and-false b)
 
   count-from : (cs : List Condition) (e : ℕ) (vs : List Event) (c f i : ℕ) → f ≡ e + i → i < length vs → c < length cs
-      → count (isAt c f) (marksFrom N es cs e vs) ≡ asCount (due N f (getD vs i noEvent .transition) (getD cs c noCondition))
+      → count (isAt c f) (marksFrom N es cs e vs) ≡ asCount (dueFor N f (getD vs i noEvent .transition) (getD cs c noCondition))
   unfolding marksFrom
   count-from cs e [] c f i q l h = absurd (not-suc-le-zero l)
   count-from cs e (v ∷ vs) c f zero q l h =
@@ -149,21 +150,19 @@ conditionOf r c = getD (r .conditions) c noCondition
 record Due (N : Net) (r : Run) (m : Mark) : Type 0 where
   event : m .event < length (r .events)
   condition : m .condition < length (r .conditions)
-  isDue : due N (m .event) (firedBy (r .events) (m .event)) (conditionOf r (m .condition)) ≡ true
+  isDue : dueFor N (m .event) (firedBy (r .events) (m .event)) (conditionOf r (m .condition)) ≡ true
   kind : m .kind ≡ kindFor (r .events) (stepOf (r .events) (m .event)) (conditionOf r (m .condition))
 
 mark-due : (N : Net) (r : Run) {m : Mark} → In m (marksDue N r) → Due N r m
-unfolding marksDue
 mark-due N r {m} i =
-    let f : FromMark N (r .events) (r .conditions) 0 (r .events) m = in-marksFrom N (r .events) (r .conditions) 0 (r .events) i in
+    let f : FromMark N (r .events) (r .conditions) 0 (r .events) m = in-marksFrom N (r .events) (r .conditions) 0 (r .events) (rw (marks-walked N r) at i) in
     let q : f .nth ≡ m .event = omega arith in
     record { event = omega arith; condition = f .condition; isDue = rw q at (f .isDue); kind = rw q at (f .kind) }
 
 -- one mark for each condition and event where it is due, and none where it is not
 pub count-marks : (N : Net) (r : Run) (c e : ℕ) → c < length (r .conditions) → e < length (r .events)
-    → count (isAt c e) (marksDue N r) ≡ asCount (due N e (firedBy (r .events) e) (conditionOf r c))
-unfolding marksDue
-count-marks N r c e h l = count-from N (r .events) (r .conditions) 0 (r .events) c e e (omega arith) l h
+    → count (isAt c e) (marksDue N r) ≡ asCount (dueFor N e (firedBy (r .events) e) (conditionOf r c))
+count-marks N r c e h l = rw (marks-walked N r) (count-from N (r .events) (r .conditions) 0 (r .events) c e e (omega arith) l h)
 
 -- ---- the record of a run
 
@@ -211,7 +210,7 @@ module _ (N : Net) (k : ℕ) (r : Run) (G : Good N k r) where
   BeforeMark m = (m .kind ≡ Before) × ProducedSince es (conditionOf r (m .condition)) (m .event)
 
   mark-kind : (m : Mark) → In m (marksDue N r) → AfterMark m ⊎ BeforeMark m
-  unfolding due
+  unfolding dueFor
   mark-kind m i =
       let d : Due N r m = mark-due N r i in
       let c : Condition = conditionOf r (m .condition) in
@@ -266,13 +265,13 @@ module _ (N : Net) (k : ℕ) (r : Run) (G : Good N k r) where
   kinds-right m i = elim (mark-kind m i) [ inl a ↦ rw (a .0, a .1 .1) | inr a ↦ rw (a .0, a .1 .1) ]
 
   pub process : Process N R
-  unfolding recordOf
+  unfolding recordOf due dueFor
   process = record {
     initial = G .initial;
     arcs = λ e p l h.
         let i : e < length es = omega (arith, length-events) in
         (G .consumed e p i h ∙ ap (λ t. takes N t p) (sym (fired e)), G .produced e p i h ∙ ap (λ t. makes N t p) (sym (fired e)));
-    marks = λ c e h l. count-marks N r c e h (omega (arith, length-events)) ∙ ap (λ t. asCount (due N e t (conditionOf r c))) (sym (fired e));
+    marks = λ c e h l. count-marks N r c e h (omega (arith, length-events)) ∙ ap (λ t. asCount (dueFor N e t (conditionOf r c))) (sym (fired e));
     kinds = kinds-right;
     acyclic = no-cycle steps-keep;
   }

@@ -5,13 +5,13 @@ use mathlib.Core.Option.{Option, none, some}
 use mathlib.Core.List.{List, [], _∷_, _++_, map}
 use lib.ListN.{length, getD, replicate}
 use lib.Dec.{eqb, ltb, leb}
-use Rattle.spec.specs.Lists.{any, upTo, flat}
+use Rattle.spec.specs.Lists.{any, upTo, keep, flat}
 use Rattle.spec.specs.Answer.{Answer, gives, refuses, _>>=_, _>>_, refuse_at_when_}
 use Rattle.spec.specs.Text.{Line, linesOf, byLines, mostDigits}
 use Rattle.spec.specs.Forms.{isList, numbersOf}
 use Rattle.spec.specs.Net.{Net, places, takes, makes, readNet}
 use Rattle.spec.specs.Step.{short, inhibited, play}
-use Rattle.spec.specs.Record.{RunRecord, Condition, Mark, bench, isNone, due, recordBytes}
+use Rattle.spec.specs.Record.{RunRecord, Condition, Mark, bench, isNone, conditionAt, due, recordBytes}
 use Rattle.spec.specs.declared.Class.the-variants.{LetterS}
 use Rattle.spec.specs.declared.Limits.{Limits}
 use Rattle.spec.specs.declared.MarkKind.the-variants.{Before, After}
@@ -100,34 +100,39 @@ playSteps n k (ts ∷ tss) r = playSteps n (suc k) tss (playStep n k ts r)
 unfoldable pub runOf : Net → List (List ℕ) → Run
 runOf n steps = playSteps n 1 steps (start n)
 
--- ---- "A mark is A if the condition was consumed in a step earlier than the marked event's, else B. Marks stand by event,
--- then condition."
+-- ---- "one mark, B or A, for each condition and event where the condition's place inhibits the event's transition and the
+-- event isn't its producer" (`due` of `Record`). "Marks stand by event, then condition."
 
--- the consumer is an event of a step earlier than k
-unfoldable pub earlier : List Event → ℕ → Option ℕ → Bool
-earlier es k none = false
-earlier es k (some f) = ltb (getD es f noEvent .step) k
+-- the events and conditions of a run, as a record that has no marks yet
+abbrev pub unmarked : Run → RunRecord
+unmarked r = record { events = map (λ v. v .transition) (r .events); conditions = r .conditions; marks = [] }
 
--- the mark at condition c, whose number is i, of event e, whose step is k
-unfoldable pub markOf : List Event → ℕ → ℕ → ℕ → Condition → Mark
-markOf es k e i c = record { kind = cond (earlier es k (c .consumer)) After Before; condition = i; event = e }
+-- the number of the step of event e
+abbrev pub stepOf : List Event → ℕ → ℕ
+stepOf es e = getD es e noEvent .step
 
--- the marks of event e at the conditions from number i on
-unfoldable pub marksOn : Net → List Event → ℕ → Event → ℕ → List Condition → List Mark
-marksOn n es e v i [] = []
-marksOn n es e v i (c ∷ cs) =
-    cond (due n e (v .transition) c) (markOf es (v .step) e i c ∷ marksOn n es e v (suc i) cs) (marksOn n es e v (suc i) cs)
+-- the consumer, if there is one, is an event of a step earlier than that of event e
+unfoldable pub isEarlier : List Event → Option ℕ → ℕ → Bool
+isEarlier es none e = false
+isEarlier es (some f) e = ltb (stepOf es f) (stepOf es e)
 
--- the marks of the events from number e on
-unfoldable pub marksFrom : Net → List Event → List Condition → ℕ → List Event → List Mark
-marksFrom n es cs e [] = []
-marksFrom n es cs e (v ∷ vs) = marksOn n es e v 0 cs ++ marksFrom n es cs (suc e) vs
+-- "A mark is A if the condition was consumed in a step earlier than the marked event's, else B.": the mark of event e at
+-- condition c
+unfoldable pub markAt : Run → ℕ → ℕ → Mark
+markAt r e c =
+    let early : Bool = isEarlier (r .events) (conditionAt (unmarked r) c .consumer) e in
+    record { kind = cond early After Before; condition = c; event = e }
 
+-- the marks of event e, by condition
+unfoldable pub marksOf : Net → Run → ℕ → List Mark
+marksOf n r e = map (markAt r e) (keep (λ c. due n (unmarked r) c e) (upTo (length (r .conditions))))
+
+-- all marks, by event
 unfoldable pub marksDue : Net → Run → List Mark
-marksDue n r = marksFrom n (r .events) (r .conditions) 0 (r .events)
+marksDue n r = flat (map (marksOf n r) (upTo (length (r .events))))
 
 unfoldable pub recordOf : Net → Run → RunRecord
-recordOf n r = record { events = map (λ v. v .transition) (r .events); conditions = r .conditions; marks = marksDue n r }
+recordOf n r = record { events = unmarked r .events; conditions = r .conditions; marks = marksDue n r }
 
 -- the record that building names for a step sequence
 unfoldable pub recordFor : Net → List (List ℕ) → RunRecord
@@ -173,5 +178,5 @@ build net log room = do
 
 -- opens every definition of this module, for what computes with them
 unfoldable pub openBuild : Unit {0}
-unfolding noEvent initialOf start outputsOf madeBy makeAll isFree consumedBy consume consumeAll inputsOf takeAll inStep playStep playSteps runOf earlier markOf marksOn marksFrom marksDue recordOf recordFor isStepLine logLine playLog built build
+unfolding noEvent initialOf start outputsOf madeBy makeAll isFree consumedBy consume consumeAll inputsOf takeAll inStep playStep playSteps runOf isEarlier markAt marksOf marksDue recordOf recordFor isStepLine logLine playLog built build
 openBuild = tt

@@ -113,7 +113,7 @@ same false b = not b
 
 -- 37: at some condition the event's mark is missing or undue
 unfoldable pub wrongMarkAt : Net → RunRecord → ℕ → ℕ → Bool
-wrongMarkAt n r e c = not (same (marked r c e) (due n e (transitionOf r e) (conditionAt r c)))
+wrongMarkAt n r e c = not (same (marked r c e) (due n r c e))
 
 unfoldable pub wrongMarks : Net → RunRecord → ℕ → Bool
 wrongMarks n r e = any (wrongMarkAt n r e) (upTo (length (r .conditions)))

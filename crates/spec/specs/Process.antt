@@ -39,7 +39,7 @@ pub record Process (N : Net) (R : RunRecord) : Type 0 where
   -- "one mark, B or A, for each condition and event where the condition's place inhibits the event's transition and the
   -- event isn't its producer; no other mark;"
   pub marks : (c e : ℕ) → c < length (R .conditions) → e < length (R .events)
-      → count (isAt c e) (R .marks) ≡ asCount (due N e (transitionOf R e) (conditionAt R c))
+      → count (isAt c e) (R .marks) ≡ asCount (due N R c e)
   -- "B only on a produced, A only on a consumed condition;"
   pub kinds : (m : Mark) → In m (R .marks) → wrongEnd (m .kind) (conditionAt R (m .condition)) ≡ false
   -- "no cycle of the pairs below with a strict one in it."

@@ -63,9 +63,9 @@ unfoldable pub marked : RunRecord → ℕ → ℕ → Bool
 marked r c e = any (isAt c e) (r .marks)
 
 -- ".. where the condition's place inhibits the event's transition and the event isn't its producer": a mark is due at
--- condition c and event e, whose transition is t
-unfoldable pub due : Net → ℕ → ℕ → Condition → Bool
-due n e t c = inhibits n (c .place) t && not (names (c .producer) e)
+-- condition c and event e
+unfoldable pub due : Net → RunRecord → ℕ → ℕ → Bool
+due n r c e = inhibits n (conditionAt r c .place) (transitionOf r e) && not (names (conditionAt r c .producer) e)
 
 -- ---- the record as a text
 

@@ -10,12 +10,13 @@ use lib.Dec.{eqb}
 use lib.ListN.{length, getD, length-append}
 use Rattle.spec.specs.Lists.{In, upTo, count, sumOf, asCount}
 use Rattle.spec.specs.Net.{Net, places, makes, inhibits}
-use Rattle.spec.specs.Record.{Condition, names, due}
+use Rattle.spec.specs.Record.{Condition, names}
 use Rattle.spec.specs.Process.{producedIn}
-use Rattle.spec.specs.Build.{Event, noEvent, Run, markOf, marksOn, marksFrom, marksDue}
+use Rattle.spec.specs.Build.{Event, noEvent, Run, marksDue}
 use Rattle.lists.specs.Laws
 use Rattle.lists.specs.Grouped.{sumOf-scaled, count-by}
 use Rattle.runs.specs.Built.{Good}
+use Rattle.runs.specs.MarkWalks.{dueFor, marksOn, marksFrom, marks-walked}
 use Rattle.runs.specs.Growth.{on-length}
 use Rattle.tallying.specs.Tally.{heldIn, watchedFrom, ownOf, ownAll}
 
@@ -32,9 +33,9 @@ module _ (N : Net) (e t : ℕ) where
   either true false = omega arith
   either false b = omega arith
 
-  due-or-own : (cs : List Condition) → count (λ c. inhibits N (c .place) t) cs ≡ count (due N e t) cs + count isOwn cs
-  unfolding due isOwn
-  due-or-own cs = Laws.count-either (due N e t) isOwn (λ c. inhibits N (c .place) t) cs (λ c m. either (inhibits N (c .place) t) (names (c .producer) e))
+  due-or-own : (cs : List Condition) → count (λ c. inhibits N (c .place) t) cs ≡ count (dueFor N e t) cs + count isOwn cs
+  unfolding dueFor isOwn
+  due-or-own cs = Laws.count-either (dueFor N e t) isOwn (λ c. inhibits N (c .place) t) cs (λ c m. either (inhibits N (c .place) t) (names (c .producer) e))
 
   -- its own, by place
   own-by : (cs : List Condition) → ((c : Condition) → In c cs → c .place < places N) → ((p : ℕ) → p < places N → count (producedIn e p) cs ≡ makes N t p) → count isOwn cs ≡ ownOf N t
@@ -81,8 +82,9 @@ module _ (N : Net) (cs : List Condition) (placed : (c : Condition) → In c cs �
 
 pub marks-counted : (N : Net) (k : ℕ) (r : Run) → Good N k r
     → length (marksDue N r) + ownAll N (r .events) ≡ sumOf (λ p. count (heldIn p) (r .conditions) * count (watchedFrom N p) (r .events)) (upTo (places N))
-unfolding marksDue held
+unfolding held
 marks-counted N k r G =
     let placed : (c : Condition) → In c (r .conditions) → c .place < places N = λ c m. G .sound c m .placed in
-    from-length N (r .conditions) placed (r .events) 0 (r .events) (λ i p l m. ap (λ (z : ℕ). count (producedIn z p) (r .conditions)) (omega arith) ∙ G .produced i p l m)
+    ap (λ ms. length ms + ownAll N (r .events)) (marks-walked N r)
+    ∙ from-length N (r .conditions) placed (r .events) 0 (r .events) (λ i p l m. ap (λ (z : ℕ). count (producedIn z p) (r .conditions)) (omega arith) ∙ G .produced i p l m)
     ∙ by-place N (r .conditions) placed (r .events)
