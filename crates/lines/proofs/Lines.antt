@@ -8,9 +8,8 @@ use native.Mathlib.Numerals.{add-one}
 use native.Mathlib.Omega.{arith}
 use lib.ListN.{length, drop, take, length-drop}
 use lib.Dec.{ltb, leb·suc-suc}
-use borrow.Author.Tests.{lt-ltb, ltb-true, ltb-false}
+use borrow.Author.Tests.{lt-ltb}
 use Rattle.spec.specs.Text.{isA, Line, onFirst, linesOf}
-use Rattle.spec.specs.Line.{startAfter}
 use Rattle.spec.specs.declared.Class.the-variants.{LineEnd}
 use Rattle.classes.specs.Scan.{before}
 use Rattle.classes.proofs.Scans.{before-zero, before-suc, within, beyond, width}
@@ -47,28 +46,13 @@ line-here s at e h q =
     lines-first (drop at s) (omega (arith, length-drop at s))
     ∙ rw (add-one e, q, within s at n (omega arith), beyond s at n (omega arith), ← width s at n (omega arith))
 
--- the next line starts behind the first line end
-start-one : (bs : List ℕ) → before LineEnd bs < length bs → startAfter 1 bs ≡ suc (before LineEnd bs)
-unfolding before startAfter
-start-one [] h = absurd (omega arith)
-start-one (b ∷ bs) h = go (isA LineEnd b) (λ k. start-one bs k) h
-  where
-    go : (t : Bool) → (before LineEnd bs < length bs → startAfter 1 bs ≡ suc (before LineEnd bs)) → cond t 0 (suc (before LineEnd bs)) < suc (length bs)
-        → suc (cond t 0 (startAfter 1 bs)) ≡ suc (cond t 0 (suc (before LineEnd bs)))
-    go true r k = refl
-    go false r k = ap suc (r (omega arith))
-
-pub line-skips : (s : List ℕ) (at e : ℕ) → at < length s → e ≡ at + before LineEnd (drop at s) → ltb e (length s) ≡ true → e + 1 ≡ at + startAfter 1 (drop at s)
-line-skips s at e h q l = omega (arith, start-one (drop at s) (omega (arith, ltb-true e (length s) l, length-drop at s)))
-
 -- the line whose end was found
 pub line-found : (s : List ℕ) (at e : ℕ) → at < length s → e ≡ endFrom s at → e ≤ length s → LineAt s at (spanTo s e (e + 1))
 line-found s at e h q m = record {
   start = omega arith;
   end = m;
   on = omega arith;
+  behind = refl;
   next = omega arith;
   lines = line-here s at e h q;
-  last = λ l. omega (arith, ltb-false e (length s) l);
-  skips = λ l. line-skips s at e h q l;
 }

@@ -6,7 +6,6 @@ use mathlib.Core.List.{List, _∷_}
 use lib.ListN.{length, drop, take}
 use lib.Dec.{ltb}
 use Rattle.spec.specs.Text.{Line, linesOf}
-use Rattle.spec.specs.Line.{startAfter}
 use Rattle.spec.specs.declared.Class.the-variants.{LineEnd}
 use Rattle.classes.specs.Scan.{before}
 use Rattle.lines.specs.declared.Span.{Span}
@@ -28,7 +27,6 @@ pub record LineAt (s : List ℕ) (at : ℕ) (r : Span) : Type 0 where
   pub start : at ≤ r .end
   pub end : r .end ≤ length s
   pub on : r .end < r .next
+  pub behind : r .next ≡ r .end + 1
   pub next : r .next ≤ length s + 1
   pub lines : linesOf (drop at s) ≡ lineOf (take (r .end - at) (drop at s)) (r .ended) ∷ linesOf (drop (r .next) s)
-  pub last : r .ended ≡ false → length s < r .next
-  pub skips : r .ended ≡ true → r .next ≡ at + startAfter 1 (drop at s)

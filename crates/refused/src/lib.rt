@@ -3,9 +3,9 @@ ghost use mathlib.Core.Path.{_≡_};
 ghost use Prim.Native.Nat.{_<_};
 ghost use denote.Ref.{ptr};
 ghost use Rattle.spec.specs.Answer.{returned};
-ghost use Rattle.spec.specs.Line.{refusedLine, partOf, chosenText};
+ghost use Rattle.spec.specs.Line.{refusedLine, partOf};
 ghost use Rattle.spec.specs.Values.{lineValues};
-ghost use Rattle.refused.specs.Shown.{Running, Finds, answerOf, placeOf};
+ghost use Rattle.refused.specs.Shown.{Running, Finds, FindsChosen, answerOf, placeOf};
 use bytes::count_at;
 use lines::line_at;
 
@@ -69,7 +69,7 @@ fn find_line(text: &[u8], line: usize) -> Found
 
 // The same in the chosen text: 0 the net text, 1 the second.
 fn find(net: &[u8], second: &[u8], choice: u8, line: usize) -> Found
-    ensures { λ r. ⌜ Finds (chosenText (now (net .entry)) (now (second .entry)) choice) line r ⌝ }
+    ensures { λ r. ⌜ FindsChosen (now (net .entry)) (now (second .entry)) choice line r ⌝ }
 {
     if choice == 0 {
         return find_line(net, line);

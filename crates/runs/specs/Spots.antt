@@ -17,7 +17,7 @@ use Rattle.spec.specs.Build.{built, build}
 use Rattle.spec.specs.Check.{readRecord, accepts, checkWithin, check}
 use Rattle.spec.specs.Arrange.{arrange}
 use Rattle.spec.specs.Replay.{readArrangement, replay}
-use Rattle.spec.specs.Line.{lineAt, chosenText, refusedLine}
+use Rattle.spec.specs.Line.{refusedLine}
 use Rattle.spec.specs.Program.{inputOf, parted, printed, program}
 use Rattle.spec.specs.Refusals.{Refusal, refusal, netRefusals, logRefusals, recordRefusals, arrangementRefusals, buildRefusals, checkRefusals, replayRefusals, arrangeRefusals, lineRefusals, inputRefusals, programRefusals, Among, Refuses, Refusals}
 use Rattle.spec.specs.declared.Field.the-variants.{Number}
@@ -70,7 +70,8 @@ replay-within net text arrangement room =
 line-within : (net second : List ℕ) (choice asked : ℕ) → Within (λ p. Unit) (lineRefusals asked) (refusedLine net second choice asked)
 unfolding refusedLine first
 line-within net second choice asked =
-    bind-within (found 46 asked (lineAt (chosenText net second choice) asked)) _ (found-within 46 asked _ (listed (lineRefusals asked) 46 refl (le-refl asked, le-refl asked))) (λ l e p. given-within tt)
+    let over : Among (lineRefusals asked) 46 asked = listed (lineRefusals asked) 46 refl (le-refl asked, le-refl asked) in
+    when-within 46 asked _ _ (λ t. over) λ e. found-within 46 asked _ over
 
 input-within : (input : List ℕ) → Within (λ q. Unit) inputRefusals (inputOf input)
 unfolding inputOf first
