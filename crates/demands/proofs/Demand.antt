@@ -44,16 +44,16 @@ module _ (net : List ℕ) (N : Net) (hN : readNet net ≡ gives N) (text : List 
   arranges : {old new : List ℕ} {r : Numbers} → 768 ≤ length old → ArrangeCall net text old r new → Arranged R r new
   unfolding arrangeLeaves
   arranges {old} h c =
-      let g = O .writes (length old) h in
+      let g = O .arranging .writes (length old) h in
       let q = numbers-given arrangeValues (λ a. a .bytes) g (c .answer) in
       let b : _ = ap (λ (z : Numbers). z .b) q in
       record {
         accepted = ap (λ (z : Numbers). z .number) q;
-        lines = O .written;
-        written = start-is (arrangementBytes (O .written)) old (left-given arrangeValues (λ a. a .bytes) g old (c .buffer)) (ap (λ (z : Numbers). z .a) q);
+        lines = O .arranging .written;
+        written = start-is (arrangementBytes (O .arranging .written)) old (left-given arrangeValues (λ a. a .bytes) g old (c .buffer)) (ap (λ (z : Numbers). z .a) q);
         count = b;
-        keeps = O .keeps;
-        shortest = λ others K. le-trans (le-of-eq b) (O .shortest others K);
+        keeps = O .arranging .keeps;
+        shortest = λ others K. le-trans (le-of-eq b) (O .arranging .shortest others K);
       }
 
   checks : {old new : List ℕ} {r : Numbers} → 16384 ≤ length old → CheckCall net text old r new → Checked R r new
@@ -63,24 +63,24 @@ module _ (net : List ℕ) (N : Net) (hN : readNet net ≡ gives N) (text : List 
       let g = T .checks (length old) h in
       let q = numbers-given checkValues (λ x. x .table) g (c .answer) in
       let few = events-few N text R hR in
-      let at : (e f : ℕ) → e < length (R .events) → f < length (R .events) → getD new (128 * e + f) 0 ≡ getD (T .checked .table) (128 * e + f) 0 =
-      λ e f l m. entry-is (T .checked .table) old (128 * e + f) (left-given checkValues (λ x. x .table) g old (c .buffer)) (omega (arith, T .full, few)) in
+      let at : (e f : ℕ) → e < length (R .events) → f < length (R .events) → getD new (128 * e + f) 0 ≡ getD (T .answer .table) (128 * e + f) 0 =
+      λ e f l m. entry-is (T .answer .table) old (128 * e + f) (left-given checkValues (λ x. x .table) g old (c .buffer)) (omega (arith, T .full, few)) in
       record {
         accepted = ap (λ (z : Numbers). z .number) q;
-        strict = λ e f l m d. (
-          λ x. O .strict e f l m d .0 (T .strict e f l m d .0 (sym (at e f l m) ∙ x)),
-          λ k. at e f l m ∙ T .strict e f l m d .1 (O .strict e f l m d .1 k),
+        strict = λ e f t. (
+          λ x. O .order .strict e f t .0 (T .strict e f t .0 (sym (at e f (t .one) (t .other)) ∙ x)),
+          λ k. at e f (t .one) (t .other) ∙ T .strict e f t .1 (O .order .strict e f t .1 k),
         );
-        weak = λ e f l m d. (
-          λ x. O .weak e f l m d .0 (T .weak e f l m d .0 (rw (at e f l m) at x)),
-          λ k. rw (at e f l m) (T .weak e f l m d .1 (O .weak e f l m d .1 k)),
+        weak = λ e f t. (
+          λ x. O .order .weak e f t .0 (T .weak e f t .0 (rw (at e f (t .one) (t .other)) at x)),
+          λ k. rw (at e f (t .one) (t .other)) (T .weak e f t .1 (O .order .weak e f t .1 k)),
         );
       }
 
   replays : (lines : List (List ℕ)) → KeepsOrder R lines → {old new : List ℕ} {r : Numbers} → 4128 ≤ length old → ReplayCall net text (arrangementBytes lines) old r new → Replayed N R lines r new
   unfolding replayLeaves
   replays lines K {old} h c =
-      let P = O .replays lines K in
+      let P = O .kept .replays lines K in
       let g = P .plays (length old) h in
       let q = numbers-given replayValues (λ x. x .counts) g (c .answer) in
       record {
@@ -104,9 +104,9 @@ module _ (net text arrangement : List ℕ) {old new : Buffers} (r : Calls) where
     net = net-counted net hN e;
     checks = checks net N hN text R hR (S .table) c;
     arranges = arranges net N hN text R hR (S .out) a;
-    enabled = demand .order-of-runs net N hN text R hR .enabled;
+    enabled = demand .order-of-runs net N hN text R hR .kept .enabled;
     replays = λ lines K q. replays net N hN text R hR lines K (S .rows) (subst (λ (t : List ℕ). ReplayCall net text t (old .rows) (r .replay) (new .rows)) q p);
-    one-end = demand .order-of-runs net N hN text R hR .one-end;
+    one-end = demand .order-of-runs net N hN text R hR .kept .one-end;
   }
 
 -- ---- building

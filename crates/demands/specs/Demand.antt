@@ -1,7 +1,7 @@
 -- The third demand, said of calls: what they return and the bytes that they leave in the buffers. The crate `runs` has the same
 -- over the definitions; here it is what the functions of this crate, which make the calls, promise.
 use mathlib.Core.Path.{_≡_}
-use mathlib.Core.Logic.{_≢_, _↔_, _⊎_}
+use mathlib.Core.Logic.{_↔_, _⊎_}
 use Prim.Native.Nat.{ℕ, _+_, _*_, _≤_, _<_}
 use mathlib.Core.List.{List}
 use lib.ListN.{length, getD, take}
@@ -10,9 +10,9 @@ use Rattle.spec.specs.Net.{Net, places, readNet}
 use Rattle.spec.specs.Step.{tokensAt}
 use Rattle.spec.specs.Record.{RunRecord, bench}
 use Rattle.spec.specs.Check.{readRecord}
-use Rattle.spec.specs.Arrangement.{index}
 use Rattle.spec.specs.Arrange.{arrangementBytes}
 use Rattle.spec.specs.Runs.{EnabledSequence, KeepsOrder, WithinLimits, markingAt, asSteps, eventLines, logBytes}
+use Rattle.spec.specs.Runs.{TwoEvents, StandsEarlier, InEvery, InNone}
 use Rattle.spec.specs.declared.Numbers.{Numbers}
 use Rattle.demands.specs.declared.Calls.{Calls}
 use Rattle.demands.specs.declared.RunCalls.{RunCalls}
@@ -39,10 +39,9 @@ pub record Replayed (N : Net) (R : RunRecord) (lines : List (List ℕ)) (r : Num
 -- stands in an earlier step in every such arrangement, and not later exactly when it stands in a later step in none."
 pub record Checked (R : RunRecord) (r : Numbers) (new : List ℕ) : Type 0 where
   pub accepted : r .number ≡ 0
-  pub strict : (e f : ℕ) → e < length (R .events) → f < length (R .events) → e ≢ f
-      → (getD new (128 * e + f) 0 ≡ 2) ↔ ((lines : List (List ℕ)) → KeepsOrder R lines → index e lines < index f lines)
-  pub weak : (e f : ℕ) → e < length (R .events) → f < length (R .events) → e ≢ f
-      → ((getD new (128 * e + f) 0 ≡ 1) ⊎ (getD new (128 * e + f) 0 ≡ 2)) ↔ ((lines : List (List ℕ)) → KeepsOrder R lines → ¬ (index f lines < index e lines))
+  pub strict : (e f : ℕ) → TwoEvents R e f → (getD new (128 * e + f) 0 ≡ 2) ↔ InEvery R (λ lines. StandsEarlier e f lines)
+  pub weak : (e f : ℕ) → TwoEvents R e f
+      → ((getD new (128 * e + f) 0 ≡ 1) ⊎ (getD new (128 * e + f) 0 ≡ 2)) ↔ InNone R (λ lines. StandsEarlier f e lines)
 
 -- "Net (read alone, it returns how many places and transitions it has)"
 pub record NetCounted (N : Net) (r : Numbers) : Type 0 where

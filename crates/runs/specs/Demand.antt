@@ -22,7 +22,7 @@ use Rattle.spec.specs.Arrange.{levels, arrangedLines, arrangementBytes, arrange
 use Rattle.spec.specs.Replay.{rowAt, row, firedBy, replayed, replay}
 use Rattle.spec.specs.Runs.{EnabledSequence, KeepsOrder, WithinLimits, markingAt, asSteps}
 use Rattle.spec.specs.Exactness.{IsProcess}
-use Rattle.spec.specs.Demand.{Replays, Tables, OrderOfRuns, RunIsRecorded, Demand}
+use Rattle.spec.specs.Demand.{ReplaysMarkings, TableSays, OrderOfRuns, RunIsRecorded, Demand}
 use Rattle.lists.specs.Laws
 use Rattle.lists.specs.Rows.{length-rows}
 use Rattle.runs.specs.Play.{enabled-steps, row-is, one-end}
@@ -90,7 +90,7 @@ module _ (net : List ℕ) (N : Net) (hN : readNet net ≡ gives N) (text : List 
     few : length lines ≤ 128
     few = le-trans (lines-few (length (R .events)) lines (K .arranged)) (I .events)
 
-    replays : Replays net text N R lines
+    replays : ReplaysMarkings net text N R lines
     unfolding replayed
     replays = record {
       counts = replayed N R lines .counts;
@@ -114,33 +114,34 @@ module _ (net : List ℕ) (N : Net) (hN : readNet net ≡ gives N) (text : List 
   strict-weak : (e f : ℕ) → e ≢ f → strictlyBefore R e f ≡ true → notLater R e f ≡ true
   strict-weak e f d h = weak-is N R W e f .1 (d, (true, strict-is N R W e f .0 h))
 
-  tables : Tables net text R
+  tables : TableSays net text R
   unfolding related checked tableBytes
   tables = record {
-    checked = checked R;
+    answer = checked R;
     checks = checks;
     full = length-rows 128 (λ e. map (tableAt R e) (upTo 128)) (λ k. length-map (upTo 128) (tableAt R k) ∙ Laws.length-upTo 128) 128;
-    strict = λ e f l m d. (
-      λ h. strict-is N R W e f .0 (related-strict (strictlyBefore R e f) (notLater R e f) .0 (sym (entry-is e f l m) ∙ h)),
-      λ p. entry-is e f l m ∙ related-strict (strictlyBefore R e f) (notLater R e f) .1 (strict-is N R W e f .1 p),
+    strict = λ e f t. (
+      λ h. strict-is N R W e f .0 (related-strict (strictlyBefore R e f) (notLater R e f) .0 (sym (entry-is e f (t .one) (t .other)) ∙ h)),
+      λ p. entry-is e f (t .one) (t .other) ∙ related-strict (strictlyBefore R e f) (notLater R e f) .1 (strict-is N R W e f .1 p),
     );
-    weak = λ e f l m d. (
-      λ h. weak-is N R W e f .0 (related-weak (strictlyBefore R e f) (notLater R e f) (strict-weak e f d) .0 (rw (entry-is e f l m) at h)),
-      λ p. rw (entry-is e f l m) (related-weak (strictlyBefore R e f) (notLater R e f) (strict-weak e f d) .1 (weak-is N R W e f .1 p)),
+    weak = λ e f t. (
+      λ h. weak-is N R W e f .0 (related-weak (strictlyBefore R e f) (notLater R e f) (strict-weak e f (t .differ)) .0 (rw (entry-is e f (t .one) (t .other)) at h)),
+      λ p. rw (entry-is e f (t .one) (t .other)) (related-weak (strictlyBefore R e f) (notLater R e f) (strict-weak e f (t .differ)) .1 (weak-is N R W e f .1 p)),
     );
   }
 
   order-of-runs : OrderOfRuns net text N R
   order-of-runs = record {
-    written = arrangedLines (levels R);
-    writes = writes;
-    keeps = arranged-keeps N R W P;
-    shortest = arranged-least N R W P;
-    enabled = enabled-steps N R W P;
-    replays = replays;
-    one-end = λ lines others K M. one-end N R W P lines others K M;
-    strict = λ e f l m d. strict-exact N R W P e f l m;
-    weak = weak-exact N R W P;
+    arranging = record { written = arrangedLines (levels R); writes = writes; keeps = arranged-keeps N R W P; shortest = arranged-least N R W P };
+    kept = record {
+      enabled = enabled-steps N R W P;
+      replays = replays;
+      one-end = λ lines others K M. one-end N R W P lines others K M;
+    };
+    order = record {
+      strict = λ e f t. strict-exact N R W P e f (t .one) (t .other);
+      weak = λ e f t. weak-exact N R W P e f (t .one) (t .other) (t .differ);
+    };
     table = tables;
   }
 

@@ -72,7 +72,7 @@ keeps = exactness .replays drive driveNet net-accepted recordB runB b-accepted (
 
 pub enabled : EnabledSequence driveNet ((2 ∷ []) ∷ (0 ∷ []) ∷ [])
 unfolding openAll driveNet runB parkFirst asSteps
-enabled = order-b .enabled parkFirst keeps
+enabled = order-b .kept .enabled parkFirst keeps
 
 -- the write comes before the park in no run: the park is not later, by the one weak pair
 b-weak : NotLater runB 1 0
@@ -81,7 +81,7 @@ b-weak = (λ e. omega arith, (false, pair (record { source = 1; target = 0; stri
 
 pub never-first : (lines : List (List ℕ)) → KeepsOrder runB lines → ¬ (index 0 lines < index 1 lines)
 unfolding runB
-never-first = order-b .weak 1 0 (omega arith) (omega arith) (λ e. omega arith) .0 b-weak
+never-first = order-b .order .weak 1 0 (record { one = omega arith; other = omega arith; differ = λ e. omega arith }) .0 b-weak
 
 -- ---- cases a and f: events 0, 1 and 2 are the write, the flush and the park; the condition that the write made is marked
 
@@ -126,7 +126,7 @@ a-strict = pair (record { source = 1; target = 2; strict = true }) (List·Memᴰ
 
 pub flushed-first : (lines : List (List ℕ)) → KeepsOrder runA lines → index 1 lines < index 2 lines
 unfolding runA markedBy
-flushed-first = order-a .strict 1 2 (omega arith) (omega arith) (λ e. omega arith) .0 a-strict
+flushed-first = order-a .order .strict 1 2 (record { one = omega arith; other = omega arith; differ = λ e. omega arith }) .0 a-strict
 
 -- in f after the write in none
 f-weak : NotLater runF 2 0
@@ -135,7 +135,7 @@ f-weak = (λ e. omega arith, (false, pair (record { source = 2; target = 0; stri
 
 pub parked-first : (lines : List (List ℕ)) → KeepsOrder runF lines → ¬ (index 0 lines < index 2 lines)
 unfolding runF markedBy
-parked-first = order-f .weak 2 0 (omega arith) (omega arith) (λ e. omega arith) .0 f-weak
+parked-first = order-f .order .weak 2 0 (record { one = omega arith; other = omega arith; differ = λ e. omega arith }) .0 f-weak
 
 -- ---- the run of case a: its log is built into its record, which keeps that run among its arrangements
 

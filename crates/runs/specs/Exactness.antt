@@ -16,7 +16,7 @@ use Rattle.spec.specs.Check.{readRecord}
 use Rattle.spec.specs.Replay.{readArrangement}
 use Rattle.spec.specs.Arrange.{arrangementBytes}
 use Rattle.spec.specs.Runs.{KeepsOrder, WithinLimits}
-use Rattle.spec.specs.Exactness.{Builds, IsProcess, Exactness}
+use Rattle.spec.specs.Exactness.{IsBuilt, IsProcess, Exactness}
 use Rattle.runs.specs.Log.{record-events}
 use Rattle.runs.specs.Answers.{of-gives, of-bind}
 use Rattle.runs.specs.NetText.{net-text}
@@ -50,7 +50,7 @@ module _ (net : List ℕ) (N : Net) (accepted : readNet net ≡ gives N) where
   unfolding build _>>=_ _>>_ refuse_at_when_
   building log room h = rw (le-ltb room 48256 h, accepted)
 
-  was-built : (log bytes : List ℕ) (room : ℕ) → 48256 ≤ room → build net log room ≡ gives bytes → Builds N log bytes
+  was-built : (log bytes : List ℕ) (room : ℕ) → 48256 ≤ room → build net log room ≡ gives bytes → IsBuilt N log bytes
   unfolding built bench recordFor
   was-built log bytes room l h =
       let b = of-bind (built bench N (linesOf log)) _ (sym (building log room l) ∙ h) in
@@ -64,7 +64,7 @@ module _ (net : List ℕ) (N : Net) (accepted : readNet net ≡ gives N) where
         named = sym (of-gives (b .2)) ∙ ap recordBytes (sym (of-gives (c .2)) ∙ ap (recordOf N) (d .3));
       }
 
-  is-built : (log bytes : List ℕ) (room : ℕ) → 48256 ≤ room → Builds N log bytes → build net log room ≡ gives bytes
+  is-built : (log bytes : List ℕ) (room : ℕ) → 48256 ≤ room → IsBuilt N log bytes → build net log room ≡ gives bytes
   unfolding built recordFor _>>=_
   is-built log bytes room l B =
       let p = log-played bench N (printed N L .transitions) (B .steps) (B .enabled) (within-fits N (B .steps) .0 (B .within)) in

@@ -19,8 +19,13 @@ pub record Longest (R : RunRecord) (e : ℕ) : Type 0 where
 
 pub record Computed : Type 0 where
   -- 24 and 25 are the two halves of "enabled"
-  pub enabled : (N : Net) (m step : List ℕ) → ((short N m step ≡ false) × (inhibited N m step ≡ false)) ↔ EnabledAt N m step
+  pub enabled : (N : Net) (m step : List ℕ)
+      → ((short N m step ≡ false) × (inhibited N m step ≡ false)) ↔ EnabledAt N m step
   -- the computed closed order is that of paths
-  pub strict : (N : Net) (R : RunRecord) → WellFormed N R → (e f : ℕ) → (strictlyBefore R e f ≡ true) ↔ StrictlyBefore R e f
-  pub weak : (N : Net) (R : RunRecord) → WellFormed N R → (e f : ℕ) → (notLater R e f ≡ true) ↔ NotLater R e f
-  pub longest : (N : Net) (R : RunRecord) → WellFormed N R → Process N R → (e : ℕ) → e < length (R .events) → Longest R e
+  pub strict : (N : Net) (R : RunRecord) → WellFormed N R
+      → (e f : ℕ) → (strictlyBefore R e f ≡ true) ↔ StrictlyBefore R e f
+  pub weak : (N : Net) (R : RunRecord) → WellFormed N R
+      → (e f : ℕ) → (notLater R e f ≡ true) ↔ NotLater R e f
+  -- the computed level of an event is the longest chain that ends at it
+  pub longest : (N : Net) (R : RunRecord) → WellFormed N R → Process N R
+      → (e : ℕ) → e < length (R .events) → Longest R e

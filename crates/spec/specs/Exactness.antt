@@ -22,7 +22,7 @@ use Rattle.spec.specs.Runs.{EnabledSequence, KeepsOrder, WithinLimits, l
 
 -- each declaration is allowed below those above it
 abbrev pub EachAllowed : List Declaration → Type 0
-EachAllowed ds = (above below : List Declaration) (d : Declaration) → ds ≡ above ++ d ∷ below → Allowed (declared above) d
+EachAllowed ds = (above rest : List Declaration) (d : Declaration) → ds ≡ above ++ d ∷ rest → Allowed (declared above) d
 
 -- the text is that of declarations, each allowed below those above it, and N is the net that they declare
 pub record IsNet (text : List ℕ) (N : Net) : Type 0 where
@@ -34,7 +34,7 @@ pub record IsNet (text : List ℕ) (N : Net) : Type 0 where
 
 -- "a well-formed log of known transitions becomes a record exactly when each step is enabled in its turn and the limits
 -- hold, and the record is the one document 01 names."
-pub record Builds (N : Net) (log bytes : List ℕ) : Type 0 where
+pub record IsBuilt (N : Net) (log bytes : List ℕ) : Type 0 where
   pub steps : List (List ℕ)
   pub written : log ≡ logBytes steps
   pub enabled : EnabledSequence N steps
@@ -52,28 +52,40 @@ pub record IsProcess (N : Net) (R : RunRecord) : Type 0 where
 
 pub record Exactness : Type 0 where
   pub reads : (text : List ℕ) (N : Net) → (readNet text ≡ gives N) ↔ IsNet text N
-  pub builds : (net : List ℕ) (N : Net) → readNet net ≡ gives N → (log bytes : List ℕ) (room : ℕ) → 48256 ≤ room → (build net log room ≡ gives bytes) ↔ Builds N log bytes
-  pub checks : (net : List ℕ) (N : Net) → readNet net ≡ gives N → (text : List ℕ) (R : RunRecord)
+  pub builds : (net : List ℕ) (N : Net) → readNet net ≡ gives N
+      → (log bytes : List ℕ) (room : ℕ) → 48256 ≤ room
+      → (build net log room ≡ gives bytes) ↔ IsBuilt N log bytes
+  pub checks : (net : List ℕ) (N : Net) → readNet net ≡ gives N
+      → (text : List ℕ) (R : RunRecord)
       → (readRecord bench N text ≡ gives R) ↔ ((text ≡ recordBytes R) × IsProcess N R)
-  pub replays : (net : List ℕ) (N : Net) → readNet net ≡ gives N → (text : List ℕ) (R : RunRecord) → readRecord bench N text ≡ gives R
-      → (arrangement : List ℕ) (lines : List (List ℕ)) → (readArrangement R arrangement ≡ gives lines) ↔ ((arrangement ≡ arrangementBytes lines) × KeepsOrder R lines)
+  pub replays : (net : List ℕ) (N : Net) → readNet net ≡ gives N
+      → (text : List ℕ) (R : RunRecord) → readRecord bench N text ≡ gives R
+      → (arrangement : List ℕ) (lines : List (List ℕ))
+      → (readArrangement R arrangement ≡ gives lines) ↔ ((arrangement ≡ arrangementBytes lines) × KeepsOrder R lines)
 
 -- ---- of each operation, and of a given list of declarations, sequence, record or arrangement. "With an accepted net and
 -- buffers of the stated sizes" its text is accepted exactly when it is what it should be, and what is then given is what
 -- document 01 names.
 
 pub record Operations : Type 0 where
-  pub reads : (ds : List Declaration) (N : Net) → (readNet (netBytes ds) ≡ gives N) ↔ (EachAllowed ds × Complete N × (N ≡ declared ds))
+  pub reads : (ds : List Declaration) (N : Net)
+      → (readNet (netBytes ds) ≡ gives N) ↔ (EachAllowed ds × Complete N × (N ≡ declared ds))
   -- "a well-formed log of known transitions": an enabled sequence has no empty step, and names transitions of the net only
-  pub builds : (net : List ℕ) (N : Net) → readNet net ≡ gives N → (steps : List (List ℕ)) (room : ℕ) → 48256 ≤ room → (bytes : List ℕ)
-      → (build net (logBytes steps) room ≡ gives bytes) ↔ (EnabledSequence N steps × WithinLimits N steps × (bytes ≡ recordBytes (recordFor N steps)))
-  pub checks : (net : List ℕ) (N : Net) → readNet net ≡ gives N → (R : RunRecord) (room : ℕ) → 16384 ≤ room → (c : Checked)
+  pub builds : (net : List ℕ) (N : Net) → readNet net ≡ gives N
+      → (steps : List (List ℕ)) (room : ℕ) → 48256 ≤ room → (bytes : List ℕ)
+      → (build net (logBytes steps) room ≡ gives bytes)
+      ↔ (EnabledSequence N steps × WithinLimits N steps × (bytes ≡ recordBytes (recordFor N steps)))
+  pub checks : (net : List ℕ) (N : Net) → readNet net ≡ gives N
+      → (R : RunRecord) (room : ℕ) → 16384 ≤ room → (c : Checked)
       → (check net (recordBytes R) room ≡ gives c) ↔ (IsProcess N R × (c ≡ checked R))
-  pub arranges : (net : List ℕ) (N : Net) → readNet net ≡ gives N → (R : RunRecord) (room : ℕ) → 768 ≤ room → (a : Arranged)
+  pub arranges : (net : List ℕ) (N : Net) → readNet net ≡ gives N
+      → (R : RunRecord) (room : ℕ) → 768 ≤ room → (a : Arranged)
       → (arrange net (recordBytes R) room ≡ gives a) ↔ (IsProcess N R × (a ≡ arranged R))
   -- an arrangement that keeps the order has no empty line, and each event of the record once
-  pub replays : (net : List ℕ) (N : Net) → readNet net ≡ gives N → (R : RunRecord) (lines : List (List ℕ)) (room : ℕ) → 4128 ≤ room → (x : Replayed)
-      → (replay net (recordBytes R) (arrangementBytes lines) room ≡ gives x) ↔ (IsProcess N R × KeepsOrder R lines × (x ≡ replayed N R lines))
+  pub replays : (net : List ℕ) (N : Net) → readNet net ≡ gives N
+      → (R : RunRecord) (lines : List (List ℕ)) (room : ℕ) → 4128 ≤ room → (x : Replayed)
+      → (replay net (recordBytes R) (arrangementBytes lines) room ≡ gives x)
+      ↔ (IsProcess N R × KeepsOrder R lines × (x ≡ replayed N R lines))
 
 -- ---- and nothing else is accepted: no shorter buffer, no net that is refused, no other text
 
@@ -84,9 +96,12 @@ abbrev pub IsTextOf : {A : Type 0} → (A → List ℕ) → List ℕ → Type 0
 IsTextOf {A} print text = (x : A) × (text ≡ print x)
 
 pub record NothingElse : Type 0 where
-  pub builds : (net log : List ℕ) (room : ℕ) (bytes : List ℕ) → build net log room ≡ gives bytes → (48256 ≤ room) × IsAccepted net × IsTextOf logBytes log
-  pub checks : (net text : List ℕ) (room : ℕ) (c : Checked) → check net text room ≡ gives c → (16384 ≤ room) × IsAccepted net × IsTextOf recordBytes text
-  pub arranges : (net text : List ℕ) (room : ℕ) (a : Arranged) → arrange net text room ≡ gives a → (768 ≤ room) × IsAccepted net × IsTextOf recordBytes text
+  pub builds : (net log : List ℕ) (room : ℕ) (bytes : List ℕ) → build net log room ≡ gives bytes
+      → (48256 ≤ room) × IsAccepted net × IsTextOf logBytes log
+  pub checks : (net text : List ℕ) (room : ℕ) (c : Checked) → check net text room ≡ gives c
+      → (16384 ≤ room) × IsAccepted net × IsTextOf recordBytes text
+  pub arranges : (net text : List ℕ) (room : ℕ) (a : Arranged) → arrange net text room ≡ gives a
+      → (768 ≤ room) × IsAccepted net × IsTextOf recordBytes text
   pub replays : (net text arrangement : List ℕ) (room : ℕ) (x : Replayed) → replay net text arrangement room ≡ gives x
       → (4128 ≤ room) × IsAccepted net × IsTextOf recordBytes text × IsTextOf arrangementBytes arrangement
 
@@ -113,7 +128,11 @@ pub record RecordBelow (b : ℕ) (R : RunRecord) : Type 0 where
   pub events : (m : Mark) → In m (R .marks) → m .event < b
 
 pub record OneReading : Type 0 where
-  pub nets : (ds es : List Declaration) → DeclarationsBelow 10000 ds → DeclarationsBelow 10000 es → netBytes ds ≡ netBytes es → ds ≡ es
-  pub logs : (s t : List (List ℕ)) → LinesBelow 10000 s → LinesBelow 10000 t → logBytes s ≡ logBytes t → s ≡ t
-  pub records : (R S : RunRecord) → RecordBelow 10000 R → RecordBelow 10000 S → recordBytes R ≡ recordBytes S → R ≡ S
-  pub arrangements : (s t : List (List ℕ)) → LinesBelow 10000 s → LinesBelow 10000 t → arrangementBytes s ≡ arrangementBytes t → s ≡ t
+  pub nets : (ds es : List Declaration) → DeclarationsBelow 10000 ds → DeclarationsBelow 10000 es
+      → netBytes ds ≡ netBytes es → ds ≡ es
+  pub logs : (s t : List (List ℕ)) → LinesBelow 10000 s → LinesBelow 10000 t
+      → logBytes s ≡ logBytes t → s ≡ t
+  pub records : (R S : RunRecord) → RecordBelow 10000 R → RecordBelow 10000 S
+      → recordBytes R ≡ recordBytes S → R ≡ S
+  pub arrangements : (s t : List (List ℕ)) → LinesBelow 10000 s → LinesBelow 10000 t
+      → arrangementBytes s ≡ arrangementBytes t → s ≡ t

@@ -1,5 +1,6 @@
 -- Enabled step sequences, and arrangements that keep a record's order (01, the paragraph on the third demand; 004, section 3).
 use mathlib.Core.Path.{_≡_}
+use mathlib.Core.Logic.{_≢_}
 use Prim.Native.Nat.{ℕ, zero, suc, _+_, _≤_, _<_}
 use mathlib.Core.Bool.{Bool, true}
 use mathlib.Core.List.{List, [], _∷_, map}
@@ -28,8 +29,31 @@ pub record EnabledSequence (N : Net) (steps : List (List ℕ)) : Type 0 where
 -- "It keeps the order if strict predecessors stand in earlier lines and weak ones no later."
 pub record KeepsOrder (R : RunRecord) (lines : List (List ℕ)) : Type 0 where
   pub arranged : Arrangement (length (R .events)) lines
-  pub strict : (e f : ℕ) → e < length (R .events) → f < length (R .events) → StrictlyBefore R e f → index e lines < index f lines
-  pub weak : (e f : ℕ) → e < length (R .events) → f < length (R .events) → NotLater R e f → index e lines ≤ index f lines
+  pub strict : (e f : ℕ) → e < length (R .events) → f < length (R .events)
+      → StrictlyBefore R e f → index e lines < index f lines
+  pub weak : (e f : ℕ) → e < length (R .events) → f < length (R .events)
+      → NotLater R e f → index e lines ≤ index f lines
+
+-- ---- two events over all arrangements that keep the order
+
+-- "two different events"
+pub record TwoEvents (R : RunRecord) (e f : ℕ) : Type 0 where
+  pub one : e < length (R .events)
+  pub other : f < length (R .events)
+  pub differ : e ≢ f
+
+-- e stands in an earlier step than f
+abbrev pub StandsEarlier : ℕ → ℕ → List (List ℕ) → Type 0
+StandsEarlier e f lines = index e lines < index f lines
+
+-- "in every such arrangement", and "in none": such are those that keep the order
+abbrev pub InEvery : RunRecord → (List (List ℕ) → Type 0) → Type 0
+InEvery R P = (lines : List (List ℕ)) → KeepsOrder R lines → P lines
+
+abbrev pub InNone : RunRecord → (List (List ℕ) → Type 0) → Type 0
+InNone R P = (lines : List (List ℕ)) → KeepsOrder R lines → ¬ P lines
+
+-- ---- arrangements read as sequences, and sequences as arrangements
 
 -- "Read as transitions, each line becomes a log line with its events' transitions."
 unfoldable pub asSteps : RunRecord → List (List ℕ) → List (List ℕ)
