@@ -12,7 +12,7 @@ use borrow.Author.Tests.{lt-ltb, le-leb, ltb-true, ltb-false, leb-true}
 use lib.ListN.{length, getD, take, drop, length-drop}
 use Rattle.spec.specs.Lists.{In, any, upTo, member, flat}
 use Rattle.spec.specs.Record.{RunRecord}
-use Rattle.spec.specs.Order.{strictlyBefore, notLater}
+use Rattle.spec.specs.Order.{isStrictlyBefore, isNotLater}
 use Rattle.spec.specs.Replay.{repeats, late, breaks}
 use Rattle.bit_sets.specs.Sets.{has, has-most, First}
 use Rattle.bit_sets.specs.declared.Set.{Set}
@@ -156,11 +156,11 @@ module _ {n : ℕ} {t : List ℕ} (R : RunRecord) (few : n ≤ 128) (good : Good
 
     late-strict : (d f : ℕ) → d < n → In f g → 2 ≤ cellOf t d f → member d done ≡ false → breaks R done g ≡ true
     unfolding late
-    late-strict d f l m c p = found d f l m (true-or-l (notLater R d f && not (member d (done ++ g))) (true-and (sym (o .strict d f l (low f m)) ∙ le-leb 2 (cellOf t d f) c) (ap not p)))
+    late-strict d f l m c p = found d f l m (true-or-l (isNotLater R d f && not (member d (done ++ g))) (true-and (sym (o .strict d f l (low f m)) ∙ le-leb 2 (cellOf t d f) c) (ap not p)))
 
     late-weak : (d f : ℕ) → d < n → In f g → 0 < cellOf t d f → member d (done ++ g) ≡ false → breaks R done g ≡ true
     unfolding late
-    late-weak d f l m c p = found d f l m (true-or-r (strictlyBefore R d f && not (member d done)) (true-and (sym (o .weak d f l (low f m) (λ e. clash (here-too f m) (rw e at p))) ∙ lt-ltb 0 (cellOf t d f) c) (ap not p)))
+    late-weak d f l m c p = found d f l m (true-or-r (isStrictlyBefore R d f && not (member d done)) (true-and (sym (o .weak d f l (low f m) (λ e. clash (here-too f m) (rw e at p))) ∙ lt-ltb 0 (cellOf t d f) c) (ap not p)))
 
     broken : b ≡ true → breaks R done g ≡ true
     broken q =
@@ -183,8 +183,8 @@ module _ {n : ℕ} {t : List ℕ} (R : RunRecord) (few : n ≤ 128) (good : Good
         let z = any-found (λ e. any (late R done g e) (upTo (length (R .events)))) g h in let f = z .0 in let m = z .1 in
         let y = any-found (late R done g f) (upTo (length (R .events))) (z .2) in let d = y .0 in
         let l : d < n = omega (arith, in-upTo (length (R .events)) (y .1), o .events) in
-        elim (or-true (strictlyBefore R d f && not (member d done)) (notLater R d f && not (member d (done ++ g))) (y .2)) [
-          | inl a ↦ let x = and-true (strictlyBefore R d f) (not (member d done)) a in
+        elim (or-true (isStrictlyBefore R d f && not (member d done)) (isNotLater R d f && not (member d (done ++ g))) (y .2)) [
+          | inl a ↦ let x = and-true (isStrictlyBefore R d f) (not (member d done)) a in
               let c : 2 ≤ cellOf t d f = leb-true 2 (cellOf t d f) (o .strict d f l (low f m) ∙ x .0) in
               elim (true-or-false (member d (done ++ g))) [
                 | inl i ↦ elim (List·Memᴰ·append-cases done (in-member (done ++ g) i)) [
@@ -193,7 +193,7 @@ module _ {n : ℕ} {t : List ℕ} (R : RunRecord) (few : n ≤ 128) (good : Good
                 ]
                 | inr i ↦ hit-behind d f l m i (omega arith)
               ]
-          | inr a ↦ let x = and-true (notLater R d f) (not (member d (done ++ g))) a in let i = not-is-true (member d (done ++ g)) (x .1) in
+          | inr a ↦ let x = and-true (isNotLater R d f) (not (member d (done ++ g))) a in let i = not-is-true (member d (done ++ g)) (x .1) in
               hit-behind d f l m i (ltb-true 0 (cellOf t d f) (o .weak d f l (low f m) (λ e. clash (here-too f m) (rw e at i)) ∙ x .0))
         ]
 

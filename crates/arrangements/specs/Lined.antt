@@ -8,7 +8,7 @@ use lib.ListN.{length, getD, take}
 use lib.Dec.{ltb, leb}
 use Rattle.spec.specs.Lists.{In, flat, member}
 use Rattle.spec.specs.Record.{RunRecord}
-use Rattle.spec.specs.Order.{strictlyBefore, notLater}
+use Rattle.spec.specs.Order.{isStrictlyBefore, isNotLater}
 use Rattle.spec.specs.Replay.{repeats, breaks}
 use Rattle.bit_sets.specs.Sets.{has}
 use Rattle.bit_sets.specs.declared.Set.{Set}
@@ -20,8 +20,8 @@ use Rattle.arrangements.specs.declared.Group.{Group}
 -- the rows have at least 2 where an event is strictly before another, and 1 where it is only not later
 pub record TellsOrder (n : ℕ) (t : List ℕ) (R : RunRecord) : Type 0 where
   pub events : n ≡ length (R .events)
-  pub strict : (d e : ℕ) → d < n → e < n → leb 2 (cellOf t d e) ≡ strictlyBefore R d e
-  pub weak : (d e : ℕ) → d < n → e < n → d ≢ e → ltb 0 (cellOf t d e) ≡ notLater R d e
+  pub strict : (d e : ℕ) → d < n → e < n → leb 2 (cellOf t d e) ≡ isStrictlyBefore R d e
+  pub weak : (d e : ℕ) → d < n → e < n → d ≢ e → ltb 0 (cellOf t d e) ≡ isNotLater R d e
 
 -- ---- the lines
 

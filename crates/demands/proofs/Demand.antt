@@ -18,7 +18,7 @@ use Rattle.spec.specs.Runs.{KeepsOrder}
 use Rattle.runs.specs.Demand.{demand}
 use Rattle.runs.specs.Accepted.{accepted-record}
 use Rattle.runs.specs.Sizes.{lines-few}
-use Rattle.spec.specs.Values.{numbersOf, netValues, byteValues, checkValues, replayValues, arrangeValues, netReturns}
+use Rattle.spec.specs.Values.{asNumbers, netValues, byteValues, checkValues, replayValues, arrangeValues, netReturns}
 use Rattle.spec.specs.declared.Numbers.{Numbers}
 use Rattle.pti.specs.Calls.{BuildCall, CheckCall, ReplayCall, ArrangeCall}
 use Rattle.demands.specs.Demand.{Arranged, Replayed, Checked, NetCounted, Buffers, StatedSizes, OrderOfCalls, OrderPromised, RunOfCalls, RunPromised}
@@ -94,7 +94,7 @@ module _ (net : List ℕ) (N : Net) (hN : readNet net ≡ gives N) (text : List 
 -- an accepted net is counted
 net-counted : (net : List ℕ) {N : Net} {r : Numbers} → readNet net ≡ gives N → r ≡ netReturns net → NetCounted N r
 net-counted net {N} {r} h e =
-    let q : r ≡ numbersOf (gives (netValues N)) = unfold returned in (e ∙ ap (λ a. numbersOf (returned netValues a)) h) in
+    let q : r ≡ asNumbers (gives (netValues N)) = unfold returned in (e ∙ ap (λ a. asNumbers (returned netValues a)) h) in
     record { accepted = ap (λ (z : Numbers). z .number) q; places = ap (λ (z : Numbers). z .a) q; transitions = ap (λ (z : Numbers). z .b) q }
 
 module _ (net text arrangement : List ℕ) {old new : Buffers} (r : Calls) where
@@ -116,7 +116,7 @@ pub build-within : (net log old : List ℕ) {r : Numbers} {new : List ℕ} → B
 unfolding buildLeaves leaves over returned
 build-within net log old {r} {new} c = go (build net log (length old)) (c .answer) (c .buffer)
   where
-    go : (x : Answer (List ℕ)) → r ≡ numbersOf (returned byteValues x) → new ≡ buildLeaves x old → r .a ≤ length new
+    go : (x : Answer (List ℕ)) → r ≡ asNumbers (returned byteValues x) → new ≡ buildLeaves x old → r .a ≤ length new
     go (gives bytes) e b = omega (arith, ap (λ (z : Numbers). z .a) e, ap length b, length-append bytes (drop (length bytes) old))
     go (refuses n s) e b = omega (arith, ap (λ (z : Numbers). z .a) e)
 

@@ -7,15 +7,15 @@ use lib.ListN.{length, getD, take, drop, List·getD-append}
 use lib.Seq.{take-append-seam}
 use Rattle.spec.specs.Answer.{Answer, gives, refuses, returned}
 use Rattle.spec.specs.Buffer.{over, leaves}
-use Rattle.spec.specs.Values.{numbersOf}
+use Rattle.spec.specs.Values.{asNumbers}
 use Rattle.spec.specs.Refusals.{Refusal, Refuses}
 use Rattle.spec.specs.declared.Numbers.{Numbers}
 use Rattle.demands.specs.Exactly.{Exactly}
 
 module _ {A : Type 0} (values : A → ℕ × ℕ × ℕ) (written : A → List ℕ) {x : Answer A} {a : A} (g : x ≡ gives a) where
-  pub numbers-given : {r : Numbers} → r ≡ numbersOf (returned values x) → r ≡ numbersOf (gives (values a))
+  pub numbers-given : {r : Numbers} → r ≡ asNumbers (returned values x) → r ≡ asNumbers (gives (values a))
   unfolding returned
-  numbers-given p = p ∙ ap (λ y. numbersOf (returned values y)) g
+  numbers-given p = p ∙ ap (λ y. asNumbers (returned values y)) g
 
   pub left-given : (old : List ℕ) {new : List ℕ} → new ≡ leaves written x old → new ≡ over (written a) old
   unfolding leaves
@@ -33,7 +33,7 @@ entry-is ws old i p h = rw p (List·getD-append ws (drop (length ws) old) 0 i h)
 
 -- ---- no refusal has number 0, so that 0 says that something is given
 
-module _ {A : Type 0} (values : A → ℕ × ℕ × ℕ) {rs : List Refusal} (x : Answer A) (F : Refuses rs x) {r : Numbers} (e : r ≡ numbersOf (returned values x)) where
+module _ {A : Type 0} (values : A → ℕ × ℕ × ℕ) {rs : List Refusal} (x : Answer A) (F : Refuses rs x) {r : Numbers} (e : r ≡ asNumbers (returned values x)) where
   pub zero-given : r .number ≡ 0 → (a : A) × (x ≡ gives a)
   unfolding returned
   zero-given z = go x refl
@@ -41,7 +41,7 @@ module _ {A : Type 0} (values : A → ℕ × ℕ × ℕ) {rs : List Refusal} (x 
       go : (y : Answer A) → x ≡ y → (a : A) × (x ≡ gives a)
       go (gives a) q = (a, q)
       go (refuses n s) q =
-          let m : n ≡ 0 = sym (ap (λ (w : Numbers). w .number) (e ∙ ap (λ y. numbersOf (returned values y)) q)) ∙ z in
+          let m : n ≡ 0 = sym (ap (λ (w : Numbers). w .number) (e ∙ ap (λ y. asNumbers (returned values y)) q)) ∙ z in
           absurd (F .nonzero s (q ∙ ap (λ (k : ℕ). refuses k s) m))
 
   pub given-zero : {a : A} → x ≡ gives a → r .number ≡ 0

@@ -15,21 +15,21 @@ use Rattle.spec.specs.Arrange.{arranged, arrangementBytes}
 use Rattle.spec.specs.Replay.{replayed}
 use Rattle.spec.specs.Runs.{EnabledSequence, KeepsOrder, WithinLimits, logBytes}
 use Rattle.spec.specs.Buffer.{over}
-use Rattle.spec.specs.Values.{numbersOf, netValues, byteValues, checkValues, replayValues, arrangeValues}
+use Rattle.spec.specs.Values.{asNumbers, netValues, byteValues, checkValues, replayValues, arrangeValues}
 use Rattle.spec.specs.Exactness.{EachAllowed, IsProcess, IsAccepted, IsTextOf}
 use Rattle.spec.specs.declared.Numbers.{Numbers}
 
 -- number 0 is returned exactly where P holds, and then the values of `what`, which stands at the start of the buffer
 pub record Exactly {A : Type 0} (P : Type 0) (values : A → ℕ × ℕ × ℕ) (written : A → List ℕ) (what : A) (old : List ℕ) (r : Numbers) (new : List ℕ) : Type 0 where
   pub accepted : (r .number ≡ 0) ↔ P
-  pub returns : r .number ≡ 0 → r ≡ numbersOf (gives (values what))
+  pub returns : r .number ≡ 0 → r ≡ asNumbers (gives (values what))
   pub leaves : r .number ≡ 0 → new ≡ over (written what) old
 
 -- a net text: of declarations, each allowed below those above it, that give each transition an input and an output
 abbrev pub ReadsExactly : List ℕ → Numbers → Type 0
 ReadsExactly net r =
     (ds : List Declaration) → net ≡ netBytes ds
-    → ((r .number ≡ 0) ↔ (EachAllowed ds × Complete (declared ds))) × (r .number ≡ 0 → r ≡ numbersOf (gives (netValues (declared ds))))
+    → ((r .number ≡ 0) ↔ (EachAllowed ds × Complete (declared ds))) × (r .number ≡ 0 → r ≡ asNumbers (gives (netValues (declared ds))))
 
 -- "With an accepted net and buffers of the stated sizes, a well-formed log of known transitions becomes a record exactly when
 -- each step is enabled in its turn and the limits hold, and the record is the one document 01 names."

@@ -1,7 +1,7 @@
 // Each answer as document 01's number and spot, and the values that an operation returns.
 ghost use mathlib.Core.Path.{_≡_};
 ghost use Rattle.spec.specs.Answer.{gives, refuses};
-ghost use Rattle.spec.specs.Values.{numbersOf};
+ghost use Rattle.spec.specs.Values.{asNumbers};
 ghost use Rattle.net.specs.Holds.{answerOf as netAnswer};
 ghost use Rattle.building.specs.Holds.{buildAnswer};
 ghost use Rattle.accepting.specs.Accepting.{refusedBy};
@@ -21,7 +21,7 @@ use replaying::ReplayAnswer;
 use spec::Numbers;
 
 fn accepted(a: usize, b: usize, c: usize) -> Numbers
-    ensures { λ r. ⌜ r ≡ numbersOf (gives (a, b, c)) ⌝ }
+    ensures { λ r. ⌜ r ≡ asNumbers (gives (a, b, c)) ⌝ }
 {
     Numbers {
         number: 0,
@@ -33,7 +33,7 @@ fn accepted(a: usize, b: usize, c: usize) -> Numbers
 }
 
 fn refused(number: u64, spot: usize) -> Numbers
-    ensures { λ r. ⌜ r ≡ numbersOf (refuses number spot) ⌝ }
+    ensures { λ r. ⌜ r ≡ asNumbers (refuses number spot) ⌝ }
 {
     Numbers {
         number,
@@ -46,7 +46,7 @@ fn refused(number: u64, spot: usize) -> Numbers
 
 // Reading a net: places and transitions.
 pub fn of_net(x: NetAnswer) -> Numbers
-    ensures { λ r. ⌜ r ≡ numbersOf (netAnswer x) ⌝ }
+    ensures { λ r. ⌜ r ≡ asNumbers (netAnswer x) ⌝ }
 {
     match x {
         NetAnswer::Accepted(p, t) => accepted(p, t, 0),
@@ -60,7 +60,7 @@ pub fn of_net(x: NetAnswer) -> Numbers
 
 // Building: bytes written.
 pub fn of_build(x: BuildAnswer) -> Numbers
-    ensures { λ r. ⌜ r ≡ numbersOf (buildAnswer x) ⌝ }
+    ensures { λ r. ⌜ r ≡ asNumbers (buildAnswer x) ⌝ }
 {
     match x {
         BuildAnswer::Written(n) => accepted(n, 0, 0),
@@ -82,7 +82,7 @@ pub fn of_build(x: BuildAnswer) -> Numbers
 
 // What a net or a record is refused for, by the check, by replaying and by arranging.
 fn of_refusal(x: Refusal) -> Numbers
-    ensures { λ r. ⌜ r ≡ numbersOf (refusedBy x) ⌝ }
+    ensures { λ r. ⌜ r ≡ asNumbers (refusedBy x) ⌝ }
 {
     match x {
         Refusal::NetMalformed(k) => refused(11, k),
@@ -104,7 +104,7 @@ fn of_refusal(x: Refusal) -> Numbers
 
 // The check: events, conditions and independent pairs.
 pub fn of_check(x: CheckAnswer) -> Numbers
-    ensures { λ r. ⌜ r ≡ numbersOf (checkOf x) ⌝ }
+    ensures { λ r. ⌜ r ≡ asNumbers (checkOf x) ⌝ }
 {
     match x {
         CheckAnswer::Checked(n, m, k) => accepted(n, m, k),
@@ -115,7 +115,7 @@ pub fn of_check(x: CheckAnswer) -> Numbers
 
 // The lines of an arrangement: how many were played.
 fn of_lines(x: ArrangementAnswer) -> Numbers
-    ensures { λ r. ⌜ r ≡ numbersOf (arrangementAnswer x) ⌝ }
+    ensures { λ r. ⌜ r ≡ asNumbers (arrangementAnswer x) ⌝ }
 {
     match x {
         ArrangementAnswer::Keeps(n) => accepted(n, 0, 0),
@@ -129,7 +129,7 @@ fn of_lines(x: ArrangementAnswer) -> Numbers
 
 // Replaying: lines played.
 pub fn of_replay(x: ReplayAnswer) -> Numbers
-    ensures { λ r. ⌜ r ≡ numbersOf (replayOf x) ⌝ }
+    ensures { λ r. ⌜ r ≡ asNumbers (replayOf x) ⌝ }
 {
     match x {
         ReplayAnswer::BufferShort => refused(40, 0),
@@ -140,7 +140,7 @@ pub fn of_replay(x: ReplayAnswer) -> Numbers
 
 // Arranging: bytes written and lines.
 pub fn of_arrange(x: ArrangeAnswer) -> Numbers
-    ensures { λ r. ⌜ r ≡ numbersOf (arrangeAnswer x) ⌝ }
+    ensures { λ r. ⌜ r ≡ asNumbers (arrangeAnswer x) ⌝ }
 {
     match x {
         ArrangeAnswer::Arranged(bytes, lines) => accepted(bytes, lines, 0),
@@ -151,7 +151,7 @@ pub fn of_arrange(x: ArrangeAnswer) -> Numbers
 
 // The refused line: where it starts, and its length.
 pub fn of_line(x: LineAnswer) -> Numbers
-    ensures { λ r. ⌜ r ≡ numbersOf (lineAnswer x) ⌝ }
+    ensures { λ r. ⌜ r ≡ asNumbers (lineAnswer x) ⌝ }
 {
     match x {
         LineAnswer::Shown(start, length) => accepted(start, length, 0),
@@ -161,7 +161,7 @@ pub fn of_line(x: LineAnswer) -> Numbers
 
 // The program: bytes written, also of an `X` line.
 pub fn of_program(bytes: usize) -> Numbers
-    ensures { λ r. ⌜ r ≡ numbersOf (gives (bytes, 0, 0)) ⌝ }
+    ensures { λ r. ⌜ r ≡ asNumbers (gives (bytes, 0, 0)) ⌝ }
 {
     accepted(bytes, 0, 0)
 }

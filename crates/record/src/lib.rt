@@ -3,7 +3,7 @@ ghost use mathlib.Core.Path.{_≡_};
 ghost use mathlib.Core.Bool.{true, false};
 ghost use Prim.Native.Nat.{_+_, _^_, _≤_, _<_};
 ghost use Rattle.spec.specs.Net.{Net, places as placesOf};
-ghost use Rattle.spec.specs.Process.{below};
+ghost use Rattle.spec.specs.Process.{isBelow};
 ghost use Rattle.spec.specs.Check.{eventOf, enterEvent, enterCondition, enterMark, enterRow, enterLine};
 ghost use Rattle.lines.specs.Lines.{lineOf};
 ghost use Rattle.plain.specs.Plain.{Opens};
@@ -82,7 +82,7 @@ fn goes(a: RecordAnswer) -> bool
 
 // Whether a producer or consumer is none, or an event below n.
 fn event_below(n: usize, f: Field) -> bool
-    ensures { λ r. ⌜ r ≡ below n (eventOf f) ⌝ }
+    ensures { λ r. ⌜ r ≡ isBelow n (eventOf f) ⌝ }
 {
     match f {
         Field::Number(e) => e < n,

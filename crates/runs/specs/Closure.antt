@@ -1,4 +1,4 @@
--- The tests of a record's closed order, `strictlyBefore` and `notLater`, are those of paths of pairs.
+-- The tests of a record's closed order, `isStrictlyBefore` and `isNotLater`, are those of paths of pairs.
 use mathlib.Core.Path.{_≡_, refl, sym, ap, _∙_}
 use mathlib.Core.Logic.{_⊎_, inl, inr, _↔_}
 use Prim.Native.Nat.{ℕ, zero, suc, _≤_, _<_, max}
@@ -11,7 +11,7 @@ use borrow.Author.Tests.{eq-eqb, ne-eqb, eqb-true, eqb-false, lt-ltb, le-leb, le
 use Rattle.spec.specs.Lists.{In, any, greatest}
 use Rattle.spec.specs.Net.{Net}
 use Rattle.spec.specs.Record.{RunRecord}
-use Rattle.spec.specs.Order.{Pair, pairs, Path, pair, then, StrictlyBefore, NotLater, isPair, reach, path, pathBy, strictlyBefore, notLater}
+use Rattle.spec.specs.Order.{Pair, pairs, Path, pair, then, StrictlyBefore, NotLater, isPair, reach, hasPath, pathBy, isStrictlyBefore, isNotLater}
 use Rattle.spec.specs.Process.{Process, WellFormed}
 use Rattle.spec.specs.Check.{related}
 use Rattle.order.specs.Join.{join}
@@ -108,40 +108,40 @@ module _ (ps : List Pair) where
 -- ---- of a well-formed record: no path leaves its events
 
 module _ (N : Net) (R : RunRecord) (W : WellFormed N R) where
-  path-is : (e f : ℕ) → (path R e f ≡ true) ↔ Some (pairs R) e f
-  unfolding path
+  path-is : (e f : ℕ) → (hasPath R e f ≡ true) ↔ Some (pairs R) e f
+  unfolding hasPath
   path-is e f = (
     reach-path (pairs R) (length (R .events)) e f,
     λ p. reach-is (pairs R) (length (R .events)) e f ∙ lt-ltb _ _ (path-pos (pairs R) _ (bounded N R W) (p .1)),
   )
 
-  to-is : (e f : ℕ) → ((eqb e f || path R e f) ≡ true) ↔ To (pairs R) e f
+  to-is : (e f : ℕ) → ((eqb e f || hasPath R e f) ≡ true) ↔ To (pairs R) e f
   to-is e f = (
-    λ h. elim (Laws.or-true (eqb e f) (path R e f) h) [ inl z ↦ inl (eqb-true e f z) | inr z ↦ inr (path-is e f .0 z) ],
-    λ h. elim h [ inl z ↦ Laws.true-or-l (path R e f) (eq-eqb e f z) | inr z ↦ Laws.true-or-r (eqb e f) (path-is e f .1 z) ],
+    λ h. elim (Laws.or-true (eqb e f) (hasPath R e f) h) [ inl z ↦ inl (eqb-true e f z) | inr z ↦ inr (path-is e f .0 z) ],
+    λ h. elim h [ inl z ↦ Laws.true-or-l (hasPath R e f) (eq-eqb e f z) | inr z ↦ Laws.true-or-r (eqb e f) (path-is e f .1 z) ],
   )
 
-  strict-path : (e f : ℕ) → strictlyBefore R e f ≡ true → StrictlyBefore R e f
-  unfolding strictlyBefore pathBy
+  strict-path : (e f : ℕ) → isStrictlyBefore R e f ≡ true → StrictlyBefore R e f
+  unfolding isStrictlyBefore pathBy
   strict-path e f h =
       let r : (q : Pair) × In q (pairs R) × (pathBy R e f q ≡ true) = Laws.any-found (pathBy R e f) (pairs R) h in
       let x = Laws.and-true _ _ (r .2) in
       let y = Laws.and-true _ _ (x .0) in
       by-path (pairs R) (r .0, r .1, y .0, to-is e (r .0 .source) .0 (y .1), to-is (r .0 .target) f .0 (x .1))
 
-  path-strict : (e f : ℕ) → StrictlyBefore R e f → strictlyBefore R e f ≡ true
-  unfolding strictlyBefore pathBy
+  path-strict : (e f : ℕ) → StrictlyBefore R e f → isStrictlyBefore R e f ≡ true
+  unfolding isStrictlyBefore pathBy
   path-strict e f p =
       let r : By (pairs R) e f = path-by (pairs R) p refl in
       Laws.any-in (pathBy R e f) (r .0) (pairs R) (r .1) (Laws.true-and (Laws.true-and (r .2) (to-is e (r .0 .source) .1 (r .3))) (to-is (r .0 .target) f .1 (r .4)))
 
-  pub strict-is : (e f : ℕ) → (strictlyBefore R e f ≡ true) ↔ StrictlyBefore R e f
+  pub strict-is : (e f : ℕ) → (isStrictlyBefore R e f ≡ true) ↔ StrictlyBefore R e f
   strict-is e f = (strict-path e f, path-strict e f)
 
-  pub weak-is : (e f : ℕ) → (notLater R e f ≡ true) ↔ NotLater R e f
-  unfolding notLater
+  pub weak-is : (e f : ℕ) → (isNotLater R e f ≡ true) ↔ NotLater R e f
+  unfolding isNotLater
   weak-is e f = (
-    λ h. let z = Laws.and-true (not (eqb e f)) (path R e f) h in (eqb-false e f (Laws.not-is-true _ (z .0)), path-is e f .0 (z .1)),
+    λ h. let z = Laws.and-true (not (eqb e f)) (hasPath R e f) h in (eqb-false e f (Laws.not-is-true _ (z .0)), path-is e f .0 (z .1)),
     λ h. Laws.true-and (ap not (ne-eqb e f (h .0))) (path-is e f .1 (h .1)),
   )
 
@@ -157,14 +157,14 @@ table-value false (suc (suc zero)) l h = refl
 table-value false (suc (suc (suc x))) l h = absurd (omega arith)
 
 module _ (N : Net) (R : RunRecord) (W : WellFormed N R) (P : Process N R) (e f : ℕ) (l : e < length (R .events)) (m : f < length (R .events)) where
-  strict-test : strictlyBefore R e f ≡ leb 2 (orderOf R e f)
+  strict-test : isStrictlyBefore R e f ≡ leb 2 (orderOf R e f)
   strict-test = Laws.same-tests _ _ (
     λ h. le-leb 2 (orderOf R e f) (strict-order N R W e f l m .1 (strict-is N R W e f .0 h)),
     λ h. strict-is N R W e f .1 (strict-order N R W e f l m .0 (leb-true 2 (orderOf R e f) h)),
   )
 
   pub related-is : related R e f ≡ entry (orderOf R) e f
-  unfolding related entry notLater path
+  unfolding related entry isNotLater hasPath
   related-is = rw (strict-test, reach-is (pairs R) (length (R .events)) e f)
       (table-value (eqb e f) (orderOf R e f) (close-bound (pairAt (pairs R)) (pair-most (pairs R)) _ e f)
       (λ q. rw (← eqb-true e f q) (order N R W P .acyclic e l)))

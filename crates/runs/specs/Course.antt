@@ -16,7 +16,7 @@ use Rattle.spec.specs.Net.{Net, places, takes, makes, inhibits}
 use Rattle.spec.specs.Step.{tokensAt, taken, made}
 use Rattle.spec.specs.Record.{RunRecord, Condition, noCondition, Mark, names, isNone, isAt, due, transitionOf, conditionAt}
 use Rattle.spec.specs.Order.{pairs}
-use Rattle.spec.specs.Process.{Process, WellFormed, below, initialIn, consumedIn, producedIn, wrongEnd}
+use Rattle.spec.specs.Process.{Process, WellFormed, isBelow, initialIn, consumedIn, producedIn, wrongEnd}
 use Rattle.spec.specs.Build.{isFree}
 use Rattle.spec.specs.Arrangement.{Arrangement, index}
 use Rattle.spec.specs.Replay.{firedBy}
@@ -51,13 +51,13 @@ leftAt R lines k p = count (λ c. eqb (c .place) p && left lines k c) (R .condit
 
 module _ (N : Net) (R : RunRecord) (lines : List (List ℕ)) (A : Arrangement (length (R .events)) lines) (k p : ℕ) where
   -- one condition, counted at each event that it names
-  named-once : (b : Bool) (a : Option ℕ) → below (length (R .events)) a ≡ true → sumOf (λ e. asCount (b && names a e)) (flat (take k lines)) ≡ asCount (b && stands lines k a)
+  named-once : (b : Bool) (a : Option ℕ) → isBelow (length (R .events)) a ≡ true → sumOf (λ e. asCount (b && names a e)) (flat (take k lines)) ≡ asCount (b && stands lines k a)
   named-once true a h = sym (Laws.count-sum (names a) (flat (take k lines))) ∙ first-lines _ lines A k a h
   named-once false a h = Laws.sumOf-zero _ (flat (take k lines)) (λ e m. Laws.count-false {b = false} refl) ∙ sym (Laws.count-false {b = false} refl)
 
   -- for either end of the conditions, and the arcs that it stands for
   arcs-counted : (arc : ℕ → ℕ) (end : Condition → Option ℕ)
-      → ((c : Condition) → In c (R .conditions) → below (length (R .events)) (end c) ≡ true)
+      → ((c : Condition) → In c (R .conditions) → isBelow (length (R .events)) (end c) ≡ true)
       → ((e : ℕ) → e < length (R .events) → count (λ c. eqb (c .place) p && names (end c) e) (R .conditions) ≡ arc (transitionOf R e))
       → sumOf arc (firedBy R lines k) ≡ count (λ c. eqb (c .place) p && stands lines k (end c)) (R .conditions)
   unfolding firedBy
@@ -194,8 +194,8 @@ module _ (N : Net) (R : RunRecord) (W : WellFormed N R) (P : Process N R) (lines
 
   -- ---- after the last line
 
-  stands-all : (a : Option ℕ) → below (length (R .events)) a ≡ true → stands lines (length lines) a ≡ not (isNone a)
-  unfolding below stands isNone
+  stands-all : (a : Option ℕ) → isBelow (length (R .events)) a ≡ true → stands lines (length lines) a ≡ not (isNone a)
+  unfolding isBelow stands isNone
   stands-all none h = refl
   stands-all (some e) h = lt-ltb _ _ (line-below _ lines (K .arranged) e (ltb-true e _ h))
 

@@ -14,7 +14,7 @@ use Rattle.spec.specs.Answer.{gives}
 use Rattle.spec.specs.Net.{Net, readNet}
 use Rattle.spec.specs.Step.{tokensAt}
 use Rattle.spec.specs.Record.{RunRecord, bench, recordBytes}
-use Rattle.spec.specs.Order.{strictlyBefore, notLater}
+use Rattle.spec.specs.Order.{isStrictlyBefore, isNotLater}
 use Rattle.spec.specs.Process.{Process, WellFormed}
 use Rattle.spec.specs.Build.{recordFor}
 use Rattle.spec.specs.Check.{accepts, readRecord, related, tableAt, tableBytes, checked, check}
@@ -111,7 +111,7 @@ module _ (net : List ℕ) (N : Net) (hN : readNet net ≡ gives N) (text : List 
       ∙ Laws.getD-table (tableAt R e) 128 f 0 (omega (arith, I .events))
       ∙ rw (lt-ltb e (length (R .events)) l, lt-ltb f (length (R .events)) m)
 
-  strict-weak : (e f : ℕ) → e ≢ f → strictlyBefore R e f ≡ true → notLater R e f ≡ true
+  strict-weak : (e f : ℕ) → e ≢ f → isStrictlyBefore R e f ≡ true → isNotLater R e f ≡ true
   strict-weak e f d h = weak-is N R W e f .1 (d, (true, strict-is N R W e f .0 h))
 
   tables : TableSays net text R
@@ -121,12 +121,12 @@ module _ (net : List ℕ) (N : Net) (hN : readNet net ≡ gives N) (text : List 
     checks = checks;
     full = length-rows 128 (λ e. map (tableAt R e) (upTo 128)) (λ k. length-map (upTo 128) (tableAt R k) ∙ Laws.length-upTo 128) 128;
     strict = λ e f t. (
-      λ h. strict-is N R W e f .0 (related-strict (strictlyBefore R e f) (notLater R e f) .0 (sym (entry-is e f (t .one) (t .other)) ∙ h)),
-      λ p. entry-is e f (t .one) (t .other) ∙ related-strict (strictlyBefore R e f) (notLater R e f) .1 (strict-is N R W e f .1 p),
+      λ h. strict-is N R W e f .0 (related-strict (isStrictlyBefore R e f) (isNotLater R e f) .0 (sym (entry-is e f (t .one) (t .other)) ∙ h)),
+      λ p. entry-is e f (t .one) (t .other) ∙ related-strict (isStrictlyBefore R e f) (isNotLater R e f) .1 (strict-is N R W e f .1 p),
     );
     weak = λ e f t. (
-      λ h. weak-is N R W e f .0 (related-weak (strictlyBefore R e f) (notLater R e f) (strict-weak e f (t .differ)) .0 (rw (entry-is e f (t .one) (t .other)) at h)),
-      λ p. rw (entry-is e f (t .one) (t .other)) (related-weak (strictlyBefore R e f) (notLater R e f) (strict-weak e f (t .differ)) .1 (weak-is N R W e f .1 p)),
+      λ h. weak-is N R W e f .0 (related-weak (isStrictlyBefore R e f) (isNotLater R e f) (strict-weak e f (t .differ)) .0 (rw (entry-is e f (t .one) (t .other)) at h)),
+      λ p. rw (entry-is e f (t .one) (t .other)) (related-weak (isStrictlyBefore R e f) (isNotLater R e f) (strict-weak e f (t .differ)) .1 (weak-is N R W e f .1 p)),
     );
   }
 

@@ -17,7 +17,7 @@ use Rattle.spec.specs.Check.{readRecord}
 use Rattle.spec.specs.Replay.{readArrangement}
 use Rattle.spec.specs.Arrangement.{index}
 use Rattle.spec.specs.Arrange.{arrangementBytes}
-use Rattle.spec.specs.Runs.{EnabledSequence, KeepsOrder, asSteps, logBytes, openRuns}
+use Rattle.spec.specs.Runs.{EnabledSequence, KeepsOrder, asSteps, logBytes}
 use Rattle.spec.specs.Demand.{OrderOfRuns, RunIsRecorded}
 use Rattle.spec.specs.Quoted.{text}
 use Rattle.spec.specs.Cases.{drive, recordB, openAll}
@@ -143,7 +143,7 @@ unfoldable pub stepsA : List (List ℕ)
 stepsA = (0 ∷ []) ∷ (1 ∷ []) ∷ (2 ∷ []) ∷ []
 
 a-built : build drive (logBytes stepsA) 48256 ≡ gives recordA
-unfolding openAll openRuns stepsA recordA
+unfolding openAll stepsA recordA
 a-built = refl
 
 pub run-a : RunIsRecorded drive driveNet stepsA
@@ -157,7 +157,7 @@ recorded =
     of-gives (sym (run-a .accepts) ∙ rw e a-accepted)
 
 pub among : KeepsOrder runA ((0 ∷ []) ∷ (1 ∷ []) ∷ (2 ∷ []) ∷ [])
-unfolding openRuns openAll stepsA
+unfolding openAll stepsA
 among = rw recorded at (run-a .among)
 
 -- ---- case k: no record is accepted, so that the demand says nothing of this text

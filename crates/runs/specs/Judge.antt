@@ -12,9 +12,9 @@ use Rattle.spec.specs.Answer.{gives, _>>_, refuse_at?_}
 use Rattle.spec.specs.Net.{Net, places, takes, makes}
 use Rattle.spec.specs.Step.{tokensAt}
 use Rattle.spec.specs.Record.{RunRecord, Mark, transitionOf, conditionAt, isAt, marked, due}
-use Rattle.spec.specs.Order.{StrictlyBefore, strictlyBefore}
+use Rattle.spec.specs.Order.{StrictlyBefore, isStrictlyBefore}
 use Rattle.spec.specs.Process.{Process, WellFormed, initialIn, consumedIn, producedIn, wrongEnd}
-use Rattle.spec.specs.Check.{wrongInitial, wrongArcsAt, wrongArcs, same, wrongMarkAt, wrongMarks, wrongKindAt, wrongKind, beforeItself, obeys}
+use Rattle.spec.specs.Check.{wrongInitial, wrongArcsAt, wrongArcs, agree, wrongMarkAt, wrongMarks, wrongKindAt, wrongKind, beforeItself, obeys}
 use Rattle.lists.specs.Laws
 use Rattle.runs.specs.Answers.{of-lowest, of-last}
 use Rattle.runs.specs.Pairs.{path-bounded}
@@ -23,8 +23,8 @@ use Rattle.runs.specs.Closure.{strict-is}
 
 -- ---- each rule's test finds nothing exactly where the rule holds
 
-same-is : (a b : Bool) → (same a b ≡ true) ↔ (a ≡ b)
-unfolding same
+same-is : (a b : Bool) → (agree a b ≡ true) ↔ (a ≡ b)
+unfolding agree
 same-is true b = (sym, sym)
 same-is false true = (λ h. h, λ h. h)
 same-is false false = (λ h. refl, λ h. refl)
@@ -70,7 +70,7 @@ module _ (N : Net) (R : RunRecord) where
   unfolding beforeItself
   order-rule W e = (
     λ h p. Laws.clash (strict-is N R W e e .1 p) h,
-    λ h. elim (Laws.true-or-false (strictlyBefore R e e)) [ inl a ↦ absurd (h (strict-is N R W e e .0 a)) | inr a ↦ a ],
+    λ h. elim (Laws.true-or-false (isStrictlyBefore R e e)) [ inl a ↦ absurd (h (strict-is N R W e e .0 a)) | inr a ↦ a ],
   )
 
 -- ---- the five rules, each over the whole record

@@ -11,7 +11,7 @@ use lib.ListN.{length, getD, length-map}
 use Rattle.spec.specs.Lists.{upTo}
 use Rattle.spec.specs.Net.{Net}
 use Rattle.spec.specs.Record.{RunRecord}
-use Rattle.spec.specs.Order.{StrictlyBefore, NotLater, strictlyBefore, notLater}
+use Rattle.spec.specs.Order.{StrictlyBefore, NotLater, isStrictlyBefore, isNotLater}
 use Rattle.spec.specs.Process.{Process, WellFormed}
 use Rattle.spec.specs.Arrangement.{index}
 use Rattle.spec.specs.Arrange.{Chain, alone, weakly, strictly, prolonged, longest, levels, lineCount, onLine, arrangedLines}
@@ -65,13 +65,13 @@ module _ (N : Net) (R : RunRecord) (W : WellFormed N R) (P : Process N R) where
 
   -- ---- the level is the longest chain
 
-  longest-is : (k e : ℕ) → longest R k e ≡ chainF n (strictlyBefore R) (notLater R) k e
+  longest-is : (k e : ℕ) → longest R k e ≡ chainF n (isStrictlyBefore R) (isNotLater R) k e
   unfolding longest prolonged chainF prolong maxBelow
   longest-is zero e = refl
-  longest-is (suc k) e = max-same n _ _ (λ f l. ap (prolong (strictlyBefore R f e) (notLater R f e)) (longest-is k f))
+  longest-is (suc k) e = max-same n _ _ (λ f l. ap (prolong (isStrictlyBefore R f e) (isNotLater R f e)) (longest-is k f))
 
   level-is : (e : ℕ) → e < n → longest R n e ≡ lev n c e
-  level-is e l = longest-is n e ∙ chainF-level n c o (strictlyBefore R) (notLater R)
+  level-is e l = longest-is n e ∙ chainF-level n c o (isStrictlyBefore R) (isNotLater R)
       (λ g e i j. Iff·trans (strict-is N R W g e) (Iff·symm (strict-order N R W g e i j)))
       (λ g e i j h. weak-order N R W g e i j .1 (weak-is N R W g e .0 h) .1) e l
 

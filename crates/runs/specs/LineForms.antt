@@ -16,7 +16,7 @@ use Rattle.spec.specs.Lists.{In, from, upTo, every}
 use Rattle.spec.specs.Text.{alike, classCode, mostDigits, pieces, isNumber, isDash, valueFrom, fieldOf, letterIn, fieldsOf, rowOf}
 use Rattle.spec.specs.Forms.{aNumber, aNumberOrDash, absent, valueOf, isAlone, isOne, isTwo, isThree, isList, numbersOf}
 use Rattle.spec.specs.Record.{eventField}
-use Rattle.spec.specs.Process.{below}
+use Rattle.spec.specs.Process.{isBelow}
 use Rattle.spec.specs.Check.{eventOf}
 use Rattle.spec.specs.declared.Class.{Class}
 use Rattle.spec.specs.declared.Field.{Field}
@@ -50,8 +50,8 @@ unfolding eventField
 event-back none = refl
 event-back (some e) = refl
 
-pub event-below : (n b : ℕ) (o : Option ℕ) → n ≤ b → below n o ≡ true → FieldBelow b (eventField o)
-unfolding below eventField
+pub event-below : (n b : ℕ) (o : Option ℕ) → n ≤ b → isBelow n o ≡ true → FieldBelow b (eventField o)
+unfolding isBelow eventField
 event-below n b none l h = tt
 event-below n b (some e) l h = le-trans (ltb-true e n h) l
 

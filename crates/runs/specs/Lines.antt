@@ -13,7 +13,7 @@ use lib.Dec.{eqb, ltb}
 use borrow.Author.Tests.{eq-eqb, ltb-true, lt-ltb, le-ltb}
 use Rattle.spec.specs.Lists.{In, count, flat, asCount}
 use Rattle.spec.specs.Record.{names}
-use Rattle.spec.specs.Process.{below}
+use Rattle.spec.specs.Process.{isBelow}
 use Rattle.spec.specs.Arrangement.{Arrangement, times, index}
 use Rattle.order.specs.Index.{times-append, index-bound, placed, place-of, has-times, index-is}
 use Rattle.lists.specs.Laws
@@ -56,7 +56,7 @@ module _ (n : ℕ) (lines : List (List ℕ)) (A : Arrangement n lines) where
     | no h ↦ rw (Laws.count-false (le-ltb (index e lines) k (omega arith))) (elim (eq-zero-or-pos (times e (take k lines))) [ inl z ↦ z | inr z ↦ absurd (h (placed e k lines z)) ])
   ]
 
-  pub first-lines : (k : ℕ) (a : Option ℕ) → below n a ≡ true → count (names a) (flat (take k lines)) ≡ asCount (stands lines k a)
-  unfolding names stands below times asCount
+  pub first-lines : (k : ℕ) (a : Option ℕ) → isBelow n a ≡ true → count (names a) (flat (take k lines)) ≡ asCount (stands lines k a)
+  unfolding names stands isBelow times asCount
   first-lines k none h = Laws.count-none _ (flat (take k lines)) (λ e m. refl)
   first-lines k (some e) h = first-times k e (ltb-true e n h)

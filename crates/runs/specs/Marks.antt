@@ -15,7 +15,7 @@ use Rattle.spec.specs.Lists.{In, count, asCount}
 use Rattle.spec.specs.Net.{Net, takes, makes}
 use Rattle.spec.specs.Record.{RunRecord, Condition, Mark, noCondition, transitionOf, isNone, isAt, due}
 use Rattle.spec.specs.Order.{Pair, pairs}
-use Rattle.spec.specs.Process.{Process, WellFormed, below, wrongEnd}
+use Rattle.spec.specs.Process.{Process, WellFormed, isBelow, wrongEnd}
 use Rattle.spec.specs.Build.{Event, noEvent, Run, stepOf, marksDue, recordOf}
 use Rattle.spec.specs.declared.MarkKind.{MarkKind}
 use Rattle.spec.specs.declared.MarkKind.the-variants.{Before, After}
@@ -175,8 +175,8 @@ is-earlier : (es : List Event) (k : ℕ) (o : Option ℕ) (f : ℕ) → o ≡ so
 unfolding earlier
 is-earlier es k o f q l = rw q (lt-ltb _ _ l)
 
-all-below : (n : ℕ) (o : Option ℕ) → ((e : ℕ) → o ≡ some e → e < n) → below n o ≡ true
-unfolding below
+all-below : (n : ℕ) (o : Option ℕ) → ((e : ℕ) → o ≡ some e → e < n) → isBelow n o ≡ true
+unfolding isBelow
 all-below n none h = refl
 all-below n (some e) h = lt-ltb e n (h e refl)
 

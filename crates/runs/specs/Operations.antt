@@ -15,7 +15,7 @@ use Rattle.spec.specs.Answer.{Answer, gives, _>>=_, _>>_, refuse_at_when_}
 use Rattle.spec.specs.Net.{Net, readNet}
 use Rattle.spec.specs.NetText.{Declaration, netBytes, declared, Complete}
 use Rattle.spec.specs.Record.{RunRecord, bench, recordBytes}
-use Rattle.spec.specs.Process.{below}
+use Rattle.spec.specs.Process.{isBelow}
 use Rattle.spec.specs.Build.{recordFor, build}
 use Rattle.spec.specs.Check.{Accepted, Checked, readRecord, accepts, checked, checkWithin, check}
 use Rattle.spec.specs.Arrange.{Arranged, arrangementBytes, arranged, arrange}
@@ -31,8 +31,8 @@ use Rattle.runs.specs.Exactness.{exactness}
 
 -- ---- the numbers of what is accepted have at most three digits
 
-below-more : (n m : ℕ) (o : Option ℕ) → n ≤ m → below n o ≡ true → below m o ≡ true
-unfolding below
+below-more : (n m : ℕ) (o : Option ℕ) → n ≤ m → isBelow n o ≡ true → isBelow m o ≡ true
+unfolding isBelow
 below-more n m none l h = refl
 below-more n m (some e) l h = lt-ltb e m (le-trans (ltb-true e n h) l)
 

@@ -13,7 +13,7 @@ use Rattle.spec.specs.Text.{linesOf, byLines, alike, mostDigits}
 use Rattle.spec.specs.Forms.{isOne, isTwo, isThree}
 use Rattle.spec.specs.Net.{Net, places}
 use Rattle.spec.specs.Record.{RunRecord, Condition, Mark, isAt, marked, eventField, eventLine, conditionLine, markLineOf, markLine, recordBytes}
-use Rattle.spec.specs.Process.{WellFormed, below}
+use Rattle.spec.specs.Process.{WellFormed, isBelow}
 use Rattle.spec.specs.Check.{isEmpty, withEvent, withCondition, withMark, enterEvent, enterCondition, enterMark, conditionOf, markIn, enterRow, enterLine, emptyRecord}
 use Rattle.spec.specs.declared.Field.the-variants.{Number}
 use Rattle.spec.specs.declared.Limits.{Limits}
@@ -55,7 +55,7 @@ module _ (lim : Limits) (N : Net) (S : Printed lim N) (k : ℕ) where
       takes-line E-letter (Number t ∷ []) (rw (row-back E-letter (Number t ∷ []) w, lt-leb (lim .events) (length es) l, lt-leb (N .transitions) t h))
 
   condition-taken : (c : Condition) (es : List ℕ) (cs : List Condition) → length es ≤ lim .events → length cs < lim .conditions
-      → c .place < places N → below (length es) (c .producer) ≡ true → below (length es) (c .consumer) ≡ true
+      → c .place < places N → isBelow (length es) (c .producer) ≡ true → isBelow (length es) (c .consumer) ≡ true
       → Takes (enterLine lim N) k (parts es cs []) (conditionLine c) (suc k) (parts es (cs ++ c ∷ []) [])
   unfolding conditionLine enterLine enterRow isOne isThree alike conditionOf enterCondition isEmpty withCondition _>>_ refuse_at_when_
   condition-taken c es cs b l p x y =

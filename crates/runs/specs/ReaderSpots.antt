@@ -13,10 +13,10 @@ use lib.ListN.{length, length-append, length-map}
 use lib.Dec.{eqb, ltb, leb}
 use borrow.Author.Tests.{eq-eqb, eqb-true, eqb-false, ltb-true, ltb-false, leb-true, leb-false}
 use Rattle.spec.specs.Lists.{In, upTo, any, count, first, flat, member}
-use Rattle.spec.specs.Order.{path, strictlyBefore, notLater}
+use Rattle.spec.specs.Order.{hasPath, isStrictlyBefore, isNotLater}
 use Rattle.spec.specs.Text.{Line, linesOf, byLines, rowOf, mostDigits}
 use Rattle.spec.specs.Forms.{isAlone, isOne, isTwo, isThree, valueOf, numbersOf}
-use Rattle.spec.specs.Net.{Net, Arc, places, kindCode, isArc, joined, withPlace, withTransition, withArc, addPlace, addTransition, addArc, addRow, addLine, emptyNet, lacking, whole, netOf}
+use Rattle.spec.specs.Net.{Net, Arc, places, arcKindCode, isArc, joined, withPlace, withTransition, withArc, addPlace, addTransition, addArc, addRow, addLine, emptyNet, lacking, whole, netOf}
 use Rattle.spec.specs.Record.{RunRecord, Condition, Mark, isAt, marked, bench}
 use Rattle.spec.specs.Build.{Run, start, inStep, playStep, isStepLine, logLine, playLog, built}
 use Rattle.spec.specs.Check.{withEvent, withCondition, withMark, enterEvent, enterCondition, enterMark, conditionOf, markIn, enterRow, enterLine, emptyRecord, obeys, readRecord}
@@ -39,9 +39,9 @@ use Rattle.runs.specs.Within.{listed, Within, given-within, refused-with
 
 -- arcs between things below 32 by number: 3 · 32 · 32 of them
 abbrev arcCode : Arc → ℕ
-arcCode a = kindCode (a .kind) * 1024 + a .place * 32 + a .transition
+arcCode a = arcKindCode (a .kind) * 1024 + a .place * 32 + a .transition
 
-kinds : (x : ArcKind) → kindCode x ≤ 2
+kinds : (x : ArcKind) → arcKindCode x ≤ 2
 kinds Input = omega arith
 kinds Output = omega arith
 kinds Inhibitor = omega arith
@@ -66,13 +66,13 @@ module _ {k : ℕ} {n : Net} (D : Drafted k n) where
   spot-few = (omega (arith, D .next), omega (arith, D .next, D .places, D .transitions, arcs-few))
 
   -- an arc that the net does not have has a number of its own
-  number-new : (x : ArcKind) (p t c : ℕ) → p < 32 → t < 32 → joined n x p t ≡ false → kindCode x * 1024 + p * 32 + t ≡ c → (a : Arc) → In a (n .arcs) → eqb (arcCode a) c ≡ false
+  number-new : (x : ArcKind) (p t c : ℕ) → p < 32 → t < 32 → joined n x p t ≡ false → arcKindCode x * 1024 + p * 32 + t ≡ c → (a : Arc) → In a (n .arcs) → eqb (arcCode a) c ≡ false
   unfolding joined isArc
   number-new x p t c h l e q a i = elim (true-or-false (eqb (arcCode a) c)) [
     | inl r ↦
         let b = D .declared a i in
         let z : arcCode a ≡ c = eqb-true (arcCode a) c r in
-        let f : kindCode (a .kind) ≡ kindCode x = omega (arith, b .0, b .1) in
+        let f : arcKindCode (a .kind) ≡ arcKindCode x = omega (arith, b .0, b .1) in
         let g : a .place ≡ p = omega (arith, b .0, b .1) in
         clash (true-and (true-and (eq-eqb _ _ f) (eq-eqb _ _ g)) (eq-eqb (a .transition) t (omega arith))) (any-none (isArc x p t) (n .arcs) e a i)
     | inr r ↦ r
@@ -82,7 +82,7 @@ module _ {k : ℕ} {n : Net} (D : Drafted k n) where
   unfolding withArc
   arc-once x p t h l e c =
       let m = count-cons (λ a. eqb (arcCode a) c) (record { kind = x; place = p; transition = t }) (n .arcs) in
-      elim (true-or-false (eqb (kindCode x * 1024 + p * 32 + t) c)) [
+      elim (true-or-false (eqb (arcKindCode x * 1024 + p * 32 + t) c)) [
         | inl q ↦ omega (arith, m, count-true q, count-none (λ a. eqb (arcCode a) c) (n .arcs) (number-new x p t c h l e (eqb-true _ c q)))
         | inr q ↦ omega (arith, m, count-false q, D .once c)
       ]
@@ -284,14 +284,14 @@ module _ (N : Net) (R : RunRecord) (I : IsProcess N R) where
 
   -- a predecessor that is late is another event, and in no line before
   late-apart : (done now : List ℕ) (e d : ℕ) → late R done now e d ≡ true → (d ≢ e) × (count (eqb d) done ≡ 0)
-  unfolding late notLater
-  late-apart done now e d h = elim (or-true (strictlyBefore R d e && not (member d done)) (notLater R d e && not (member d (done ++ now))) h) [
+  unfolding late isNotLater
+  late-apart done now e d h = elim (or-true (isStrictlyBefore R d e && not (member d done)) (isNotLater R d e && not (member d (done ++ now))) h) [
     | inl a ↦
-        let z = and-true (strictlyBefore R d e) (not (member d done)) a in
+        let z = and-true (isStrictlyBefore R d e) (not (member d done)) a in
         (λ q. I .process .acyclic e (strict-is N R (I .wellFormed) e e .0 (rw q at (z .0))), none-counted d done (not-is-true _ (z .1)))
     | inr a ↦
-        let z = and-true (notLater R d e) (not (member d (done ++ now))) a in
-        let y = and-true (not (eqb d e)) (path R d e) (z .0) in
+        let z = and-true (isNotLater R d e) (not (member d (done ++ now))) a in
+        let y = and-true (not (eqb d e)) (hasPath R d e) (z .0) in
         (eqb-false d e (not-is-true _ (y .0)), omega (arith, none-counted d (done ++ now) (not-is-true _ (z .1)), count-append (eqb d) done now))
   ]
 

@@ -15,7 +15,7 @@ use Rattle.spec.specs.Text.{Line, linesOf, byLines, rowOf, mostDigits}
 use Rattle.spec.specs.Forms.{isOne, isTwo, isThree, valueOf}
 use Rattle.spec.specs.Net.{Net, places}
 use Rattle.spec.specs.Record.{RunRecord, Condition, Mark, isAt, marked, eventLine, conditionLine, markLineOf, markLine, recordBytes}
-use Rattle.spec.specs.Process.{WellFormed, below}
+use Rattle.spec.specs.Process.{WellFormed, isBelow}
 use Rattle.spec.specs.Check.{isEmpty, withEvent, withCondition, withMark, enterEvent, enterCondition, enterMark, conditionOf, markIn, enterRow, enterLine, emptyRecord}
 use Rattle.spec.specs.declared.Class.the-variants.{LetterE, LetterC, LetterB, LetterA}
 use Rattle.spec.specs.declared.Limits.{Limits}
@@ -121,14 +121,14 @@ module _ (lim : Limits) (N : Net) (k : ℕ) (r s : RunRecord) (done : List ℕ) 
       let b = of-when 32 k _ _ (a .1) in
       let d = of-when 33 k _ _ (b .1) in
       let q = empty-nil (r .marks) (not-is-false _ (a .0)) in
-      let z = and-three (ltb (c .place) (places N)) (below (length (r .events)) (c .producer)) (below (length (r .events)) (c .consumer)) (not-is-false _ (d .0)) in
+      let z = and-three (ltb (c .place) (places N)) (isBelow (length (r .events)) (c .producer)) (isBelow (length (r .events)) (c .consumer)) (not-is-false _ (d .0)) in
       subst (IsRecord lim N (done ++ conditionLine c)) (of-gives (d .1)) (record {
         written = ap (λ (x : List ℕ). x ++ conditionLine c) (I .written) ∙ condition-bytes r c q;
         wellFormed = record {
           known = W .known;
           placed = all-snoc (λ (c : Condition). c .place < places N) (r .conditions) c (W .placed) (ltb-true (c .place) (places N) (z .0));
-          producers = all-snoc (λ (c : Condition). below (length (r .events)) (c .producer) ≡ true) (r .conditions) c (W .producers) (z .1);
-          consumers = all-snoc (λ (c : Condition). below (length (r .events)) (c .consumer) ≡ true) (r .conditions) c (W .consumers) (z .2);
+          producers = all-snoc (λ (c : Condition). isBelow (length (r .events)) (c .producer) ≡ true) (r .conditions) c (W .producers) (z .1);
+          consumers = all-snoc (λ (c : Condition). isBelow (length (r .events)) (c .consumer) ≡ true) (r .conditions) c (W .consumers) (z .2);
           conditions = λ x m. in-empty x (r .marks) q m;
           events = W .events;
         };

@@ -14,7 +14,7 @@ use Rattle.spec.specs.Lists.{In, sumOf, flat}
 use Rattle.spec.specs.Text.{fieldBytes, fieldsBytes, line, mostDigits}
 use Rattle.spec.specs.Net.{Net, places}
 use Rattle.spec.specs.Record.{RunRecord, Condition, Mark, bench, eventField, eventLine, conditionLine, markLineOf, markLine, recordBytes}
-use Rattle.spec.specs.Process.{WellFormed, below}
+use Rattle.spec.specs.Process.{WellFormed, isBelow}
 use Rattle.spec.specs.Arrangement.{times, Arrangement}
 use Rattle.spec.specs.Arrange.{groupLine, arrangementBytes}
 use Rattle.spec.specs.declared.Field.{Field}
@@ -46,8 +46,8 @@ pub number-wide : (k n : ℕ) → 1 ≤ k → n < 10 ^ k → length (fieldBytes 
 unfolding fieldBytes
 number-wide k n l h = width mostDigits k n l h
 
-event-wide : (n : ℕ) (o : Option ℕ) → n ≤ 1000 → below n o ≡ true → length (fieldBytes (eventField o)) ≤ 3
-unfolding eventField below
+event-wide : (n : ℕ) (o : Option ℕ) → n ≤ 1000 → isBelow n o ≡ true → length (fieldBytes (eventField o)) ≤ 3
+unfolding eventField isBelow
 event-wide n none l h = unfold fieldBytes in (omega arith)
 event-wide n (some e) l h = number-wide 3 e (omega arith) (le-trans (ltb-true e n h) l)
 

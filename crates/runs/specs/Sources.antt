@@ -11,7 +11,7 @@ use Rattle.spec.specs.Lists.{In, flat}
 use Rattle.spec.specs.Net.{Net}
 use Rattle.spec.specs.Record.{RunRecord, Condition, Mark, conditionAt, noCondition}
 use Rattle.spec.specs.Order.{Pair, pairOf, conditionPair, markPairOf, markPair, pairs}
-use Rattle.spec.specs.Process.{WellFormed, below}
+use Rattle.spec.specs.Process.{WellFormed, isBelow}
 use Rattle.spec.specs.declared.MarkKind.{MarkKind}
 use Rattle.spec.specs.declared.MarkKind.the-variants.{Before, After}
 use Rattle.lists.specs.Laws
@@ -68,9 +68,9 @@ each-pair R X x y z q i = elim (List·Memᴰ·append-cases (flat (map conditionP
 
 -- ---- well-formed records
 
-below-some : {n f : ℕ} {a : Option ℕ} → below n a ≡ true → a ≡ some f → f < n
-unfolding below
-below-some {n} h p = ltb-true _ _ (sym (ap (below n) p) ∙ h)
+below-some : {n f : ℕ} {a : Option ℕ} → isBelow n a ≡ true → a ≡ some f → f < n
+unfolding isBelow
+below-some {n} h p = ltb-true _ _ (sym (ap (isBelow n) p) ∙ h)
 
 module _ (N : Net) (R : RunRecord) (W : WellFormed N R) where
   pub producer-below : {c : Condition} → In c (R .conditions) → {e : ℕ} → c .producer ≡ some e → e < length (R .events)

@@ -11,7 +11,7 @@ use lib.ListN.{length, getD, take}
 use Rattle.spec.specs.Lists.{In, any, flat, upTo, member}
 use Rattle.spec.specs.Net.{Net}
 use Rattle.spec.specs.Record.{RunRecord}
-use Rattle.spec.specs.Order.{strictlyBefore, notLater}
+use Rattle.spec.specs.Order.{isStrictlyBefore, isNotLater}
 use Rattle.spec.specs.Process.{WellFormed}
 use Rattle.spec.specs.Arrangement.{Arrangement, times, index}
 use Rattle.spec.specs.Replay.{late, breaks}
@@ -25,7 +25,7 @@ use Rattle.runs.specs.Lines.{stands-in, line-below, line-inside, line-in
 
 -- d stands where it must for event e of the line
 abbrev InTime : RunRecord → List ℕ → List ℕ → ℕ → ℕ → Type 0
-InTime R done now e d = (strictlyBefore R d e ≡ true → member d done ≡ true) × (notLater R d e ≡ true → member d (done ++ now) ≡ true)
+InTime R done now e d = (isStrictlyBefore R d e ≡ true → member d done ≡ true) × (isNotLater R d e ≡ true → member d (done ++ now) ≡ true)
 
 module _ (R : RunRecord) (done now : List ℕ) where
   abbrev events : List ℕ
@@ -34,7 +34,7 @@ module _ (R : RunRecord) (done now : List ℕ) where
   late-is : (e d : ℕ) → (late R done now e d ≡ false) ↔ InTime R done now e d
   unfolding late
   late-is e d = (
-    λ h. let z = or-false (strictlyBefore R d e && not (member d done)) (notLater R d e && not (member d (done ++ now))) h in (and-not _ _ .0 (z .0), and-not _ _ .0 (z .1)),
+    λ h. let z = or-false (isStrictlyBefore R d e && not (member d done)) (isNotLater R d e && not (member d (done ++ now))) h in (and-not _ _ .0 (z .0), and-not _ _ .0 (z .1)),
     λ h. false-or (and-not _ _ .1 (h .0)) (and-not _ _ .1 (h .1)),
   )
 

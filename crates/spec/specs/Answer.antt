@@ -37,8 +37,3 @@ found n s (some a) = gives a
 unfoldable pub returned : {A B : Type 0} → (A → B) → Answer A → Answer B
 returned f (gives a) = gives (f a)
 returned f (refuses n s) = refuses n s
-
--- opens every definition of this module, for what computes with them
-unfoldable pub openAnswer : Unit {0}
-unfolding _>>=_ _>>_ refuse_at_when_ refuse_at?_ found returned
-openAnswer = tt

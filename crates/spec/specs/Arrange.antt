@@ -9,7 +9,7 @@ use Rattle.spec.specs.Lists.{upTo, keep, greatest, flat}
 use Rattle.spec.specs.Answer.{Answer, gives, refuses, _>>=_, _>>_, refuse_at_when_}
 use Rattle.spec.specs.Text.{line}
 use Rattle.spec.specs.Record.{RunRecord, bench}
-use Rattle.spec.specs.Order.{StrictlyBefore, NotLater, strictlyBefore, notLater}
+use Rattle.spec.specs.Order.{StrictlyBefore, NotLater, isStrictlyBefore, isNotLater}
 use Rattle.spec.specs.Check.{Accepted, accepts}
 use Rattle.spec.specs.declared.Field.the-variants.{Number}
 
@@ -26,7 +26,7 @@ pub data Chain (r : RunRecord) : ℕ → ℕ → Type 0 where
 
 -- a chain that ends at f with k strict pairs, prolonged to e: a strict pair counts, a weak one does not
 unfoldable pub prolonged : RunRecord → ℕ → ℕ → ℕ → ℕ
-prolonged r e f k = cond (strictlyBefore r f e) (suc k) (cond (notLater r f e) k 0)
+prolonged r e f k = cond (isStrictlyBefore r f e) (suc k) (cond (isNotLater r f e) k 0)
 
 -- the strict pairs of the longest chain, of at most k pairs, that ends at e
 unfoldable pub longest : RunRecord → ℕ → ℕ → ℕ
@@ -68,8 +68,3 @@ arrange net text room = do
   refuse 50 at 0 when ltb room 768
   a ← accepts bench net text
   gives (arranged (a .run))
-
--- opens every definition of this module, for what computes with them
-unfoldable pub openArrange : Unit {0}
-unfolding prolonged longest levels lineCount onLine arrangedLines groupLine arrangementBytes arranged arrange
-openArrange = tt

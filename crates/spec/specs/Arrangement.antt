@@ -21,8 +21,3 @@ pub record Arrangement (n : ℕ) (lines : List (List ℕ)) : Type 0 where
   pub once : (e : ℕ) → e < n → times e lines ≡ 1
   pub only : (e : ℕ) → n ≤ e → times e lines ≡ 0
   pub full : (k : ℕ) → k < length lines → 0 < length (getD lines k [])
-
--- opens every definition of this module, for what computes with them
-unfoldable pub openArrangement : Unit {0}
-unfolding times index
-openArrangement = tt

@@ -34,8 +34,3 @@ arrangeLeaves a old = leaves (λ a. a .bytes) a old
 -- and the program's operation, which is never refused, what the program prints
 unfoldable pub programLeaves : List ℕ → List ℕ → List ℕ
 programLeaves input old = over (program input) old
-
--- opens every definition of this module, for what computes with them
-unfoldable pub openBuffer : Unit {0}
-unfolding over leaves buildLeaves checkLeaves replayLeaves arrangeLeaves programLeaves
-openBuffer = tt

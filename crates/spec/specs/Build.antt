@@ -175,8 +175,3 @@ build net log room = do
   n ← readNet net
   r ← built bench n (linesOf log)
   gives (recordBytes r)
-
--- opens every definition of this module, for what computes with them
-unfoldable pub openBuild : Unit {0}
-unfolding noEvent initialOf start outputsOf madeBy makeAll isFree consumedBy consume consumeAll inputsOf takeAll inStep playStep playSteps runOf isEarlier markAt marksOf marksDue recordOf recordFor isStepLine logLine playLog built build
-openBuild = tt

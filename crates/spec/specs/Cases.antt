@@ -4,23 +4,13 @@ use Prim.Native.Nat.{ℕ, _+_, _*_}
 use mathlib.Core.Bool.{Bool, true, _&&_}
 use mathlib.Core.List.{List, [], _∷_, _++_}
 use lib.Dec.{eqb}
-use Rattle.spec.specs.Lists.{openLists}
-use Rattle.spec.specs.Answer.{openAnswer}
-use Rattle.spec.specs.Text.{openText}
-use Rattle.spec.specs.Forms.{openForms}
-use Rattle.spec.specs.Net.{openNet}
-use Rattle.spec.specs.Step.{openStep}
-use Rattle.spec.specs.Record.{openRecord}
-use Rattle.spec.specs.Order.{openOrder}
-use Rattle.spec.specs.Process.{openProcess}
-use Rattle.spec.specs.Build.{build, openBuild}
-use Rattle.spec.specs.Check.{Checked, check, openCheck}
-use Rattle.spec.specs.Arrange.{Arranged, arrange, openArrange}
-use Rattle.spec.specs.Replay.{Replayed, replay, openReplay}
-use Rattle.spec.specs.Line.{openLine}
-use Rattle.spec.specs.Program.{program, openProgram}
-use Rattle.spec.specs.Buffer.{openBuffer}
-use Rattle.spec.specs.Quoted.{text, same, refused, given, zerosBut, openQuoted}
+use Rattle.spec.specs.Build.{build}
+use Rattle.spec.specs.Check.{Checked, check}
+use Rattle.spec.specs.Arrange.{Arranged, arrange}
+use Rattle.spec.specs.Replay.{Replayed, replay}
+use Rattle.spec.specs.Program.{program}
+use Rattle.spec.specs.Opening.{openDefinitions}
+use Rattle.spec.specs.Quoted.{text, same, refused, given, zerosBut}
 
 -- write, flush, park; place 1 is dirty
 unfoldable pub drive : List ℕ
@@ -97,9 +87,9 @@ caseK = refused 39 0 (check netK recordK 16384)
 pub cases : Bool
 cases = caseA && caseB && caseC && caseD && caseE && caseF && caseG && caseH && caseI && caseJ && caseK
 
--- opens every definition of document 01
+-- opens every definition of document 01, and the texts above
 unfoldable pub openAll : Unit {0}
-unfolding openLists openAnswer openText openForms openNet openStep openRecord openOrder openProcess openBuild openCheck openArrange openReplay openLine openProgram openBuffer openQuoted drive recordA recordB netK recordK
+unfolding openDefinitions drive recordA recordB netK recordK
 openAll = tt
 
 pub cases-hold : cases ≡ true

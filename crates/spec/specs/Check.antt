@@ -12,8 +12,8 @@ use Rattle.spec.specs.Forms.{isOne, isTwo, isThree, valueOf}
 use Rattle.spec.specs.Net.{Net, places, takes, makes, readNet}
 use Rattle.spec.specs.Step.{tokensAt}
 use Rattle.spec.specs.Record.{RunRecord, Condition, Mark, bench, marked, due, transitionOf, conditionAt}
-use Rattle.spec.specs.Order.{strictlyBefore, notLater}
-use Rattle.spec.specs.Process.{initialIn, consumedIn, producedIn, wrongEnd, below}
+use Rattle.spec.specs.Order.{isStrictlyBefore, isNotLater}
+use Rattle.spec.specs.Process.{initialIn, consumedIn, producedIn, wrongEnd, isBelow}
 use Rattle.spec.specs.declared.Class.the-variants.{LetterE, LetterC, LetterB, LetterA}
 use Rattle.spec.specs.declared.Field.{Field}
 use Rattle.spec.specs.declared.Field.the-variants.{Number, Dash, Wrong, Absent}
@@ -51,7 +51,7 @@ unfoldable pub enterCondition : Limits → Net → ℕ → Condition → RunReco
 enterCondition lim n k c r = do
   refuse 31 at k when not (isEmpty (r .marks))
   refuse 32 at k when leb (lim .conditions) (length (r .conditions))
-  refuse 33 at k when not (ltb (c .place) (places n) && below (length (r .events)) (c .producer) && below (length (r .events)) (c .consumer))
+  refuse 33 at k when not (ltb (c .place) (places n) && isBelow (length (r .events)) (c .producer) && isBelow (length (r .events)) (c .consumer))
   gives (withCondition c r)
 
 unfoldable pub enterMark : Limits → ℕ → Mark → RunRecord → Answer RunRecord
@@ -107,13 +107,13 @@ wrongArcsAt n r e p =
 unfoldable pub wrongArcs : Net → RunRecord → ℕ → Bool
 wrongArcs n r e = any (wrongArcsAt n r e) (upTo (places n))
 
-unfoldable pub same : Bool → Bool → Bool
-same true b = b
-same false b = not b
+unfoldable pub agree : Bool → Bool → Bool
+agree true b = b
+agree false b = not b
 
 -- 37: at some condition the event's mark is missing or undue
 unfoldable pub wrongMarkAt : Net → RunRecord → ℕ → ℕ → Bool
-wrongMarkAt n r e c = not (same (marked r c e) (due n r c e))
+wrongMarkAt n r e c = not (agree (marked r c e) (due n r c e))
 
 unfoldable pub wrongMarks : Net → RunRecord → ℕ → Bool
 wrongMarks n r e = any (wrongMarkAt n r e) (upTo (length (r .conditions)))
@@ -127,7 +127,7 @@ wrongKind r e = any (wrongKindAt r e) (r .marks)
 
 -- 39: the event is strictly before itself
 unfoldable pub beforeItself : RunRecord → ℕ → Bool
-beforeItself r e = strictlyBefore r e e
+beforeItself r e = isStrictlyBefore r e e
 
 unfoldable pub obeys : Net → RunRecord → Answer (Unit {0})
 obeys n r = do
@@ -160,7 +160,7 @@ accepts lim net text = do
 -- events."
 
 unfoldable pub related : RunRecord → ℕ → ℕ → ℕ
-related r e f = cond (strictlyBefore r e f) 2 (cond (notLater r e f) 1 0)
+related r e f = cond (isStrictlyBefore r e f) 2 (cond (isNotLater r e f) 1 0)
 
 unfoldable pub tableAt : RunRecord → ℕ → ℕ → ℕ
 tableAt r e f = cond (ltb e (length (r .events)) && ltb f (length (r .events))) (related r e f) 0
@@ -170,7 +170,7 @@ tableBytes r = flat (map (λ e. map (tableAt r e) (upTo 128)) (upTo 128))
 
 -- "independent pairs, unordered: two different events, neither strictly before the other."
 unfoldable pub independent : RunRecord → ℕ → ℕ → Bool
-independent r e f = not (eqb e f) && not (strictlyBefore r e f) && not (strictlyBefore r f e)
+independent r e f = not (eqb e f) && not (isStrictlyBefore r e f) && not (isStrictlyBefore r f e)
 
 -- each pair is counted once, at its higher event
 unfoldable pub independentPairs : RunRecord → ℕ
@@ -195,8 +195,3 @@ checkWithin lim net text room = do
 
 unfoldable pub check : List ℕ → List ℕ → ℕ → Answer Checked
 check net text room = checkWithin bench net text room
-
--- opens every definition of this module, for what computes with them
-unfoldable pub openCheck : Unit {0}
-unfolding isEmpty withEvent withCondition withMark enterEvent enterCondition enterMark conditionOf markIn enterRow enterLine emptyRecord wrongInitial wrongArcsAt wrongArcs same wrongMarkAt wrongMarks wrongKindAt wrongKind beforeItself obeys readRecord accepts related tableAt tableBytes independent independentPairs checked checkWithin check
-openCheck = tt

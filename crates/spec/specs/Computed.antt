@@ -8,7 +8,7 @@ use lib.ListN.{length, getD}
 use Rattle.spec.specs.Net.{Net}
 use Rattle.spec.specs.Step.{EnabledAt, short, inhibited}
 use Rattle.spec.specs.Record.{RunRecord}
-use Rattle.spec.specs.Order.{StrictlyBefore, NotLater, strictlyBefore, notLater}
+use Rattle.spec.specs.Order.{StrictlyBefore, NotLater, isStrictlyBefore, isNotLater}
 use Rattle.spec.specs.Process.{Process, WellFormed}
 use Rattle.spec.specs.Arrange.{Chain, levels}
 
@@ -23,9 +23,9 @@ pub record Computed : Type 0 where
       → ((short N m step ≡ false) × (inhibited N m step ≡ false)) ↔ EnabledAt N m step
   -- the computed closed order is that of paths
   pub strict : (N : Net) (R : RunRecord) → WellFormed N R
-      → (e f : ℕ) → (strictlyBefore R e f ≡ true) ↔ StrictlyBefore R e f
+      → (e f : ℕ) → (isStrictlyBefore R e f ≡ true) ↔ StrictlyBefore R e f
   pub weak : (N : Net) (R : RunRecord) → WellFormed N R
-      → (e f : ℕ) → (notLater R e f ≡ true) ↔ NotLater R e f
+      → (e f : ℕ) → (isNotLater R e f ≡ true) ↔ NotLater R e f
   -- the computed level of an event is the longest chain that ends at it
   pub longest : (N : Net) (R : RunRecord) → WellFormed N R → Process N R
       → (e : ℕ) → e < length (R .events) → Longest R e

@@ -11,7 +11,7 @@ use Rattle.spec.specs.Answer.{gives}
 use Rattle.spec.specs.Net.{Net, readNet}
 use Rattle.spec.specs.NetText.{Declaration, place, transition, arc, netBytes, declared, Allowed, Complete}
 use Rattle.spec.specs.Record.{RunRecord, Condition, Mark, bench, recordBytes}
-use Rattle.spec.specs.Process.{Process, WellFormed, below}
+use Rattle.spec.specs.Process.{Process, WellFormed, isBelow}
 use Rattle.spec.specs.Build.{recordFor, build}
 use Rattle.spec.specs.Check.{Checked, readRecord, checked, check}
 use Rattle.spec.specs.Arrange.{Arranged, arrangementBytes, arranged, arrange}
@@ -122,8 +122,8 @@ DeclarationsBelow b ds = (d : Declaration) → In d ds → DeclarationBelow b d
 pub record RecordBelow (b : ℕ) (R : RunRecord) : Type 0 where
   pub transitions : (t : ℕ) → In t (R .events) → t < b
   pub places : (c : Condition) → In c (R .conditions) → c .place < b
-  pub producers : (c : Condition) → In c (R .conditions) → below b (c .producer) ≡ true
-  pub consumers : (c : Condition) → In c (R .conditions) → below b (c .consumer) ≡ true
+  pub producers : (c : Condition) → In c (R .conditions) → isBelow b (c .producer) ≡ true
+  pub consumers : (c : Condition) → In c (R .conditions) → isBelow b (c .consumer) ≡ true
   pub conditions : (m : Mark) → In m (R .marks) → m .condition < b
   pub events : (m : Mark) → In m (R .marks) → m .event < b
 

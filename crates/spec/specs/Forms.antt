@@ -60,8 +60,3 @@ isList most k line = alike (letterIn line) k && leb 1 (length (fieldsOf most lin
 -- the numbers of such a line
 unfoldable pub numbersOf : ℕ → List ℕ → List ℕ
 numbersOf most line = map valueOf (fieldsOf most line)
-
--- opens every definition of this module, for what computes with them
-unfoldable pub openForms : Unit {0}
-unfolding isAlone isOne isTwo isThree isList numbersOf
-openForms = tt

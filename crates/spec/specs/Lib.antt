@@ -23,6 +23,7 @@ pub mod Computed
 pub mod Demand
 pub mod Refusals
 pub mod Quoted
+pub mod Opening
 pub mod Cases
 pub mod Traps
 pub mod RefusalOrder

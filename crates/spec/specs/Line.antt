@@ -40,8 +40,3 @@ refusedLine net second choice k = do
 unfoldable pub partOf : Answer Part → Part
 partOf (gives p) = p
 partOf (refuses n s) = record { text = 0; start = 0; bytes = [] }
-
--- opens every definition of this module, for what computes with them
-unfoldable pub openLine : Unit {0}
-unfolding partsFrom lineAt chosenText refusedLine partOf
-openLine = tt

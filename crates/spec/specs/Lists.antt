@@ -75,8 +75,3 @@ lowest p n = first p (upTo n)
 -- the number stands in the list
 unfoldable pub member : ℕ → List ℕ → Bool
 member x xs = any (eqb x) xs
-
--- opens every definition of this module, for what computes with them
-unfoldable pub openLists : Unit {0}
-unfolding from upTo any every count keep first sumOf flat asCount sum greatest lowest member
-openLists = tt

@@ -13,10 +13,10 @@ use Rattle.spec.specs.declared.ArcKind.{ArcKind}
 use Rattle.spec.specs.declared.ArcKind.the-variants.{Input, Output, Inhibitor}
 use Rattle.spec.specs.declared.Class.the-variants.{LetterP, LetterT, LetterI, LetterO, LetterH}
 
-abbrev pub kindCode : ArcKind → ℕ
-kindCode Input = 0
-kindCode Output = 1
-kindCode Inhibitor = 2
+abbrev pub arcKindCode : ArcKind → ℕ
+arcKindCode Input = 0
+arcKindCode Output = 1
+arcKindCode Inhibitor = 2
 
 pub record Arc : Type 0 where
   pub kind : ArcKind
@@ -34,7 +34,7 @@ abbrev pub places : Net → ℕ
 places n = length (n .tokens)
 
 unfoldable pub isArc : ArcKind → ℕ → ℕ → Arc → Bool
-isArc x p t a = eqb (kindCode (a .kind)) (kindCode x) && eqb (a .place) p && eqb (a .transition) t
+isArc x p t a = eqb (arcKindCode (a .kind)) (arcKindCode x) && eqb (a .place) p && eqb (a .transition) t
 
 -- the net has an arc of this kind between p and t
 unfoldable pub joined : Net → ArcKind → ℕ → ℕ → Bool
@@ -118,8 +118,3 @@ netOf ls = do
 
 unfoldable pub readNet : List ℕ → Answer Net
 readNet text = netOf (linesOf text)
-
--- opens every definition of this module, for what computes with them
-unfoldable pub openNet : Unit {0}
-unfolding isArc joined takes makes inhibits withPlace withTransition withArc addPlace addTransition addArc addRow addLine emptyNet lacking whole netOf readNet
-openNet = tt

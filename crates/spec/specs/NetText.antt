@@ -51,8 +51,3 @@ Allowed n (arc x p t) = (p < places n) × (t < n .transitions) × (joined n x p 
 pub record Complete (n : Net) : Type 0 where
   pub input : (t : ℕ) → t < n .transitions → (p : ℕ) × (p < places n) × (joined n Input p t ≡ true)
   pub output : (t : ℕ) → t < n .transitions → (p : ℕ) × (p < places n) × (joined n Output p t ≡ true)
-
--- opens every definition of this module, for what computes with them
-unfoldable pub openNetText : Unit {0}
-unfolding declarationLine netBytes declare declareAll
-openNetText = tt

@@ -64,21 +64,16 @@ reach ps zero e f = any (isPair e f) ps
 reach ps (suc k) e f = reach ps k e f || (reach ps k e k && reach ps k k f)
 
 -- any path from e to f
-unfoldable pub path : RunRecord → ℕ → ℕ → Bool
-path r e f = reach (pairs r) (length (r .events)) e f
+unfoldable pub hasPath : RunRecord → ℕ → ℕ → Bool
+hasPath r e f = reach (pairs r) (length (r .events)) e f
 
 -- a path from e to f through the strict pair p
 unfoldable pub pathBy : RunRecord → ℕ → ℕ → Pair → Bool
 pathBy r e f p =
-    p .strict && (eqb e (p .source) || path r e (p .source)) && (eqb (p .target) f || path r (p .target) f)
+    p .strict && (eqb e (p .source) || hasPath r e (p .source)) && (eqb (p .target) f || hasPath r (p .target) f)
 
-unfoldable pub strictlyBefore : RunRecord → ℕ → ℕ → Bool
-strictlyBefore r e f = any (pathBy r e f) (pairs r)
+unfoldable pub isStrictlyBefore : RunRecord → ℕ → ℕ → Bool
+isStrictlyBefore r e f = any (pathBy r e f) (pairs r)
 
-unfoldable pub notLater : RunRecord → ℕ → ℕ → Bool
-notLater r e f = not (eqb e f) && path r e f
-
--- opens every definition of this module, for what computes with them
-unfoldable pub openOrder : Unit {0}
-unfolding pairOf conditionPair markPairOf markPair pairs isPair reach path pathBy strictlyBefore notLater
-openOrder = tt
+unfoldable pub isNotLater : RunRecord → ℕ → ℕ → Bool
+isNotLater r e f = not (eqb e f) && hasPath r e f

@@ -46,20 +46,15 @@ pub record Process (N : Net) (R : RunRecord) : Type 0 where
   pub acyclic : (e : ℕ) → ¬ StrictlyBefore R e e
 
 -- none, or an event below n
-unfoldable pub below : ℕ → Option ℕ → Bool
-below n none = true
-below n (some e) = ltb e n
+unfoldable pub isBelow : ℕ → Option ℕ → Bool
+isBelow n none = true
+isBelow n (some e) = ltb e n
 
 -- every number of the record names something
 pub record WellFormed (N : Net) (R : RunRecord) : Type 0 where
   pub known : (t : ℕ) → In t (R .events) → t < N .transitions
   pub placed : (c : Condition) → In c (R .conditions) → c .place < places N
-  pub producers : (c : Condition) → In c (R .conditions) → below (length (R .events)) (c .producer) ≡ true
-  pub consumers : (c : Condition) → In c (R .conditions) → below (length (R .events)) (c .consumer) ≡ true
+  pub producers : (c : Condition) → In c (R .conditions) → isBelow (length (R .events)) (c .producer) ≡ true
+  pub consumers : (c : Condition) → In c (R .conditions) → isBelow (length (R .events)) (c .consumer) ≡ true
   pub conditions : (m : Mark) → In m (R .marks) → m .condition < length (R .conditions)
   pub events : (m : Mark) → In m (R .marks) → m .event < length (R .events)
-
--- opens every definition of this module, for what computes with them
-unfoldable pub openProcess : Unit {0}
-unfolding initialIn consumedIn producedIn wrongEnd below
-openProcess = tt

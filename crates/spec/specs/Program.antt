@@ -54,8 +54,3 @@ program input = printed (do
   q ← inputOf input
   n ← netOf (q .net)
   built bench n (q .log))
-
--- opens every definition of this module, for what computes with them
-unfoldable pub openProgram : Unit {0}
-unfolding isParting withNetLine parted inputOf summary printed program
-openProgram = tt

@@ -59,8 +59,3 @@ atMost e c m = record { events = e; conditions = c; marks = m }
 unfoldable pub zerosBut : ℕ → List (ℕ × ℕ) → List ℕ
 zerosBut size [] = replicate size 0
 zerosBut size (p ∷ ps) = set (zerosBut size ps) (p .0) (p .1)
-
--- opens every definition of this module, for what computes with them
-unfoldable pub openQuoted : Unit {0}
-unfolding ascii text unended same refused given passes atMost zerosBut
-openQuoted = tt

@@ -88,8 +88,3 @@ markLine m = markLineOf (m .kind) (m .condition) (m .event)
 
 unfoldable pub recordBytes : RunRecord → List ℕ
 recordBytes r = flat (map eventLine (r .events)) ++ flat (map conditionLine (r .conditions)) ++ flat (map markLine (r .marks))
-
--- opens every definition of this module, for what computes with them
-unfoldable pub openRecord : Unit {0}
-unfolding bench noCondition names isNone isAt marked due eventField eventLine conditionLine markLineOf markLine recordBytes
-openRecord = tt

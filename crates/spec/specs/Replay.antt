@@ -11,7 +11,7 @@ use Rattle.spec.specs.Forms.{isList, numbersOf}
 use Rattle.spec.specs.Net.{Net, places}
 use Rattle.spec.specs.Step.{tokensAt, taken, made}
 use Rattle.spec.specs.Record.{RunRecord, bench, transitionOf}
-use Rattle.spec.specs.Order.{strictlyBefore, notLater}
+use Rattle.spec.specs.Order.{isStrictlyBefore, isNotLater}
 use Rattle.spec.specs.Check.{Accepted, accepts}
 use Rattle.spec.specs.declared.Class.the-variants.{LetterG}
 
@@ -29,7 +29,7 @@ repeats (e ∷ es) = member e es || repeats es
 -- "It keeps the order if strict predecessors stand in earlier lines and weak ones no later.": d is strictly before e and
 -- in no earlier line, or not later than e and in no line up to this one
 unfoldable pub late : RunRecord → List ℕ → List ℕ → ℕ → ℕ → Bool
-late r done now e d = (strictlyBefore r d e && not (member d done)) || (notLater r d e && not (member d (done ++ now)))
+late r done now e d = (isStrictlyBefore r d e && not (member d done)) || (isNotLater r d e && not (member d (done ++ now)))
 
 -- the line breaks the order: some event of it has a predecessor that is late
 unfoldable pub breaks : RunRecord → List ℕ → List ℕ → Bool
@@ -86,8 +86,3 @@ replay net text arrangement room = do
   a ← accepts bench net text
   gs ← readArrangement (a .run) arrangement
   gives (replayed (a .net) (a .run) gs)
-
--- opens every definition of this module, for what computes with them
-unfoldable pub openReplay : Unit {0}
-unfolding isGroupLine repeats late breaks groupsLine missing readArrangement countAfter firedBy rowAt row replayed replay
-openReplay = tt

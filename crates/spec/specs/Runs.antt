@@ -78,8 +78,3 @@ stepLine step = line "S" (map Number step)
 
 unfoldable pub logBytes : List (List ℕ) → List ℕ
 logBytes steps = flat (map stepLine steps)
-
--- opens every definition of this module, for what computes with them
-unfoldable pub openRuns : Unit {0}
-unfolding markingAt asSteps eventLines stepLine logBytes
-openRuns = tt

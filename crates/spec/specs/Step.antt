@@ -42,8 +42,3 @@ play n m step = map (λ p. tokensAt m p - taken n step p + made n step p) (upTo 
 unfoldable pub markingAfter : Net → List ℕ → List (List ℕ) → List ℕ
 markingAfter n m [] = m
 markingAfter n m (step ∷ steps) = markingAfter n (play n m step) steps
-
--- opens every definition of this module, for what computes with them
-unfoldable pub openStep : Unit {0}
-unfolding taken made short inhibited play markingAfter
-openStep = tt

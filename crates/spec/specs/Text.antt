@@ -181,8 +181,3 @@ fieldsBytes (f ∷ fs) = code "," ∷ fieldBytes f ++ fieldsBytes fs
 -- the line with this letter and these fields
 unfoldable pub line : Char → List Field → List ℕ
 line c fs = code c ∷ fieldsBytes fs ++ 10 ∷ []
-
--- opens every definition of this module, for what computes with them
-unfoldable pub openText : Unit {0}
-unfolding named inDigits classOf digitOf byteClass alike isA onFirst linesOf byLines needlessZero isNumber valueFrom grow pieces isDash fieldOf letterOf letterIn fieldsOf rowOf digit digits fieldBytes fieldsBytes line
-openText = tt

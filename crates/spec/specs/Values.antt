@@ -13,9 +13,9 @@ use Rattle.spec.specs.Program.{program}
 use Rattle.spec.specs.declared.Numbers.{Numbers}
 
 -- "A refusal returns number and spot": its values are 0, and number and spot are 0 where a call is accepted
-abbrev pub numbersOf : Answer (ℕ × ℕ × ℕ) → Numbers
-numbersOf (gives v) = record { number = 0; spot = 0; a = v .0; b = v .1; c = v .2 }
-numbersOf (refuses n s) = record { number = n; spot = s; a = 0; b = 0; c = 0 }
+abbrev pub asNumbers : Answer (ℕ × ℕ × ℕ) → Numbers
+asNumbers (gives v) = record { number = 0; spot = 0; a = v .0; b = v .1; c = v .2 }
+asNumbers (refuses n s) = record { number = n; spot = s; a = 0; b = 0; c = 0 }
 
 -- ---- the values of each operation, in their order; 0 stands where it has fewer than three
 
@@ -46,23 +46,23 @@ lineValues p = (p .start, length (p .bytes), 0)
 -- ---- what a call of each operation returns; `room` is the size of the lent buffer
 
 abbrev pub netReturns : List ℕ → Numbers
-netReturns net = numbersOf (returned netValues (readNet net))
+netReturns net = asNumbers (returned netValues (readNet net))
 
 abbrev pub buildReturns : List ℕ → List ℕ → ℕ → Numbers
-buildReturns net log room = numbersOf (returned byteValues (build net log room))
+buildReturns net log room = asNumbers (returned byteValues (build net log room))
 
 abbrev pub checkReturns : List ℕ → List ℕ → ℕ → Numbers
-checkReturns net text room = numbersOf (returned checkValues (check net text room))
+checkReturns net text room = asNumbers (returned checkValues (check net text room))
 
 abbrev pub replayReturns : List ℕ → List ℕ → List ℕ → ℕ → Numbers
-replayReturns net text arrangement room = numbersOf (returned replayValues (replay net text arrangement room))
+replayReturns net text arrangement room = asNumbers (returned replayValues (replay net text arrangement room))
 
 abbrev pub arrangeReturns : List ℕ → List ℕ → ℕ → Numbers
-arrangeReturns net text room = numbersOf (returned arrangeValues (arrange net text room))
+arrangeReturns net text room = asNumbers (returned arrangeValues (arrange net text room))
 
 abbrev pub lineReturns : List ℕ → List ℕ → ℕ → ℕ → Numbers
-lineReturns net second choice k = numbersOf (returned lineValues (refusedLine net second choice k))
+lineReturns net second choice k = asNumbers (returned lineValues (refusedLine net second choice k))
 
 -- the program's operation is never refused: an `X` line is printed like a record
 abbrev pub programReturns : List ℕ → Numbers
-programReturns input = numbersOf (gives (byteValues (program input)))
+programReturns input = asNumbers (gives (byteValues (program input)))

@@ -1,6 +1,6 @@
 use borrow.Author.Needs.{needs}
 use mathlib.Core.Path.{ap, _∙_}
-use Rattle.spec.specs.Values.{numbersOf}
+use Rattle.spec.specs.Values.{asNumbers}
 use Rattle.pti.proofs.pti_refused_line.Statement.{statement}
 use Rattle.pti.proofs.pti_refused_line.Tie as tie
 
@@ -8,4 +8,4 @@ pub pti-refused-line-spec : {M : Type 1} → statement M
 pti-refused-line-spec = tie.close (tie.spec
     (λ c κs. search needs)
     (λ c κs. search needs)
-    (λ c. c .of-line .ensures ∙ ap numbersOf (c .before .refused-line-answer .ensures)))
+    (λ c. c .of-line .ensures ∙ ap asNumbers (c .before .refused-line-answer .ensures)))
