@@ -32,7 +32,7 @@ levels-length R = length-table (longest R (length (R .events))) (length (R .even
 module _ (N : Net) (R : RunRecord) (W : WellFormed N R) (P : Process N R) where
   -- "buffer under 768 bytes": 768 are enough
   lines-fit : length (R .events) ≤ 128 → length (arrangementBytes (arrangedLines (levels R))) ≤ 768
-  lines-fit h = arrangement-size (length (R .events)) (arrangedLines (levels R)) (arranged-keeps N R W P .arranged) h
+  lines-fit h = arrangement-size (length (R .events)) (arrangedLines (levels R)) (arranged-keeps N R W P .each-once) h
 
   module _ (n : ℕ) (t : List ℕ) (q : n ≡ length (R .events)) (o : HoldsOrder R t) where
     -- they are a closed order,

@@ -7,7 +7,7 @@ use lib.ListN.{length}
 use borrow.Author.Tests.{lt-ltb, le-ltb}
 use Rattle.spec.specs.Answer.{Answer, gives, refuses, _>>=_, _>>_, refuse_at_when_, returned}
 use Rattle.spec.specs.Record.{bench}
-use Rattle.spec.specs.Arrange.{Arranged as ArrangedD, levels, arrangedLines, arrangementBytes, arranged, arrange}
+use Rattle.spec.specs.Arrange.{Arranged as ArrangedD, levels, arrangedLines, arrangementBytes, arrangedOf, arrange}
 use Rattle.spec.specs.Buffer.{leaves, arrangeLeaves}
 use Rattle.order.specs.Order.{Order}
 use Rattle.reach.specs.Rows.{cellOf}
@@ -61,10 +61,10 @@ module _ (net text old : List ℕ) where
 
       -- and they are what is written
       pub given-arranges : {r : ArrangeAnswer} {new : List ℕ} → Accepts bench net text a t → WritesLines (levelsIn (a .events) t) old r new → Arranges net text old r new
-      unfolding arrange arranged refuse_at_when_ _>>_ _>>=_ returned arrangeLeaves leaves
+      unfolding arrange arrangedOf refuse_at_when_ _>>_ _>>=_ returned arrangeLeaves leaves
       given-arranges (refusing n s e y) W = not-refused (sym y ∙ ap verdictOf q)
       given-arranges {r} {new} (giving b e y H) W =
           let w = accepted-process bench net text b e in
           let z = levels-held (b .net) (b .run) (w .0) (w .1) (a .events) t (H .events) (H .order) in
           let X : WritesLines (levels (b .run)) old r new = rw (← z) W in
-          arrange-is (gives (arranged (b .run))) (rw (le-ltb (length old) 768 room, e)) (ap answerOf (X .answer)) (X .buffer)
+          arrange-is (gives (arrangedOf (b .run))) (rw (le-ltb (length old) 768 room, e)) (ap answerOf (X .answer)) (X .buffer)

@@ -5,7 +5,7 @@ use mathlib.Core.List.{List}
 use lib.ListN.{length}
 use borrow.Author.Tests.{lt-ltb, le-ltb}
 use Rattle.spec.specs.Answer.{gives, refuses, _>>=_, _>>_, refuse_at_when_, returned}
-use Rattle.spec.specs.Check.{accepts, Accepted as AcceptedD, checked, checkWithin}
+use Rattle.spec.specs.Check.{accepts, Accepted as AcceptedD, checkedOf, checkWithin}
 use Rattle.spec.specs.Buffer.{leaves, checkLeaves}
 use Rattle.spec.specs.declared.Limits.{Limits}
 use Rattle.lists.specs.Mapped.{Mapped}
@@ -60,13 +60,13 @@ module _ (lim : Limits) (net text : List ℕ) where
 
     -- ---- an accepted record
 
-    given : (b : AcceptedD) → accepts lim net text ≡ gives b → checkWithin lim net text (length out) ≡ gives (checked (b .run))
+    given : (b : AcceptedD) → accepts lim net text ≡ gives b → checkWithin lim net text (length out) ≡ gives (checkedOf (b .run))
     unfolding checkWithin refuse_at_when_ _>>_ _>>=_
     given b e = rw (le-ltb (length out) 16384 h, e)
 
     pub given-checks : (a : Accepted) (t new : List ℕ) (k : ℕ) → a .verdict ≡ Given → Accepts lim net text a t → k ≡ independentPairs (a .events) (cellOf t)
         → Mapped out 16384 (byteIn (cellOf t) (a .events)) new → Checks (checkWithin lim net text (length out)) out (Checked (a .events) (a .conditions) k) new
-    unfolding returned checkLeaves leaves checked
+    unfolding returned checkLeaves leaves checkedOf
     given-checks a t new k q (refusing n p e y) c m = not-refused (sym y ∙ ap verdictOf q)
     given-checks a t new k q (giving b e y z) c m =
         let w = accepted-process lim net text b e in

@@ -33,7 +33,7 @@ unfolding bench
 events-few N text R h = accepted-record bench N text R h .0 .fits .events
 
 lines-most : (N : Net) (text : List ℕ) (R : RunRecord) → readRecord bench N text ≡ gives R → (lines : List (List ℕ)) → KeepsOrder R lines → length lines ≤ 128
-lines-most N text R h lines K = le-trans (lines-few (length (R .events)) lines (K .arranged)) (events-few N text R h)
+lines-most N text R h lines K = le-trans (lines-few (length (R .events)) lines (K .each-once)) (events-few N text R h)
 
 -- ---- of an accepted record
 

@@ -9,9 +9,9 @@ use Rattle.spec.specs.Net.{Net, readNet}
 use Rattle.spec.specs.NetText.{Declaration, netBytes, declared, Complete}
 use Rattle.spec.specs.Record.{RunRecord, recordBytes}
 use Rattle.spec.specs.Build.{recordFor, build}
-use Rattle.spec.specs.Check.{checked, check}
-use Rattle.spec.specs.Arrange.{arranged, arrange, arrangementBytes}
-use Rattle.spec.specs.Replay.{replayed, replay}
+use Rattle.spec.specs.Check.{checkedOf, check}
+use Rattle.spec.specs.Arrange.{arrangedOf, arrange, arrangementBytes}
+use Rattle.spec.specs.Replay.{replayedOf, replay}
 use Rattle.spec.specs.Runs.{logBytes}
 use Rattle.spec.specs.Buffer.{leaves, buildLeaves, checkLeaves, replayLeaves, arrangeLeaves}
 use Rattle.spec.specs.Values.{netValues, byteValues, checkValues, replayValues, arrangeValues, netReturns}
@@ -50,8 +50,8 @@ module _ (net text old : List ℕ) {r : Numbers} {new : List ℕ} where
   checks-exactly c = record {
     checks = λ N R hN q room.
         let O = operations .checks net N hN R (length old) room in
-        exactly checkValues (check net text (length old)) (refusals .check net text (length old)) (c .answer) (λ k. k .table) (checked R) (c .buffer)
-        (λ p. ap (λ (t : List ℕ). check net t (length old)) q ∙ O (checked R) .1 (p, refl))
+        exactly checkValues (check net text (length old)) (refusals .check net text (length old)) (c .answer) (λ k. k .table) (checkedOf R) (c .buffer)
+        (λ p. ap (λ (t : List ℕ). check net t (length old)) q ∙ O (checkedOf R) .1 (p, refl))
         (λ k g. O k .0 (sym (ap (λ (t : List ℕ). check net t (length old)) q) ∙ g) .0);
     nothing-else = λ z. let w = zero-given checkValues (check net text (length old)) (refusals .check net text (length old)) (c .answer) z in nothing-else .checks net text (length old) (w .0) (w .1);
   }
@@ -61,8 +61,8 @@ module _ (net text old : List ℕ) {r : Numbers} {new : List ℕ} where
   arranges-exactly c = record {
     arranges = λ N R hN q room.
         let O = operations .arranges net N hN R (length old) room in
-        exactly arrangeValues (arrange net text (length old)) (refusals .arrange net text (length old)) (c .answer) (λ a. a .bytes) (arranged R) (c .buffer)
-        (λ p. ap (λ (t : List ℕ). arrange net t (length old)) q ∙ O (arranged R) .1 (p, refl))
+        exactly arrangeValues (arrange net text (length old)) (refusals .arrange net text (length old)) (c .answer) (λ a. a .bytes) (arrangedOf R) (c .buffer)
+        (λ p. ap (λ (t : List ℕ). arrange net t (length old)) q ∙ O (arrangedOf R) .1 (p, refl))
         (λ a g. O a .0 (sym (ap (λ (t : List ℕ). arrange net t (length old)) q) ∙ g) .0);
     nothing-else = λ z. let w = zero-given arrangeValues (arrange net text (length old)) (refusals .arrange net text (length old)) (c .answer) z in nothing-else .arranges net text (length old) (w .0) (w .1);
   }
@@ -73,8 +73,8 @@ module _ (net text old : List ℕ) {r : Numbers} {new : List ℕ} where
     replays = λ N R lines hN q s room.
         let O = operations .replays net N hN R lines (length old) room in
         let same : replay net text arrangement (length old) ≡ replay net (recordBytes R) (arrangementBytes lines) (length old) = rw (q, s) refl in
-        exactly replayValues (replay net text arrangement (length old)) (refusals .replay net text arrangement (length old)) (c .answer) (λ x. x .counts) (replayed N R lines) (c .buffer)
-        (λ p. same ∙ O (replayed N R lines) .1 (p .0, p .1, refl))
+        exactly replayValues (replay net text arrangement (length old)) (refusals .replay net text arrangement (length old)) (c .answer) (λ x. x .counts) (replayedOf N R lines) (c .buffer)
+        (λ p. same ∙ O (replayedOf N R lines) .1 (p .0, p .1, refl))
         (λ x g. let z = O x .0 (sym same ∙ g) in (z .0, z .1));
     nothing-else = λ z. let w = zero-given replayValues (replay net text arrangement (length old)) (refusals .replay net text arrangement (length old)) (c .answer) z in nothing-else .replays net text arrangement (length old) (w .0) (w .1);
   }

@@ -10,9 +10,9 @@ use Rattle.spec.specs.Net.{Net, readNet}
 use Rattle.spec.specs.NetText.{Declaration, netBytes, declared, Complete}
 use Rattle.spec.specs.Record.{RunRecord, recordBytes}
 use Rattle.spec.specs.Build.{recordFor}
-use Rattle.spec.specs.Check.{checked}
-use Rattle.spec.specs.Arrange.{arranged, arrangementBytes}
-use Rattle.spec.specs.Replay.{replayed}
+use Rattle.spec.specs.Check.{checkedOf}
+use Rattle.spec.specs.Arrange.{arrangedOf, arrangementBytes}
+use Rattle.spec.specs.Replay.{replayedOf}
 use Rattle.spec.specs.Runs.{EnabledSequence, KeepsOrder, WithinLimits, logBytes}
 use Rattle.spec.specs.Buffer.{over}
 use Rattle.spec.specs.Values.{asNumbers, netValues, byteValues, checkValues, replayValues, arrangeValues}
@@ -41,17 +41,17 @@ pub record BuildsExactly (net log old : List ℕ) (r : Numbers) (new : List ℕ)
 -- "Likewise a proposed record is accepted exactly when it is a process by the definition there.", by the check,
 pub record ChecksExactly (net text old : List ℕ) (r : Numbers) (new : List ℕ) : Type 0 where
   pub checks : (N : Net) (R : RunRecord) → readNet net ≡ gives N → text ≡ recordBytes R → 16384 ≤ length old
-      → Exactly (IsProcess N R) checkValues (λ c. c .table) (checked R) old r new
+      → Exactly (IsProcess N R) checkValues (λ c. c .table) (checkedOf R) old r new
   pub nothing-else : r .number ≡ 0 → (16384 ≤ length old) × IsAccepted net × IsTextOf recordBytes text
 
 -- by arranging,
 pub record ArrangesExactly (net text old : List ℕ) (r : Numbers) (new : List ℕ) : Type 0 where
   pub arranges : (N : Net) (R : RunRecord) → readNet net ≡ gives N → text ≡ recordBytes R → 768 ≤ length old
-      → Exactly (IsProcess N R) arrangeValues (λ a. a .bytes) (arranged R) old r new
+      → Exactly (IsProcess N R) arrangeValues (λ a. a .bytes) (arrangedOf R) old r new
   pub nothing-else : r .number ≡ 0 → (768 ≤ length old) × IsAccepted net × IsTextOf recordBytes text
 
 -- and by replay, which besides accepts an arrangement exactly when it keeps the order
 pub record ReplaysExactly (net text arrangement old : List ℕ) (r : Numbers) (new : List ℕ) : Type 0 where
   pub replays : (N : Net) (R : RunRecord) (lines : List (List ℕ)) → readNet net ≡ gives N → text ≡ recordBytes R → arrangement ≡ arrangementBytes lines → 4128 ≤ length old
-      → Exactly (IsProcess N R × KeepsOrder R lines) replayValues (λ x. x .counts) (replayed N R lines) old r new
+      → Exactly (IsProcess N R × KeepsOrder R lines) replayValues (λ x. x .counts) (replayedOf N R lines) old r new
   pub nothing-else : r .number ≡ 0 → (4128 ≤ length old) × IsAccepted net × IsTextOf recordBytes text × IsTextOf arrangementBytes arrangement

@@ -13,7 +13,7 @@ use Rattle.spec.specs.Lists.{In, sumOf, flat, upTo}
 use Rattle.spec.specs.Net.{Net as NetD, takes, makes}
 use Rattle.spec.specs.Step.{tokensAt, taken, made}
 use Rattle.spec.specs.Record.{RunRecord, transitionOf}
-use Rattle.spec.specs.Replay.{countAfter, firedBy, rowAt, row, replayed}
+use Rattle.spec.specs.Replay.{countAfter, firedBy, rowAt, replayRow, replayedOf}
 use Rattle.lists.specs.Laws.{sumOf-same, map-same, flat-append, getD-table, length-upTo}
 use Rattle.lists.specs.Arrays.{blank}
 use Rattle.net.specs.Holds.{Cells}
@@ -34,8 +34,8 @@ cells-sum arcs kind c ts low p l = sumOf-same _ _ ts (λ t m.
 first-in : {e : ℕ} (k : ℕ) (gs : List (List ℕ)) → In e (flat (take k gs)) → In e (flat gs)
 first-in {e} k gs m = subst (λ (zs : List ℕ). In e zs) (sym (flat-append (take k gs) (drop k gs)) ∙ ap flat (take-append-drop k gs)) (Memᴰ·append-left (flat (drop k gs)) m)
 
-row-length : (N : NetD) (R : RunRecord) (gs : List (List ℕ)) (k : ℕ) → length (row N R gs k) ≡ 32
-unfolding row
+row-length : (N : NetD) (R : RunRecord) (gs : List (List ℕ)) (k : ℕ) → length (replayRow N R gs k) ≡ 32
+unfolding replayRow
 row-length N R gs k = go (leb k (length gs))
   where
     go : (b : Bool) → length (cond b (map (rowAt N (firedBy R gs k)) (upTo 32)) (replicate 32 0)) ≡ 32
@@ -43,12 +43,12 @@ row-length N R gs k = go (leb k (length gs))
     go false = length-replicate {A = ℕ} 32 0
 
 module _ (N : NetD) (R : RunRecord) (gs : List (List ℕ)) (k p : ℕ) where
-  row-at : k ≤ length gs → p < 32 → getD (row N R gs k) p 0 ≡ rowAt N (map (transitionOf R) (flat (take k gs))) p
-  unfolding row firedBy
+  row-at : k ≤ length gs → p < 32 → getD (replayRow N R gs k) p 0 ≡ rowAt N (map (transitionOf R) (flat (take k gs))) p
+  unfolding replayRow firedBy
   row-at h u = rw (le-leb k (length gs) h) (getD-table _ 32 p 0 u)
 
-  row-beyond : length gs < k → getD (row N R gs k) p 0 ≡ 0
-  unfolding row
+  row-beyond : length gs < k → getD (replayRow N R gs k) p 0 ≡ 0
+  unfolding replayRow
   row-beyond h = rw (lt-leb k (length gs) h) (blank 32 p)
 
 module _ {ps : ℕ} {ks arcs : List ℕ} {n : ℕ} {trans : List ℕ} {N : NetD} {R : RunRecord} (H : Describes ps ks arcs n trans N R) where
@@ -68,18 +68,18 @@ module _ {ps : ℕ} {ks arcs : List ℕ} {n : ℕ} {trans : List ℕ} {N : NetD}
         ∙ ap (λ (ts : List ℕ). tokensAt (N .tokens) p + sumOf (λ u. makes N u p) ts - sumOf (λ u. takes N u p) ts) fired-held)
 
   pub rows-held : {gs : List (List ℕ)} {old new : List ℕ} → ((e : ℕ) → In e (flat gs) → e < n) → length gs ≤ 128 → 4128 ≤ length old → Rows ps ks arcs trans gs old new
-      → new ≡ over (replayed N R gs .counts) old
-  unfolding replayed over
+      → new ≡ over (replayedOf N R gs .counts) old
+  unfolding replayedOf over
   rows-held {gs} {old} {new} low few h r = sym (take-append-drop 4128 new) ∙ ap₂ (λ (xs ys : List ℕ). xs ++ ys) rows behind
     where
-      rows : take 4128 new ≡ flat (map (row N R gs) (upTo 129))
-      rows = rows-are 32 (row N R gs) (row-length N R gs) 129 0 (take 4128 new) (omega arith) (length-take-le 4128 new (omega (arith, r .long))) (λ k p l u. getD-take 4128 new (32 * k + p) 0 (omega arith) ∙ elim (decLe k (length gs)) [
+      rows : take 4128 new ≡ flat (map (replayRow N R gs) (upTo 129))
+      rows = rows-are 32 (replayRow N R gs) (row-length N R gs) 129 0 (take 4128 new) (omega arith) (length-take-le 4128 new (omega (arith, r .long))) (λ k p l u. getD-take 4128 new (32 * k + p) 0 (omega arith) ∙ elim (decLe k (length gs)) [
         | yes v ↦ r .row k p v u ∙ row-held (flat (take k gs)) (λ e m. low e (first-in k gs m)) p u ∙ sym (row-at N R gs k p v u)
         | no v ↦ r .zero (32 * k + p) (omega arith) (omega arith) ∙ sym (row-beyond N R gs k p (omega arith))
       ])
 
-      size : length (flat (map (row N R gs) (upTo 129))) ≡ 4128
-      size = length-rows 32 (row N R gs) (row-length N R gs) 129
+      size : length (flat (map (replayRow N R gs) (upTo 129))) ≡ 4128
+      size = length-rows 32 (replayRow N R gs) (row-length N R gs) 129
 
-      behind : drop 4128 new ≡ drop (length (flat (map (row N R gs) (upTo 129)))) old
+      behind : drop 4128 new ≡ drop (length (flat (map (replayRow N R gs) (upTo 129)))) old
       behind = rw size (ext-getD 0 (drop 4128 new) (drop 4128 old) (omega (arith, length-drop 4128 new, length-drop 4128 old, r .long)) (λ i l. getD-drop 4128 new i 0 ∙ r .beyond (4128 + i) (omega arith) ∙ sym (getD-drop 4128 old i 0)))

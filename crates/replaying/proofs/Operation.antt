@@ -12,7 +12,7 @@ use Rattle.spec.specs.Answer.{gives, refuses, _>>=_, _>>_, refuse_at_when_, ret
 use Rattle.spec.specs.Record.{bench, transitionOf}
 use Rattle.spec.specs.Process.{WellFormed}
 use Rattle.spec.specs.Check.{accepts, Accepted as AcceptedD}
-use Rattle.spec.specs.Replay.{readArrangement, replayed, replay}
+use Rattle.spec.specs.Replay.{readArrangement, replayedOf, replay}
 use Rattle.spec.specs.Buffer.{leaves, replayLeaves}
 use Rattle.lists.specs.Laws.{at-in}
 use Rattle.runs.specs.Answers.{not-refused}
@@ -122,7 +122,7 @@ module _ {net text : List ℕ} {r : Accepted} {tokens arcs rec t : List ℕ} whe
     -- ---- its arrangement
 
     module _ (arrangement old : List ℕ) (h : 4128 ≤ length old) where
-      arranged : replay net text arrangement (length old) ≡ (readArrangement (A .accepted .run) arrangement >>= λ gs. gives (replayed (A .accepted .net) (A .accepted .run) gs))
+      arranged : replay net text arrangement (length old) ≡ (readArrangement (A .accepted .run) arrangement >>= λ gs. gives (replayedOf (A .accepted .net) (A .accepted .run) gs))
       unfolding replay _>>=_ _>>_ refuse_at_when_
       arranged = rw (le-ltb (length old) 4128 h, A .is)
 
@@ -171,7 +171,7 @@ module _ {net text : List ℕ} {r : Accepted} {tokens arcs rec t : List ℕ} whe
 
         pub played-lines : {ts : List ℕ} → ((f : ℕ) → f < 128 → getD ts f 0 ≡ getD rec (0 + f) 0) → {m : ℕ} {new : List ℕ} → m ≡ linesIn b → PutsRows (r .places) tokens arcs ts lined m old new
             → Replays (replay net text arrangement (length old)) old (Lines b) new
-        unfolding _>>=_ returned replayLeaves leaves replayed
+        unfolding _>>=_ returned replayLeaves leaves replayedOf
         played-lines {ts} c q w = let k = found .arranged in rw (arranged, found .is) (record {
           answer = found .answer;
           buffer = rows-held (describes ts c) (k .known) (k .few) h (w (found .groups) (k .ordered) (q ∙ lines-kept b (found .answer)));

@@ -8,7 +8,7 @@ use mathlib.Core.List.{List, [], _∷_}
 use lib.Dec.{eqb, leb}
 use borrow.Author.Tests.{le-leb, leb-true, eqb-true}
 use Rattle.spec.specs.Lists.{every}
-use Rattle.spec.specs.Text.{classNames, named, inDigits, classOf, digitOf, classCode, alike, isA, digit}
+use Rattle.spec.specs.Text.{classNames, named, inDigits, classOf, digitOf, classCode, alike, isA, digitByte}
 use Rattle.spec.specs.declared.Class.{Class}
 use Rattle.spec.specs.declared.Class.the-variants.{Digit, Comma, Dash as DashByte, LineEnd, LetterP, LetterT, LetterI, LetterO, LetterH, LetterS, LetterE, LetterC, LetterB, LetterA, LetterG, Foreign}
 use Rattle.lists.specs.Laws.{clash, and-true, and-three, true-and, not-is-true}
@@ -30,20 +30,20 @@ other-class j k h b e = rw (eqb-true (classCode (classOf b)) (classCode j) e) h
 
 -- ---- digits
 
-digit-within : (d : ℕ) → d < 10 → inDigits (digit d) ≡ true
-unfolding inDigits digit
+digit-within : (d : ℕ) → d < 10 → inDigits (digitByte d) ≡ true
+unfolding inDigits digitByte
 digit-within d h = true-and (le-leb 48 (48 + d) (omega arith)) (le-leb (48 + d) 57 (omega arith))
 
-pub digit-isA : (d : ℕ) → d < 10 → isA Digit (digit d) ≡ true
+pub digit-isA : (d : ℕ) → d < 10 → isA Digit (digitByte d) ≡ true
 unfolding isA alike classOf
 digit-isA d h = rw (digit-within d h)
 
-pub digit-value : (d : ℕ) → d < 10 → digitOf (digit d) ≡ d
+pub digit-value : (d : ℕ) → d < 10 → digitOf (digitByte d) ≡ d
 unfolding digitOf
 digit-value d h = rw (digit-within d h) (minus d)
   where
-    minus : (d : ℕ) → digit d - 48 ≡ d
-    minus d = unfold digit in (omega arith)
+    minus : (d : ℕ) → digitByte d - 48 ≡ d
+    minus d = unfold digitByte in (omega arith)
 
 isA-within : (b : ℕ) → isA Digit b ≡ true → inDigits b ≡ true
 unfolding isA alike classOf every
@@ -54,8 +54,8 @@ isA-within b h = go (inDigits b) refl h
     go false e q = clash q (not-is-true _ (named-passes (λ b k. not (eqb (classCode k) 0)) (λ b. refl) b classNames refl))
 
 -- a digit's byte has a value below ten, and is that value's digit
-pub isA-digit : (b : ℕ) → isA Digit b ≡ true → (digitOf b < 10) × (digit (digitOf b) ≡ b)
-unfolding digitOf digit inDigits
+pub isA-digit : (b : ℕ) → isA Digit b ≡ true → (digitOf b < 10) × (digitByte (digitOf b) ≡ b)
+unfolding digitOf digitByte inDigits
 isA-digit b h =
     let w : inDigits b ≡ true = isA-within b h in
     let z = and-true (leb 48 b) (leb b 57) w in

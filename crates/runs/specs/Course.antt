@@ -154,11 +154,11 @@ module _ (N : Net) (R : RunRecord) (W : WellFormed N R) (P : Process N R) (lines
   inhibited-left : (k e : ℕ) → In e (getD lines k []) → (c : Condition) → In c (R .conditions) → inhibits N (c .place) (transitionOf R e) ≡ true → came lines k c ≡ true → left lines k c ≡ true
   unfolding due
   inhibited-left k e m c i h t = elim (Laws.true-or-false (names (c .producer) e)) [
-    | inl a ↦ Laws.clash t (not-came lines k c (named-end (c .producer) e a) (le-of-eq (sym (line-index _ lines (K .arranged) k e m))))
+    | inl a ↦ Laws.clash t (not-came lines k c (named-end (c .producer) e a) (le-of-eq (sym (line-index _ lines (K .each-once) k e m))))
     | inr a ↦
         let r : (j : ℕ) × (j < length (R .conditions)) × (conditionAt R j ≡ c) = Laws.in-at noCondition c (R .conditions) i in
-        let x = due-mark (r .0) e (r .1) (line-inside _ lines (K .arranged) k e m) (rw (r .2, h, a)) in
-        let y : index (x .0 .event) lines ≡ k = ap (λ (z : ℕ). index z lines) (x .3) ∙ line-index _ lines (K .arranged) k e m in
+        let x = due-mark (r .0) e (r .1) (line-inside _ lines (K .each-once) k e m) (rw (r .2, h, a)) in
+        let y : index (x .0 .event) lines ≡ k = ap (λ (z : ℕ). index z lines) (x .3) ∙ line-index _ lines (K .each-once) k e m in
         subst (λ (d : Condition). came lines k d ≡ true → left lines k d ≡ true) (ap (conditionAt R) (x .2) ∙ r .2) (marked-left k (x .0) (x .1) y) t
   ]
 
@@ -166,14 +166,14 @@ module _ (N : Net) (R : RunRecord) (W : WellFormed N R) (P : Process N R) (lines
 
   pub taken-left : (k p : ℕ) → p < places N → taken N (firedBy R lines k) p ≡ leftAt R lines k p
   unfolding taken consumedIn left
-  taken-left k p l = arcs-counted N R lines (K .arranged) k p (λ t. takes N t p) (λ c. c .consumer) (W .consumers) (λ e h. P .arcs e p h l .0)
+  taken-left k p l = arcs-counted N R lines (K .each-once) k p (λ t. takes N t p) (λ c. c .consumer) (W .consumers) (λ e h. P .arcs e p h l .0)
 
   pub made-came : (k p : ℕ) → p < places N → tokensAt (N .tokens) p + made N (firedBy R lines k) p ≡ cameAt R lines k p
   unfolding made producedIn initialIn came
   made-came k p l = omega (
     arith,
     P .initial p l,
-    arcs-counted N R lines (K .arranged) k p (λ t. makes N t p) (λ c. c .producer) (W .producers) (λ e h. P .arcs e p h l .1),
+    arcs-counted N R lines (K .each-once) k p (λ t. makes N t p) (λ c. c .producer) (W .producers) (λ e h. P .arcs e p h l .1),
     Laws.count-either (initialIn p) (λ c. eqb (c .place) p && stands lines k (c .producer)) (λ c. eqb (c .place) p && came lines k c) (R .conditions)
         (λ c i. one-or-other lines k (eqb (c .place) p) (c .producer)),
   )
@@ -197,7 +197,7 @@ module _ (N : Net) (R : RunRecord) (W : WellFormed N R) (P : Process N R) (lines
   stands-all : (a : Option ℕ) → isBelow (length (R .events)) a ≡ true → stands lines (length lines) a ≡ not (isNone a)
   unfolding isBelow stands isNone
   stands-all none h = refl
-  stands-all (some e) h = lt-ltb _ _ (line-below _ lines (K .arranged) e (ltb-true e _ h))
+  stands-all (some e) h = lt-ltb _ _ (line-below _ lines (K .each-once) e (ltb-true e _ h))
 
   pub holds-last : (p : ℕ) (c : Condition) → In c (R .conditions) → holds lines (length lines) p c ≡ isFree p c
   unfolding holds came left isFree

@@ -17,9 +17,9 @@ use Rattle.spec.specs.Record.{RunRecord, bench, recordBytes}
 use Rattle.spec.specs.Order.{isStrictlyBefore, isNotLater}
 use Rattle.spec.specs.Process.{Process, WellFormed}
 use Rattle.spec.specs.Build.{recordFor}
-use Rattle.spec.specs.Check.{accepts, readRecord, related, tableAt, tableBytes, checked, check}
-use Rattle.spec.specs.Arrange.{levels, arrangedLines, arrangementBytes, arranged, arrange}
-use Rattle.spec.specs.Replay.{rowAt, row, firedBy, replayed, replay}
+use Rattle.spec.specs.Check.{accepts, readRecord, related, tableAt, tableBytes, checkedOf, check}
+use Rattle.spec.specs.Arrange.{levels, arrangedLines, arrangementBytes, arrangedOf, arrange}
+use Rattle.spec.specs.Replay.{rowAt, replayRow, firedBy, replayedOf, replay}
 use Rattle.spec.specs.Runs.{EnabledSequence, KeepsOrder, WithinLimits, markingAt, asSteps}
 use Rattle.spec.specs.Exactness.{IsProcess}
 use Rattle.spec.specs.Demand.{ReplaysMarkings, TableSays, OrderOfRuns, RunIsRecorded, Demand}
@@ -66,13 +66,13 @@ module _ (net : List ℕ) (N : Net) (hN : readNet net ≡ gives N) (text : List 
   P = I .process
 
   writes : (room : ℕ) → 768 ≤ room → arrange net text room ≡ gives (record { lines = length (arrangedLines (levels R)); bytes = arrangementBytes (arrangedLines (levels R)) })
-  unfolding arranged
-  writes room h = rw (written, arranged-count R) (operations .arranges net N hN R room h (arranged R) .1 (I, refl))
+  unfolding arrangedOf
+  writes room h = rw (written, arranged-count R) (operations .arranges net N hN R room h (arrangedOf R) .1 (I, refl))
 
   -- ---- replay
 
-  row-length : (lines : List (List ℕ)) (k : ℕ) → length (row N R lines k) ≡ 32
-  unfolding row
+  row-length : (lines : List (List ℕ)) (k : ℕ) → length (replayRow N R lines k) ≡ 32
+  unfolding replayRow
   row-length lines k = go (leb k (length lines))
     where
       go : (b : Bool) → length (cond b (map (rowAt N (firedBy R lines k)) (upTo 32)) (lib.ListN.replicate 32 0)) ≡ 32
@@ -80,32 +80,32 @@ module _ (net : List ℕ) (N : Net) (hN : readNet net ≡ gives N) (text : List 
       go false = length-replicate {A = ℕ} 32 0
 
   module _ (lines : List (List ℕ)) (K : KeepsOrder R lines) where
-    plays : (room : ℕ) → 4128 ≤ room → replay net text (arrangementBytes lines) room ≡ gives (replayed N R lines)
-    plays room h = rw written (operations .replays net N hN R lines room h (replayed N R lines) .1 (I, K, refl))
+    plays : (room : ℕ) → 4128 ≤ room → replay net text (arrangementBytes lines) room ≡ gives (replayedOf N R lines)
+    plays room h = rw written (operations .replays net N hN R lines room h (replayedOf N R lines) .1 (I, K, refl))
 
-    row-count : (k p : ℕ) → k ≤ length lines → p < 32 → getD (row N R lines k) p 0 ≡ tokensAt (markingAt N (asSteps R lines) k) p
-    unfolding row
+    row-count : (k p : ℕ) → k ≤ length lines → p < 32 → getD (replayRow N R lines k) p 0 ≡ tokensAt (markingAt N (asSteps R lines) k) p
+    unfolding replayRow
     row-count k p l h = rw (le-leb k (length lines) l) (Laws.getD-table (rowAt N (firedBy R lines k)) 32 p 0 h ∙ row-is N R W P lines K k p l)
 
     few : length lines ≤ 128
-    few = le-trans (lines-few (length (R .events)) lines (K .arranged)) (I .events)
+    few = le-trans (lines-few (length (R .events)) lines (K .each-once)) (I .events)
 
     replays : ReplaysMarkings net text N R lines
-    unfolding replayed
+    unfolding replayedOf
     replays = record {
-      counts = replayed N R lines .counts;
+      counts = replayedOf N R lines .counts;
       plays = plays;
-      full = length-rows 32 (row N R lines) (row-length lines) 129;
-      rows = λ k p l h. Laws.getD-table-rows 32 129 (row N R lines) (row-length lines) k p 0 (omega (arith, few)) h ∙ row-count k p l h;
+      full = length-rows 32 (replayRow N R lines) (row-length lines) 129;
+      rows = λ k p l h. Laws.getD-table-rows 32 129 (replayRow N R lines) (row-length lines) k p 0 (omega (arith, few)) h ∙ row-count k p l h;
     }
 
   -- ---- the check's table
 
-  checks : (room : ℕ) → 16384 ≤ room → check net text room ≡ gives (checked R)
-  checks room h = rw written (operations .checks net N hN R room h (checked R) .1 (I, refl))
+  checks : (room : ℕ) → 16384 ≤ room → check net text room ≡ gives (checkedOf R)
+  checks room h = rw written (operations .checks net N hN R room h (checkedOf R) .1 (I, refl))
 
-  entry-is : (e f : ℕ) → e < length (R .events) → f < length (R .events) → getD (checked R .table) (128 * e + f) 0 ≡ related R e f
-  unfolding checked tableBytes tableAt
+  entry-is : (e f : ℕ) → e < length (R .events) → f < length (R .events) → getD (checkedOf R .table) (128 * e + f) 0 ≡ related R e f
+  unfolding checkedOf tableBytes tableAt
   entry-is e f l m =
       Laws.getD-table-rows 128 128 (λ e. map (tableAt R e) (upTo 128)) (λ k. length-map (upTo 128) (tableAt R k) ∙ Laws.length-upTo 128) e f 0 (omega (arith, I .events)) (omega (arith, I .events))
       ∙ Laws.getD-table (tableAt R e) 128 f 0 (omega (arith, I .events))
@@ -115,9 +115,9 @@ module _ (net : List ℕ) (N : Net) (hN : readNet net ≡ gives N) (text : List 
   strict-weak e f d h = weak-is N R W e f .1 (d, (true, strict-is N R W e f .0 h))
 
   tables : TableSays net text R
-  unfolding related checked tableBytes
+  unfolding related checkedOf tableBytes
   tables = record {
-    answer = checked R;
+    answer = checkedOf R;
     checks = checks;
     full = length-rows 128 (λ e. map (tableAt R e) (upTo 128)) (λ k. length-map (upTo 128) (tableAt R k) ∙ Laws.length-upTo 128) 128;
     strict = λ e f t. (

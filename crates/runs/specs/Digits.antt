@@ -12,7 +12,7 @@ use lib.ListN.{length, getD, length-append, List·getD-append}
 use lib.Dec.{ltb, leb}
 use borrow.Author.Tests.{le-leb, lt-ltb, le-ltb, leb-true, ltb-true, ltb-false, eqb-false, ne-eqb}
 use Rattle.spec.specs.Lists.{every}
-use Rattle.spec.specs.Text.{digitOf, isA, needlessZero, isNumber, valueFrom, isDash, fieldOf, digit, digits}
+use Rattle.spec.specs.Text.{digitOf, isA, needlessZero, isNumber, valueFrom, isDash, fieldOf, digitByte, digits}
 use Rattle.spec.specs.declared.Class.the-variants.{Digit}
 use Rattle.spec.specs.declared.Field.the-variants.{Number, Dash, Wrong}
 use Rattle.lists.specs.Laws.{true-or-false, and-true, and-four, not-is-true, every-append}
@@ -26,9 +26,9 @@ unfolding digits every
 digits-all zero n = refl
 digits-all (suc most) n = go (ltb n 10) refl (digits-all most (n / 10))
   where
-    go : (t : Bool) → ltb n 10 ≡ t → every (isA Digit) (digits most (n / 10)) ≡ true → every (isA Digit) (cond t (digit n ∷ []) (digits most (n / 10) ++ digit (n % 10) ∷ [])) ≡ true
+    go : (t : Bool) → ltb n 10 ≡ t → every (isA Digit) (digits most (n / 10)) ≡ true → every (isA Digit) (cond t (digitByte n ∷ []) (digits most (n / 10) ++ digitByte (n % 10) ∷ [])) ≡ true
     go true e h = rw (digit-isA n (ltb-true n 10 e))
-    go false e h = every-append (isA Digit) (digits most (n / 10)) (digit (n % 10) ∷ []) h (rw (digit-isA (n % 10) (omega arith)))
+    go false e h = every-append (isA Digit) (digits most (n / 10)) (digitByte (n % 10) ∷ []) h (rw (digit-isA (n % 10) (omega arith)))
 
 value-more : (p : List ℕ) (v b : ℕ) → valueFrom v (p ++ b ∷ []) ≡ valueFrom v p * 10 + digitOf b
 unfolding valueFrom
@@ -42,7 +42,7 @@ pub record Written (n : ℕ) (ds : List ℕ) : Type 0 where
   pub lead : 0 < n → digitOf (getD ds 0 0) ≢ 0
   pub one : n < 10 → length ds ≡ 1
 
-one-digit : (n : ℕ) → n < 10 → Written n (digit n ∷ [])
+one-digit : (n : ℕ) → n < 10 → Written n (digitByte n ∷ [])
 unfolding valueFrom
 one-digit n h = record {
   some = le-refl 1;
@@ -51,11 +51,11 @@ one-digit n h = record {
   one = λ p. refl;
 }
 
-digit-more : (n : ℕ) (ds : List ℕ) → 10 ≤ n → Written (n / 10) ds → Written n (ds ++ digit (n % 10) ∷ [])
+digit-more : (n : ℕ) (ds : List ℕ) → 10 ≤ n → Written (n / 10) ds → Written n (ds ++ digitByte (n % 10) ∷ [])
 digit-more n ds h w = record {
-  some = omega (arith, length-append ds (digit (n % 10) ∷ []));
-  value = value-more ds 0 (digit (n % 10)) ∙ omega (arith, w .value, digit-value (n % 10) (omega arith));
-  lead = λ p. rw (List·getD-append ds (digit (n % 10) ∷ []) 0 0 (w .some)) (w .lead (omega arith));
+  some = omega (arith, length-append ds (digitByte (n % 10) ∷ []));
+  value = value-more ds 0 (digitByte (n % 10)) ∙ omega (arith, w .value, digit-value (n % 10) (omega arith));
+  lead = λ p. rw (List·getD-append ds (digitByte (n % 10) ∷ []) 0 0 (w .some)) (w .lead (omega arith));
   one = λ p. absurd (omega arith);
 }
 
@@ -72,7 +72,7 @@ unfolding digits
 written zero n m h = absurd (omega arith)
 written (suc most) n m h = go (ltb n 10) refl (λ l. written most (n / 10) l (tenth most n h))
   where
-    go : (t : Bool) → ltb n 10 ≡ t → (1 ≤ most → Written (n / 10) (digits most (n / 10))) → Written n (cond t (digit n ∷ []) (digits most (n / 10) ++ digit (n % 10) ∷ []))
+    go : (t : Bool) → ltb n 10 ≡ t → (1 ≤ most → Written (n / 10) (digits most (n / 10))) → Written n (cond t (digitByte n ∷ []) (digits most (n / 10) ++ digitByte (n % 10) ∷ []))
     go true e r = one-digit n (ltb-true n 10 e)
     go false e r = let l = ltb-false n 10 e in digit-more n (digits most (n / 10)) l (r (tenth-some most n l h))
 
@@ -83,9 +83,9 @@ width zero k n l h = zero-le
 width (suc most) zero n l h = absurd (omega arith)
 width (suc most) (suc k) n l h = go (ltb n 10) refl (λ q. width most k (n / 10) q (tenth k n h))
   where
-    go : (t : Bool) → ltb n 10 ≡ t → (1 ≤ k → length (digits most (n / 10)) ≤ k) → length (cond t (digit n ∷ []) (digits most (n / 10) ++ digit (n % 10) ∷ [])) ≤ suc k
+    go : (t : Bool) → ltb n 10 ≡ t → (1 ≤ k → length (digits most (n / 10)) ≤ k) → length (cond t (digitByte n ∷ []) (digits most (n / 10) ++ digitByte (n % 10) ∷ [])) ≤ suc k
     go true e r = omega arith
-    go false e r = omega (arith, length-append (digits most (n / 10)) (digit (n % 10) ∷ []), r (tenth-some k n (ltb-false n 10 e) h))
+    go false e r = omega (arith, length-append (digits most (n / 10)) (digitByte (n % 10) ∷ []), r (tenth-some k n (ltb-false n 10 e) h))
 
 no-zero : (n : ℕ) (ds : List ℕ) → Written n ds → needlessZero ds ≡ false
 unfolding needlessZero
@@ -174,12 +174,12 @@ wide : (most n : ℕ) → 10 ^ most ≤ n → suc most ≤ length (digits (suc m
 unfolding digits
 wide zero n h = go (ltb n 10)
   where
-    go : (t : Bool) → 1 ≤ length (cond t (digit n ∷ []) (digits 0 (n / 10) ++ digit (n % 10) ∷ []))
+    go : (t : Bool) → 1 ≤ length (cond t (digitByte n ∷ []) (digits 0 (n / 10) ++ digitByte (n % 10) ∷ []))
     go true = le-refl 1
     go false = le-refl 1
 wide (suc most) n h =
     let k = rw (pow-suc 10 most) at h in
-    rw (le-ltb n 10 (omega (arith, one-le-pow most 10 (omega arith)))) (omega (arith, length-append (digits (suc most) (n / 10)) (digit (n % 10) ∷ []), wide most (n / 10) (omega arith)))
+    rw (le-ltb n 10 (omega (arith, one-le-pow most 10 (omega arith)))) (omega (arith, length-append (digits (suc most) (n / 10)) (digitByte (n % 10) ∷ []), wide most (n / 10) (omega arith)))
 
 -- All the digits that can be written of such a number are, so that one that is read back with fewer is the one that was written.
 pub small-back : (most n m : ℕ) → 1 ≤ most → fieldOf (suc most) (digits (suc most) n) ≡ Number m → m < 10 ^ most → n ≡ m

@@ -32,7 +32,7 @@ use Rattle.runs.specs.Closure.{strict-is, weak-is}
 module _ (N : Net) (R : RunRecord) (W : WellFormed N R) where
   kept : {lines : List (List ℕ)} → KeepsOrder R lines → Kept (length (R .events)) (orderOf R) lines
   kept {lines} k = record {
-    arranged = k .arranged;
+    arranged = k .each-once;
     keeps = record {
       strict = λ e f l m s. k .strict e f l m (strict-order N R W e f l m .0 s);
       weak = λ e f l m s. elim (ℕ-discrete e f) [
@@ -44,7 +44,7 @@ module _ (N : Net) (R : RunRecord) (W : WellFormed N R) where
 
   kept-back : {lines : List (List ℕ)} → Kept (length (R .events)) (orderOf R) lines → KeepsOrder R lines
   kept-back k = record {
-    arranged = k .arranged;
+    each-once = k .arranged;
     strict = λ e f l m p. k .keeps .strict e f l m (strict-order N R W e f l m .1 p);
     weak = λ e f l m p. k .keeps .weak e f l m (weak-order N R W e f l m .1 p .1);
   }

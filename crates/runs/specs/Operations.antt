@@ -17,9 +17,9 @@ use Rattle.spec.specs.NetText.{Declaration, netBytes, declared, Complete}
 use Rattle.spec.specs.Record.{RunRecord, bench, recordBytes}
 use Rattle.spec.specs.Process.{isBelow}
 use Rattle.spec.specs.Build.{recordFor, build}
-use Rattle.spec.specs.Check.{Accepted, Checked, readRecord, accepts, checked, checkWithin, check}
-use Rattle.spec.specs.Arrange.{Arranged, arrangementBytes, arranged, arrange}
-use Rattle.spec.specs.Replay.{Replayed, readArrangement, replayed, replay}
+use Rattle.spec.specs.Check.{Accepted, Checked, readRecord, accepts, checkedOf, checkWithin, check}
+use Rattle.spec.specs.Arrange.{Arranged, arrangementBytes, arrangedOf, arrange}
+use Rattle.spec.specs.Replay.{Replayed, readArrangement, replayedOf, replay}
 use Rattle.spec.specs.Runs.{EnabledSequence, KeepsOrder, WithinLimits, logBytes}
 use Rattle.spec.specs.Exactness.{EachAllowed, IsProcess, LinesBelow, RecordBelow, IsAccepted, IsTextOf, Operations, NothingElse}
 use Rattle.lists.specs.Laws.{in-flat, in-at}
@@ -120,13 +120,13 @@ module _ {A : Type 0} (n size : ℕ) (f : RunRecord → A) where
       let z = of-after n size (λ a. gives (f (a .run))) net text room x h in
       (z .0, (z .1 .net, z .2), (z .1 .run, exactness .checks net (z .1 .net) (z .2) text (z .1 .run) .0 (z .3) .0))
 
-checks : (net : List ℕ) (N : Net) → readNet net ≡ gives N → (R : RunRecord) (room : ℕ) → 16384 ≤ room → (c : Checked) → (check net (recordBytes R) room ≡ gives c) ↔ (IsProcess N R × (c ≡ checked R))
+checks : (net : List ℕ) (N : Net) → readNet net ≡ gives N → (R : RunRecord) (room : ℕ) → 16384 ≤ room → (c : Checked) → (check net (recordBytes R) room ≡ gives c) ↔ (IsProcess N R × (c ≡ checkedOf R))
 unfolding check checkWithin after
-checks = of-record 30 16384 checked
+checks = of-record 30 16384 checkedOf
 
-arranges : (net : List ℕ) (N : Net) → readNet net ≡ gives N → (R : RunRecord) (room : ℕ) → 768 ≤ room → (a : Arranged) → (arrange net (recordBytes R) room ≡ gives a) ↔ (IsProcess N R × (a ≡ arranged R))
+arranges : (net : List ℕ) (N : Net) → readNet net ≡ gives N → (R : RunRecord) (room : ℕ) → 768 ≤ room → (a : Arranged) → (arrange net (recordBytes R) room ≡ gives a) ↔ (IsProcess N R × (a ≡ arrangedOf R))
 unfolding arrange after
-arranges = of-record 50 768 arranged
+arranges = of-record 50 768 arrangedOf
 
 -- ---- replay
 
@@ -137,17 +137,17 @@ lines-given net N accepted R I lines gs =
     let E = exactness .replays net N accepted (recordBytes R) R (exactness .checks net N accepted (recordBytes R) R .1 (refl, I)) (arrangementBytes lines) gs in (
       λ h.
           let A = E .0 h in
-          let few : LinesBelow 1000 gs = λ e m. omega (arith, arranged-below (length (R .events)) gs (A .1 .arranged) e m, I .events) in
+          let few : LinesBelow 1000 gs = λ e m. omega (arith, arranged-below (length (R .events)) gs (A .1 .each-once) e m, I .events) in
           let e : lines ≡ gs = arrangements-same lines gs (inr few) (A .0) in
           (rw e (A .1), sym e),
       λ z. E .1 (ap arrangementBytes (sym (z .1)), rw (z .1) (z .0)),
     )
 
 abbrev playing : List ℕ → Accepted → Answer Replayed
-playing arrangement a = readArrangement (a .run) arrangement >>= λ gs. gives (replayed (a .net) (a .run) gs)
+playing arrangement a = readArrangement (a .run) arrangement >>= λ gs. gives (replayedOf (a .net) (a .run) gs)
 
 replays : (net : List ℕ) (N : Net) → readNet net ≡ gives N → (R : RunRecord) (lines : List (List ℕ)) (room : ℕ) → 4128 ≤ room → (x : Replayed)
-    → (replay net (recordBytes R) (arrangementBytes lines) room ≡ gives x) ↔ (IsProcess N R × KeepsOrder R lines × (x ≡ replayed N R lines))
+    → (replay net (recordBytes R) (arrangementBytes lines) room ≡ gives x) ↔ (IsProcess N R × KeepsOrder R lines × (x ≡ replayedOf N R lines))
 unfolding replay after _>>=_
 replays net N accepted R lines room l x =
     let G = of-given 40 4128 (playing (arrangementBytes lines)) net N accepted R room l x in (
@@ -155,7 +155,7 @@ replays net N accepted R lines room l x =
           let z = G .0 h in
           let y = of-bind (readArrangement R (arrangementBytes lines)) _ (z .1) in
           let k = lines-given net N accepted R (z .0) lines (y .0) .0 (y .1) in
-          (z .0, k .0, sym (of-gives (y .2)) ∙ ap (replayed N R) (k .1)),
+          (z .0, k .0, sym (of-gives (y .2)) ∙ ap (replayedOf N R) (k .1)),
       λ z. G .1 (z .0, rw (lines-given net N accepted R (z .0) lines lines .1 (z .1, refl), z .2)),
     )
 
@@ -183,4 +183,4 @@ operations = record { reads = reads; builds = builds; checks = checks; arranges 
 
 pub nothing-else : NothingElse
 unfolding check checkWithin arrange after
-nothing-else = record { builds = only-built; checks = only-record 30 16384 checked; arranges = only-record 50 768 arranged; replays = only-replayed }
+nothing-else = record { builds = only-built; checks = only-record 30 16384 checkedOf; arranges = only-record 50 768 arrangedOf; replays = only-replayed }

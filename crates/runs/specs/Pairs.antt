@@ -59,7 +59,7 @@ module _ (R : RunRecord) (b : Bounded (pairs R) (length (R .events))) (lines : L
 
   pub pairs-order : Arrangement (length (R .events)) lines → KeepsPairs (pairs R) (λ e. index e lines) → KeepsOrder R lines
   pairs-order a k = record {
-    arranged = a;
+    each-once = a;
     strict = λ e f l m p. along k p .1 refl;
     weak = λ e f l m p. along k (p .1 .1) .0;
   }

@@ -85,10 +85,10 @@ module _ (N : Net) (R : RunRecord) (W : WellFormed N R) (P : Process N R) (lines
 
   pub enabled-steps : EnabledSequence N (asSteps R lines)
   enabled-steps = record {
-    full = λ k h. rw (step-at R lines k, length-map (getD lines k []) (transitionOf R)) (K .arranged .full k (omega (arith, steps-length R lines)));
+    full = λ k h. rw (step-at R lines k, length-map (getD lines k []) (transitionOf R)) (K .each-once .full k (omega (arith, steps-length R lines)));
     known = λ k t h i.
         let r : (e : ℕ) × In e (getD lines k []) × (transitionOf R e ≡ t) = Memᴰ·of-map (transitionOf R) (getD lines k []) (rw (step-at R lines k) at i) in
-        rw (← r .2) (W .known _ (Laws.at-in 0 (R .events) (r .0) (line-inside _ lines (K .arranged) k (r .0) (r .1))));
+        rw (← r .2) (W .known _ (Laws.at-in 0 (R .events) (r .0) (line-inside _ lines (K .each-once) k (r .0) (r .1))));
     enabled = λ k h. rw (step-at R lines k) (step-enabled k (omega (arith, steps-length R lines)));
   }
 

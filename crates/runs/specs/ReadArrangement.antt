@@ -86,15 +86,15 @@ module _ (N : Net) (R : RunRecord) (W : WellFormed N R) (lines : List (List ℕ)
   keeps-lined : KeepsOrder R lines → Lined R lines
   unfolding times
   keeps-lined K = record {
-    full = K .arranged .full;
-    known = λ e m. first-inside (length (R .events)) lines (K .arranged) (length lines) e (rw (take-length lines) m);
-    once = λ e. elim (decLe (length (R .events)) e) [ yes l ↦ omega (arith, K .arranged .only e l) | no l ↦ omega (arith, K .arranged .once e (omega arith)) ];
+    full = K .each-once .full;
+    known = λ e m. first-inside (length (R .events)) lines (K .each-once) (length lines) e (rw (take-length lines) m);
+    once = λ e. elim (decLe (length (R .events)) e) [ yes l ↦ omega (arith, K .each-once .only e l) | no l ↦ omega (arith, K .each-once .once e (omega arith)) ];
     unbroken = keeps-unbroken N R W lines K;
   }
 
   none-missing : KeepsOrder R lines → lowest (missing lines) (length (R .events)) ≡ none
   unfolding missing times
-  none-missing K = none-lowest (missing lines) (length (R .events)) (λ e l. ap not (member-is e (flat lines) .1 (omega (arith, K .arranged .once e l))))
+  none-missing K = none-lowest (missing lines) (length (R .events)) (λ e l. ap not (member-is e (flat lines) .1 (omega (arith, K .each-once .once e l))))
 
 -- ---- the text of lines is read
 

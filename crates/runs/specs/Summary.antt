@@ -50,7 +50,7 @@ pairs-most R h = omega (arith, pairs-few R (length (R .events)), mul-le-mul-righ
 
 -- no more lines than events
 lines-most : (N : Net) (R : RunRecord) → IsProcess N R → lineCount (levels R) ≤ length (R .events)
-lines-most N R I = omega (arith, arranged-count R, lines-few (length (R .events)) (arrangedLines (levels R)) (arranged-keeps N R (I .wellFormed) (I .process) .arranged))
+lines-most N R I = omega (arith, arranged-count R, lines-few (length (R .events)) (arrangedLines (levels R)) (arranged-keeps N R (I .wellFormed) (I .process) .each-once))
 
 -- what is built from the lines of a net and a log is a process
 built-is-process : (net log : List Line) (N : Net) (R : RunRecord) → netOf net ≡ gives N → built bench N log ≡ gives R → IsProcess N R

@@ -63,7 +63,7 @@ module _ (N : Net) (R : RunRecord) (W : WellFormed N R) (lines : List (List ℕ)
 
   pub keeps-unbroken : KeepsOrder R lines → Unbroken
   keeps-unbroken K k h = breaks-is R (flat (take k lines)) (getD lines k []) .1 (λ e d m l.
-      let A = K .arranged in
+      let A = K .each-once in
       let f = line-inside n lines A k e m in
       let i = line-index n lines A k e m in (
         λ s. stands-before n lines A d k l .1 (omega (arith, K .strict d e l f (strict-is N R W d e .0 s))),
@@ -72,7 +72,7 @@ module _ (N : Net) (R : RunRecord) (W : WellFormed N R) (lines : List (List ℕ)
 
   pub unbroken-keeps : Arrangement n lines → Unbroken → KeepsOrder R lines
   unbroken-keeps A u = record {
-    arranged = A;
+    each-once = A;
     strict = λ e f l m p. stands-before n lines A e (index f lines) l .0 (in-time f e m l .0 (strict-is N R W e f .1 p));
     weak = λ e f l m p. le-of-suc-le-suc (stands-before n lines A e (suc (index f lines)) l .0
         (rw (flat-take-suc lines (index f lines) (line-below n lines A f m)) (in-time f e m l .1 (weak-is N R W e f .1 p))));

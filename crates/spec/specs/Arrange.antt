@@ -59,12 +59,12 @@ pub record Arranged : Type 0 where
   pub lines : ℕ
   pub bytes : List ℕ
 
-unfoldable pub arranged : RunRecord → Arranged
-arranged r = record { lines = lineCount (levels r); bytes = arrangementBytes (arrangedLines (levels r)) }
+unfoldable pub arrangedOf : RunRecord → Arranged
+arrangedOf r = record { lines = lineCount (levels r); bytes = arrangementBytes (arrangedLines (levels r)) }
 
 -- "Arrange: 50 buffer under 768 bytes (spot 0); net's; check's but 30."
 unfoldable pub arrange : List ℕ → List ℕ → ℕ → Answer Arranged
 arrange net text room = do
   refuse 50 at 0 when ltb room 768
   a ← accepts bench net text
-  gives (arranged (a .run))
+  gives (arrangedOf (a .run))

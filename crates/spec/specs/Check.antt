@@ -183,15 +183,15 @@ pub record Checked : Type 0 where
   pub independents : ℕ
   pub table : List ℕ
 
-unfoldable pub checked : RunRecord → Checked
-checked r = record { events = length (r .events); conditions = length (r .conditions); independents = independentPairs r; table = tableBytes r }
+unfoldable pub checkedOf : RunRecord → Checked
+checkedOf r = record { events = length (r .events); conditions = length (r .conditions); independents = independentPairs r; table = tableBytes r }
 
 -- "Check: 30 buffer under 16,384 bytes (spot 0); net's; .."
 unfoldable pub checkWithin : Limits → List ℕ → List ℕ → ℕ → Answer Checked
 checkWithin lim net text room = do
   refuse 30 at 0 when ltb room 16384
   a ← accepts lim net text
-  gives (checked (a .run))
+  gives (checkedOf (a .run))
 
 unfoldable pub check : List ℕ → List ℕ → ℕ → Answer Checked
 check net text room = checkWithin bench net text room

@@ -13,9 +13,9 @@ use Rattle.spec.specs.NetText.{Declaration, place, transition, arc, netB
 use Rattle.spec.specs.Record.{RunRecord, Condition, Mark, bench, recordBytes}
 use Rattle.spec.specs.Process.{Process, WellFormed, isBelow}
 use Rattle.spec.specs.Build.{recordFor, build}
-use Rattle.spec.specs.Check.{Checked, readRecord, checked, check}
-use Rattle.spec.specs.Arrange.{Arranged, arrangementBytes, arranged, arrange}
-use Rattle.spec.specs.Replay.{Replayed, readArrangement, replayed, replay}
+use Rattle.spec.specs.Check.{Checked, readRecord, checkedOf, check}
+use Rattle.spec.specs.Arrange.{Arranged, arrangementBytes, arrangedOf, arrange}
+use Rattle.spec.specs.Replay.{Replayed, readArrangement, replayedOf, replay}
 use Rattle.spec.specs.Runs.{EnabledSequence, KeepsOrder, WithinLimits, logBytes}
 
 -- ---- of any text: what is accepted is the text of such a thing
@@ -77,15 +77,15 @@ pub record Operations : Type 0 where
       ↔ (EnabledSequence N steps × WithinLimits N steps × (bytes ≡ recordBytes (recordFor N steps)))
   pub checks : (net : List ℕ) (N : Net) → readNet net ≡ gives N
       → (R : RunRecord) (room : ℕ) → 16384 ≤ room → (c : Checked)
-      → (check net (recordBytes R) room ≡ gives c) ↔ (IsProcess N R × (c ≡ checked R))
+      → (check net (recordBytes R) room ≡ gives c) ↔ (IsProcess N R × (c ≡ checkedOf R))
   pub arranges : (net : List ℕ) (N : Net) → readNet net ≡ gives N
       → (R : RunRecord) (room : ℕ) → 768 ≤ room → (a : Arranged)
-      → (arrange net (recordBytes R) room ≡ gives a) ↔ (IsProcess N R × (a ≡ arranged R))
+      → (arrange net (recordBytes R) room ≡ gives a) ↔ (IsProcess N R × (a ≡ arrangedOf R))
   -- an arrangement that keeps the order has no empty line, and each event of the record once
   pub replays : (net : List ℕ) (N : Net) → readNet net ≡ gives N
       → (R : RunRecord) (lines : List (List ℕ)) (room : ℕ) → 4128 ≤ room → (x : Replayed)
       → (replay net (recordBytes R) (arrangementBytes lines) room ≡ gives x)
-      ↔ (IsProcess N R × KeepsOrder R lines × (x ≡ replayed N R lines))
+      ↔ (IsProcess N R × KeepsOrder R lines × (x ≡ replayedOf N R lines))
 
 -- ---- and nothing else is accepted: no shorter buffer, no net that is refused, no other text
 

@@ -68,16 +68,16 @@ firedBy r gs k = map (transitionOf r) (flat (take k gs))
 unfoldable pub rowAt : Net → List ℕ → ℕ → ℕ
 rowAt n ts p = cond (ltb p (places n)) (countAfter n ts p) 0
 
-unfoldable pub row : Net → RunRecord → List (List ℕ) → ℕ → List ℕ
-row n r gs k = cond (leb k (length gs)) (map (rowAt n (firedBy r gs k)) (upTo 32)) (replicate 32 0)
+unfoldable pub replayRow : Net → RunRecord → List (List ℕ) → ℕ → List ℕ
+replayRow n r gs k = cond (leb k (length gs)) (map (rowAt n (firedBy r gs k)) (upTo 32)) (replicate 32 0)
 
 -- "replaying [returns] how many lines it played"
 pub record Replayed : Type 0 where
   pub lines : ℕ
   pub counts : List ℕ
 
-unfoldable pub replayed : Net → RunRecord → List (List ℕ) → Replayed
-replayed n r gs = record { lines = length gs; counts = flat (map (row n r gs) (upTo 129)) }
+unfoldable pub replayedOf : Net → RunRecord → List (List ℕ) → Replayed
+replayedOf n r gs = record { lines = length gs; counts = flat (map (replayRow n r gs) (upTo 129)) }
 
 -- "Replay: 40 under 4,128 counts (spot 0); net's; check's but 30; .."
 unfoldable pub replay : List ℕ → List ℕ → List ℕ → ℕ → Answer Replayed
@@ -85,4 +85,4 @@ replay net text arrangement room = do
   refuse 40 at 0 when ltb room 4128
   a ← accepts bench net text
   gs ← readArrangement (a .run) arrangement
-  gives (replayed (a .net) (a .run) gs)
+  gives (replayedOf (a .net) (a .run) gs)

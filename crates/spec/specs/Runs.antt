@@ -28,7 +28,7 @@ pub record EnabledSequence (N : Net) (steps : List (List ℕ)) : Type 0 where
 
 -- "It keeps the order if strict predecessors stand in earlier lines and weak ones no later."
 pub record KeepsOrder (R : RunRecord) (lines : List (List ℕ)) : Type 0 where
-  pub arranged : Arrangement (length (R .events)) lines
+  pub each-once : Arrangement (length (R .events)) lines
   pub strict : (e f : ℕ) → e < length (R .events) → f < length (R .events)
       → StrictlyBefore R e f → index e lines < index f lines
   pub weak : (e f : ℕ) → e < length (R .events) → f < length (R .events)

@@ -159,13 +159,13 @@ rowOf most line =
 
 -- ---- how lines are written
 
-unfoldable pub digit : ℕ → ℕ
-digit d = code "0" + d
+unfoldable pub digitByte : ℕ → ℕ
+digitByte d = code "0" + d
 
 -- a number of at most `most` digits without leading zeros; of a greater one the last `most`, which can begin with zeros
 unfoldable pub digits : ℕ → ℕ → List ℕ
 digits zero n = []
-digits (suc most) n = cond (ltb n 10) (digit n ∷ []) (digits most (n / 10) ++ digit (n % 10) ∷ [])
+digits (suc most) n = cond (ltb n 10) (digitByte n ∷ []) (digits most (n / 10) ++ digitByte (n % 10) ∷ [])
 
 -- no line that is written has a field that is Wrong or Absent
 unfoldable pub fieldBytes : Field → List ℕ

@@ -11,7 +11,7 @@ use lib.Dec.{ltb}
 use lib.ListN.{length, set, take, drop, getD, length-set, length-append}
 use lib.Seq.{sets, sets-eq, take-suc, set-comm}
 use borrow.Author.Tests.{lt-ltb, le-ltb, ltb-true, ltb-false}
-use Rattle.spec.specs.Text.{digit, digits, fieldsBytes, fieldBytes}
+use Rattle.spec.specs.Text.{digitByte, digits, fieldsBytes, fieldBytes}
 use Rattle.spec.specs.Buffer.{over}
 use Rattle.spec.specs.declared.Field.{Field}
 use Rattle.spec.specs.declared.Field.the-variants.{Number, Dash, Wrong, Absent}
@@ -72,12 +72,12 @@ room-after {xs = xs} ys w h = omega (arith, length-append xs ys, w .next, wrote-
 -- ---- numbers
 
 pub digits-low : (most n : ℕ) → 0 < most → n < 10 → digits most n ≡ (48 + n) ∷ []
-unfolding digits digit
+unfolding digits digitByte
 digits-low zero n h l = absurd (omega arith)
 digits-low (suc most) n h l = rw (lt-ltb n 10 l)
 
 digits-high : (most n : ℕ) → 0 < most → 10 ≤ n → digits most n ≡ digits (most - 1) (n / 10) ++ (48 + n % 10) ∷ []
-unfolding digits digit
+unfolding digits digitByte
 digits-high zero n h l = absurd (omega arith)
 digits-high (suc most) n h l = let e : suc most - 1 ≡ most = omega arith in rw (le-ltb n 10 l, e)
 
