@@ -8,7 +8,7 @@ use lib.Seq.{take-append-seam}
 use Rattle.spec.specs.Answer.{Answer, gives, refuses, returned}
 use Rattle.spec.specs.Buffer.{over, leaves}
 use Rattle.spec.specs.Values.{asNumbers}
-use Rattle.spec.specs.Refusals.{Refusal, Refuses}
+use Rattle.spec.specs.Refusals.{NumberAndSpots, RefusesOnly}
 use Rattle.spec.specs.declared.Numbers.{Numbers}
 use Rattle.demands.specs.Exactly.{Exactly}
 
@@ -33,7 +33,7 @@ entry-is ws old i p h = rw p (List·getD-append ws (drop (length ws) old) 0 i h)
 
 -- ---- no refusal has number 0, so that 0 says that something is given
 
-module _ {A : Type 0} (values : A → ℕ × ℕ × ℕ) {rs : List Refusal} (x : Answer A) (F : Refuses rs x) {r : Numbers} (e : r ≡ asNumbers (returned values x)) where
+module _ {A : Type 0} (values : A → ℕ × ℕ × ℕ) {rs : List NumberAndSpots} (x : Answer A) (F : RefusesOnly rs x) {r : Numbers} (e : r ≡ asNumbers (returned values x)) where
   pub zero-given : r .number ≡ 0 → (a : A) × (x ≡ gives a)
   unfolding returned
   zero-given z = go x refl

@@ -13,7 +13,7 @@ use lib.Dec.{eqb}
 use borrow.Author.Tests.{eqb-true, ne-eqb}
 use Rattle.spec.specs.Lists.{asCount}
 use Rattle.spec.specs.Text.{Line, linesOf, onFirst, isA}
-use Rattle.spec.specs.Program.{Input, isParting, withNetLine, parted}
+use Rattle.spec.specs.Program.{NetAndLog, isParting, withNetLine, parted}
 use Rattle.spec.specs.declared.Class.the-variants.{LineEnd}
 use Rattle.lists.specs.Laws.{and-true, count-cons}
 use Rattle.lists.specs.Along.{take-more, rest-at}
@@ -23,7 +23,7 @@ use Rattle.parting.specs.Parts.{startsAt, partsAt, partedFrom, withByte,
 
 -- ---- bytes put in front of what was parted
 
-front-append : (s t : List ℕ) (q : Option Input) → inFront (s ++ t) q ≡ inFront s (inFront t q)
+front-append : (s t : List ℕ) (q : Option NetAndLog) → inFront (s ++ t) q ≡ inFront s (inFront t q)
 unfolding inFront
 front-append [] t q = refl
 front-append (b ∷ s) t q = rw (front-append s t q)
@@ -33,7 +33,7 @@ unfolding inFront withNetLine withByte
 front-none [] = refl
 front-none (b ∷ s) = rw (front-none s) (go (isA LineEnd b))
   where
-    go : (t : Bool) → cond {A = Option Input} t none none ≡ none
+    go : (t : Bool) → cond {A = Option NetAndLog} t none none ≡ none
     go true = refl
     go false = refl
 
@@ -42,7 +42,7 @@ unfolding inFront withNetLine withByte linesOf
 front-some [] log = refl
 front-some (b ∷ s) log = rw (front-some s log) (go (isA LineEnd b) (record { bytes = []; ended = true } ∷ linesOf s) (onFirst b (linesOf s)))
   where
-    go : (t : Bool) (p q : List Line) → cond {A = Option Input} t (some (record { net = p; log = log })) (some (record { net = q; log = log })) ≡ some (record { net = cond t p q; log = log })
+    go : (t : Bool) (p q : List Line) → cond {A = Option NetAndLog} t (some (record { net = p; log = log })) (some (record { net = q; log = log })) ≡ some (record { net = cond t p q; log = log })
     go true p q = refl
     go false p q = refl
 
@@ -59,7 +59,7 @@ unfolding partedFrom onFirst parted withNetLine withByte
 grown x [] = refl
 grown x (l ∷ ls) = go (parted ls)
   where
-    go : (q : Option Input) → withNetLine (record { bytes = x ∷ l .bytes; ended = l .ended }) q ≡ withByte x (withNetLine l q)
+    go : (q : Option NetAndLog) → withNetLine (record { bytes = x ∷ l .bytes; ended = l .ended }) q ≡ withByte x (withNetLine l q)
     go none = refl
     go (some q) = refl
 

@@ -8,7 +8,7 @@ use mathlib.Core.List.{List, [], _∷_}
 use lib.ListN.{length, getD, take, drop}
 use lib.Dec.{eqb}
 use Rattle.spec.specs.Text.{Line, linesOf, onFirst, isA}
-use Rattle.spec.specs.Program.{Input, withNetLine, parted}
+use Rattle.spec.specs.Program.{NetAndLog, withNetLine, parted}
 use Rattle.spec.specs.declared.Class.the-variants.{LineEnd}
 use Rattle.parting.specs.declared.Parting.{Parting}
 use Rattle.parting.specs.declared.Parting.the-variants.{At, Nothing}
@@ -26,17 +26,17 @@ partsAt s at = startsAt s at && (eqb (getD s at 0) (code "=") && eqb (getD s (at
 -- ---- byte by byte
 
 -- the lines parted; in the middle of a line the first one is not the line `=`, whatever is left of it
-unfoldable pub partedFrom : Bool → List Line → Option Input
+unfoldable pub partedFrom : Bool → List Line → Option NetAndLog
 partedFrom true ls = parted ls
 partedFrom false [] = none
 partedFrom false (l ∷ ls) = withNetLine l (parted ls)
 
-unfoldable pub withByte : ℕ → Option Input → Option Input
+unfoldable pub withByte : ℕ → Option NetAndLog → Option NetAndLog
 withByte b none = none
 withByte b (some q) = some (record { net = onFirst b (q .net); log = q .log })
 
 -- bytes in front of what was parted
-unfoldable pub inFront : List ℕ → Option Input → Option Input
+unfoldable pub inFront : List ℕ → Option NetAndLog → Option NetAndLog
 inFront [] q = q
 inFront (b ∷ bs) q = cond (isA LineEnd b) (withNetLine (record { bytes = []; ended = true }) (inFront bs q)) (withByte b (inFront bs q))
 

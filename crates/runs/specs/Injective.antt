@@ -10,9 +10,9 @@ use mathlib.Core.Bool.{Bool, true, false, cond}
 use mathlib.Core.List.{List, [], _∷_, _++_, map, append-nil, append-assoc, map-map, map-id, Memᴰ·map, Memᴰ·of-map, List·Memᴰ·append-cases, head-eq-of-cons-eq, tail-eq-of-cons-eq}
 use lib.ListN.{getD}
 use Rattle.spec.specs.Lists.{In, flat}
-use Rattle.spec.specs.Text.{linesOf, alike, mostDigits, letterIn, fieldsOf, line}
+use Rattle.spec.specs.Text.{linesOf, alike, mostDigits, letterIn, fieldsOf, lineWith}
 use Rattle.spec.specs.Forms.{valueOf}
-use Rattle.spec.specs.NetText.{Declaration, place, transition, arc, declarationLine, netBytes}
+use Rattle.spec.specs.NetText.{Declaration, newPlace, newTransition, newArc, declarationLine, netBytes}
 use Rattle.spec.specs.Record.{RunRecord, Condition, Mark, eventField, eventLine, conditionLine, markLineOf, markLine, recordBytes}
 use Rattle.spec.specs.Check.{eventOf}
 use Rattle.spec.specs.Arrange.{groupLine, arrangementBytes}
@@ -62,7 +62,7 @@ formed {c} {k} L fs = record { letter = c; class = k; used = L; fields = fs }
 -- how the elements of a type are written, each as one line, and what is made of such a line's row
 pub record Format {A : Type 0} (print : A → List ℕ) : Type 0 where
   pub form : A → Form
-  pub written : (x : A) → print x ≡ line (form x .letter) (form x .fields)
+  pub written : (x : A) → print x ≡ lineWith (form x .letter) (form x .fields)
   pub back : Read → A
   pub kept : (x : A) → back (form x .class, form x .fields) ≡ x
 
@@ -121,17 +121,17 @@ module _ {A : Type 0} {print : A → List ℕ} (F : Format print) where
 
 -- ---- lists of numbers: steps and arrangements' lines
 
-abbrev numbers : {print : List ℕ → List ℕ} {c : Char} {k : Class} → Letter c k → ((ns : List ℕ) → print ns ≡ line c (map Number ns)) → Format print
+abbrev numbers : {print : List ℕ → List ℕ} {c : Char} {k : Class} → Letter c k → ((ns : List ℕ) → print ns ≡ lineWith c (map Number ns)) → Format print
 numbers L w = record { form = λ ns. formed L (map Number ns); written = w; back = λ r. map valueOf (r .1); kept = values }
 
 -- ---- declarations
 
 abbrev declaration-form : Declaration → Form
-declaration-form (place v) = formed P-letter (Number v ∷ [])
-declaration-form transition = formed T-letter []
-declaration-form (arc Input p t) = formed I-letter (Number p ∷ Number t ∷ [])
-declaration-form (arc Output p t) = formed O-letter (Number t ∷ Number p ∷ [])
-declaration-form (arc Inhibitor p t) = formed H-letter (Number p ∷ Number t ∷ [])
+declaration-form (newPlace v) = formed P-letter (Number v ∷ [])
+declaration-form newTransition = formed T-letter []
+declaration-form (newArc Input p t) = formed I-letter (Number p ∷ Number t ∷ [])
+declaration-form (newArc Output p t) = formed O-letter (Number t ∷ Number p ∷ [])
+declaration-form (newArc Inhibitor p t) = formed H-letter (Number p ∷ Number t ∷ [])
 
 -- the number of a field, from 0
 abbrev numberAt : List Field → ℕ → ℕ
@@ -141,26 +141,26 @@ unfoldable declaration-back : Read → Declaration
 declaration-back r =
     let u = numberAt (r .1) 0 in
     let v = numberAt (r .1) 1 in
-    cond (alike (r .0) LetterP) (place u) (cond (alike (r .0) LetterT) transition
-    (cond (alike (r .0) LetterI) (arc Input u v) (cond (alike (r .0) LetterO) (arc Output v u) (arc Inhibitor u v))))
+    cond (alike (r .0) LetterP) (newPlace u) (cond (alike (r .0) LetterT) newTransition
+    (cond (alike (r .0) LetterI) (newArc Input u v) (cond (alike (r .0) LetterO) (newArc Output v u) (newArc Inhibitor u v))))
 
 declarations : Format declarationLine
 unfolding declarationLine declaration-back alike
 declarations = record { form = declaration-form; written = written; back = declaration-back; kept = kept }
   where
-    written : (d : Declaration) → declarationLine d ≡ line (declaration-form d .letter) (declaration-form d .fields)
-    written (place v) = refl
-    written transition = refl
-    written (arc Input p t) = refl
-    written (arc Output p t) = refl
-    written (arc Inhibitor p t) = refl
+    written : (d : Declaration) → declarationLine d ≡ lineWith (declaration-form d .letter) (declaration-form d .fields)
+    written (newPlace v) = refl
+    written newTransition = refl
+    written (newArc Input p t) = refl
+    written (newArc Output p t) = refl
+    written (newArc Inhibitor p t) = refl
 
     kept : (d : Declaration) → declaration-back (declaration-form d .class, declaration-form d .fields) ≡ d
-    kept (place v) = refl
-    kept transition = refl
-    kept (arc Input p t) = refl
-    kept (arc Output p t) = refl
-    kept (arc Inhibitor p t) = refl
+    kept (newPlace v) = refl
+    kept newTransition = refl
+    kept (newArc Input p t) = refl
+    kept (newArc Output p t) = refl
+    kept (newArc Inhibitor p t) = refl
 
 -- ---- records
 
@@ -191,7 +191,7 @@ marks : Format markLine
 unfolding markLine markLineOf mark-back alike
 marks = record { form = λ m. mark-form (m .kind) (m .condition) (m .event); written = λ m. written (m .kind) _ _; back = mark-back; kept = λ m. kept (m .kind) _ _ }
   where
-    written : (x : MarkKind) (c e : ℕ) → markLineOf x c e ≡ line (mark-form x c e .letter) (mark-form x c e .fields)
+    written : (x : MarkKind) (c e : ℕ) → markLineOf x c e ≡ lineWith (mark-form x c e .letter) (mark-form x c e .fields)
     written Before c e = refl
     written After c e = refl
 
@@ -258,7 +258,7 @@ groups-same R S e =
 
 -- ---- the four kinds of texts
 
-lists-same : {print : List ℕ → List ℕ} {c : Char} {k : Class} (L : Letter c k) (w : (ns : List ℕ) → print ns ≡ line c (map Number ns)) (s t : List (List ℕ)) → Apart LinesBelow s t
+lists-same : {print : List ℕ → List ℕ} {c : Char} {k : Class} (L : Letter c k) (w : (ns : List ℕ) → print ns ≡ lineWith c (map Number ns)) (s t : List (List ℕ)) → Apart LinesBelow s t
     → flat (map print s) ≡ flat (map print t) → s ≡ t
 lists-same L w s t h e =
     same (numbers L w) s t (apart LinesBelow (ElementsBelow (numbers L w)) (λ s. s) (λ b s h ns m. numbers-below b ns (λ n i. h n (flat-in s m i))) s t h) (rows-same (numbers L w) s t e)
@@ -272,11 +272,11 @@ unfolding arrangementBytes groupLine
 arrangements-same = lists-same G-letter (λ ns. refl)
 
 declaration-below : (b : ℕ) (d : Declaration) → DeclarationBelow b d → FieldsBelow b (declaration-form d .fields)
-declaration-below b (place v) h = (h, tt)
-declaration-below b transition h = tt
-declaration-below b (arc Input p t) h = (h .0, (h .1, tt))
-declaration-below b (arc Output p t) h = (h .1, (h .0, tt))
-declaration-below b (arc Inhibitor p t) h = (h .0, (h .1, tt))
+declaration-below b (newPlace v) h = (h, tt)
+declaration-below b newTransition h = tt
+declaration-below b (newArc Input p t) h = (h .0, (h .1, tt))
+declaration-below b (newArc Output p t) h = (h .1, (h .0, tt))
+declaration-below b (newArc Inhibitor p t) h = (h .0, (h .1, tt))
 
 pub nets-same : (ds es : List Declaration) → Apart DeclarationsBelow ds es → netBytes ds ≡ netBytes es → ds ≡ es
 unfolding netBytes declarations

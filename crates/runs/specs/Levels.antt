@@ -16,7 +16,7 @@ use Rattle.spec.specs.Process.{Process, WellFormed}
 use Rattle.spec.specs.Arrangement.{index}
 use Rattle.spec.specs.Arrange.{Chain, alone, weakly, strictly, prolonged, longest, levels, lineCount, onLine, arrangedLines}
 use Rattle.spec.specs.Runs.{KeepsOrder}
-use Rattle.spec.specs.Computed.{Longest}
+use Rattle.spec.specs.Computed.{LevelIsLongest}
 use Rattle.order.specs.Below.{maxBelow, max-same}
 use Rattle.order.specs.Order.{Order}
 use Rattle.order.specs.Level.{lev, lev-keeps, lev-dense}
@@ -95,7 +95,7 @@ module _ (N : Net) (R : RunRecord) (W : WellFormed N R) (P : Process N R) where
       let r = lev-dense n c o e k l q in
       strictly (chain-at k (r .0) (r .1) (r .3)) l (strict-order N R W (r .0) e (r .1) l .0 (r .2))
 
-  pub levels-longest : (e : ℕ) → e < n → Longest R e
+  pub levels-longest : (e : ℕ) → e < n → LevelIsLongest R e
   levels-longest e l = record {
     attained = chain-at _ e l (sym (level-at e l));
     most = λ k h. le-trans (chain-most h) (le-of-eq (sym (level-at e l)));

@@ -8,7 +8,7 @@ use Rattle.spec.specs.Lists.{sum}
 use Rattle.spec.specs.Answer.{gives}
 use Rattle.spec.specs.Text.{Line, linesOf}
 use Rattle.spec.specs.Net.{Net, places, withPlace, withTransition, withArc, emptyNet, netOf, readNet}
-use Rattle.spec.specs.NetText.{Declaration, place, transition, arc, declare, declareAll, Allowed}
+use Rattle.spec.specs.NetText.{Declaration, newPlace, newTransition, newArc, declare, declareAll, Allowed}
 use Rattle.spec.specs.Exactness.{DeclarationBelow, DeclarationsBelow}
 use Rattle.lists.specs.Arrays.{sum-more}
 use Rattle.runs.specs.NetText.{Sound, net-lines}
@@ -24,18 +24,18 @@ no-net = record { places = zero-le; transitions = zero-le; tokens = zero-le }
 
 declare-keeps : (n : Net) (d : Declaration) → NetLimits n → Allowed n d → NetLimits (declare n d)
 unfolding declare withPlace withTransition withArc
-declare-keeps n (place v) L a = record {
+declare-keeps n (newPlace v) L a = record {
   places = omega (arith, length-append (n .tokens) (v ∷ []), a .0);
   transitions = L .transitions;
   tokens = omega (arith, sum-more (n .tokens) v, a .1);
 }
-declare-keeps n transition L a = record { places = L .places; transitions = omega arith; tokens = L .tokens }
-declare-keeps n (arc x p t) L a = record { places = L .places; transitions = L .transitions; tokens = L .tokens }
+declare-keeps n newTransition L a = record { places = L .places; transitions = omega arith; tokens = L .tokens }
+declare-keeps n (newArc x p t) L a = record { places = L .places; transitions = L .transitions; tokens = L .tokens }
 
 allowed-below : (n : Net) (d : Declaration) → NetLimits n → Allowed n d → DeclarationBelow 1000 d
-allowed-below n (place v) L a = omega (arith, a .1)
-allowed-below n transition L a = tt
-allowed-below n (arc x p t) L a = (omega (arith, a .0, L .places), omega (arith, a .1, L .transitions))
+allowed-below n (newPlace v) L a = omega (arith, a .1)
+allowed-below n newTransition L a = tt
+allowed-below n (newArc x p t) L a = (omega (arith, a .0, L .places), omega (arith, a .1, L .transitions))
 
 sound-keeps : (n : Net) (ds : List Declaration) → NetLimits n → Sound n ds → NetLimits (declareAll n ds)
 unfolding declareAll

@@ -15,7 +15,7 @@ use Rattle.spec.specs.Answer.{gives}
 use Rattle.spec.specs.Text.{Line, linesOf, byLines, rowOf, mostDigits}
 use Rattle.spec.specs.Forms.{isAlone, isOne, isTwo, valueOf}
 use Rattle.spec.specs.Net.{Net, places, joined, takes, makes, addPlace, addTransition, addArc, addRow, addLine, emptyNet, lacking, whole, netOf, readNet}
-use Rattle.spec.specs.NetText.{Declaration, place, transition, arc, declarationLine, netBytes, declare, declareAll, declared, Allowed, Complete}
+use Rattle.spec.specs.NetText.{Declaration, newPlace, newTransition, newArc, declarationLine, netBytes, declare, declareAll, declared, Allowed, Complete}
 use Rattle.spec.specs.Exactness.{IsNet}
 use Rattle.spec.specs.declared.ArcKind.{ArcKind}
 use Rattle.spec.specs.declared.ArcKind.the-variants.{Input, Output, Inhibitor}
@@ -68,18 +68,18 @@ declares : {bytes : List ℕ} {n m : Net} (d : Declaration) → bytes ≡ declar
 declares d e z = record { what = d; written = e; allowed = z .0; next = z .1 }
 
 module _ (k : ℕ) (n m : Net) where
-  place-added : (v : ℕ) → addPlace k v n ≡ gives m → Allowed n (place v) × (declare n (place v) ≡ m)
+  place-added : (v : ℕ) → addPlace k v n ≡ gives m → Allowed n (newPlace v) × (declare n (newPlace v) ≡ m)
   unfolding addPlace declare
   place-added v h =
       let z = of-when 12 k _ _ h in
       let y = or-false (leb 32 (places n)) (ltb 512 (sum (n .tokens) + v)) (z .0) in
       ((leb-false 32 (places n) (y .0), ltb-false 512 (sum (n .tokens) + v) (y .1)), of-gives (z .1))
 
-  transition-added : addTransition k n ≡ gives m → Allowed n transition × (declare n transition ≡ m)
+  transition-added : addTransition k n ≡ gives m → Allowed n newTransition × (declare n newTransition ≡ m)
   unfolding addTransition declare
   transition-added h = let z = of-when 12 k _ _ h in (leb-false 32 (n .transitions) (z .0), of-gives (z .1))
 
-  arc-added : (x : ArcKind) (p t : ℕ) → addArc x k p t n ≡ gives m → Allowed n (arc x p t) × (declare n (arc x p t) ≡ m)
+  arc-added : (x : ArcKind) (p t : ℕ) → addArc x k p t n ≡ gives m → Allowed n (newArc x p t) × (declare n (newArc x p t) ≡ m)
   unfolding addArc declare
   arc-added x p t h =
       let z = of-when 13 k _ _ h in
@@ -95,11 +95,11 @@ module _ (k : ℕ) (n m : Net) where
       let ends = not-is-false (l .ended) (a .0) in
       let u = valueOf (w .first) in
       let v = valueOf (w .second) in
-      of-cond (isOne LetterP w) _ _ (a .1) (λ t q. declares (place u) (ended-line "P" _ l ends (one-is P-letter (l .bytes) t)) (place-added u q)) λ h.
-      of-cond (isAlone LetterT w) _ _ h (λ t q. declares transition (ended-line "T" _ l ends (alone-is T-letter (l .bytes) t)) (transition-added q)) λ h.
-      of-cond (isTwo LetterI w) _ _ h (λ t q. declares (arc Input u v) (ended-line "I" _ l ends (two-is I-letter (l .bytes) t)) (arc-added Input u v q)) λ h.
-      of-cond (isTwo LetterO w) _ _ h (λ t q. declares (arc Output v u) (ended-line "O" _ l ends (two-is O-letter (l .bytes) t)) (arc-added Output v u q)) λ h.
-      of-cond (isTwo LetterH w) _ _ h (λ t q. declares (arc Inhibitor u v) (ended-line "H" _ l ends (two-is H-letter (l .bytes) t)) (arc-added Inhibitor u v q)) not-refused
+      of-cond (isOne LetterP w) _ _ (a .1) (λ t q. declares (newPlace u) (ended-line "P" _ l ends (one-is P-letter (l .bytes) t)) (place-added u q)) λ h.
+      of-cond (isAlone LetterT w) _ _ h (λ t q. declares newTransition (ended-line "T" _ l ends (alone-is T-letter (l .bytes) t)) (transition-added q)) λ h.
+      of-cond (isTwo LetterI w) _ _ h (λ t q. declares (newArc Input u v) (ended-line "I" _ l ends (two-is I-letter (l .bytes) t)) (arc-added Input u v q)) λ h.
+      of-cond (isTwo LetterO w) _ _ h (λ t q. declares (newArc Output v u) (ended-line "O" _ l ends (two-is O-letter (l .bytes) t)) (arc-added Output v u q)) λ h.
+      of-cond (isTwo LetterH w) _ _ h (λ t q. declares (newArc Inhibitor u v) (ended-line "H" _ l ends (two-is H-letter (l .bytes) t)) (arc-added Inhibitor u v q)) not-refused
 
 -- ---- a text
 

@@ -9,7 +9,7 @@ use Rattle.spec.specs.Answer.{gives, _>>=_, _>>_, refuse_at_when_, refuse_at?_}
 use Rattle.spec.specs.Text.{linesOf, byLines, alike, mostDigits}
 use Rattle.spec.specs.Forms.{isAlone, isOne, isTwo}
 use Rattle.spec.specs.Net.{Net, places, withArc, addPlace, addTransition, addArc, addRow, addLine, emptyNet, whole, netOf, readNet}
-use Rattle.spec.specs.NetText.{Declaration, place, transition, arc, declarationLine, netBytes, declare, declareAll, declared, Allowed}
+use Rattle.spec.specs.NetText.{Declaration, newPlace, newTransition, newArc, declarationLine, netBytes, declare, declareAll, declared, Allowed}
 use Rattle.spec.specs.Exactness.{IsNet}
 use Rattle.spec.specs.declared.ArcKind.{ArcKind}
 use Rattle.spec.specs.declared.ArcKind.the-variants.{Input, Output, Inhibitor}
@@ -26,28 +26,28 @@ module _ (k : ℕ) (n : Net) (L : NetLimits n) where
   ends : (p t : ℕ) → p < places n → t < n .transitions → (p < 10 ^ mostDigits) × (t < 10 ^ mostDigits)
   ends p t l h = (omega (arith, L .places), omega (arith, L .transitions))
 
-  arc-added : (x : ArcKind) (p t : ℕ) → Allowed n (arc x p t) → addArc x k p t n ≡ gives (withArc x p t n)
+  arc-added : (x : ArcKind) (p t : ℕ) → Allowed n (newArc x p t) → addArc x k p t n ≡ gives (withArc x p t n)
   unfolding addArc _>>_ refuse_at_when_
   arc-added x p t a = rw (lt-ltb p (places n) (a .0), lt-ltb t (n .transitions) (a .1), a .2)
 
   line-taken : (d : Declaration) → Allowed n d → Takes addLine k n (declarationLine d) (suc k) (declare n d)
   unfolding declarationLine declare addLine addRow isOne isAlone isTwo alike addPlace addTransition _>>_ refuse_at_when_
-  line-taken (place v) a =
+  line-taken (newPlace v) a =
       let fs = Number v ∷ [] in
       let w : AllWritable fs = (omega (arith, a .1), tt) in
       takes-line P-letter fs (rw (row-back P-letter fs w, lt-leb 32 (places n) (a .0), le-ltb 512 (sum (n .tokens) + v) (a .1)))
-  line-taken transition a = takes-line T-letter [] (rw (row-back T-letter [] tt, lt-leb 32 (n .transitions) a))
-  line-taken (arc Input p t) a =
+  line-taken newTransition a = takes-line T-letter [] (rw (row-back T-letter [] tt, lt-leb 32 (n .transitions) a))
+  line-taken (newArc Input p t) a =
       let fs = Number p ∷ Number t ∷ [] in
       let e = ends p t (a .0) (a .1) in
       let w : AllWritable fs = (e .0, (e .1, tt)) in
       takes-line I-letter fs (rw (row-back I-letter fs w) (arc-added Input p t a))
-  line-taken (arc Output p t) a =
+  line-taken (newArc Output p t) a =
       let fs = Number t ∷ Number p ∷ [] in
       let e = ends p t (a .0) (a .1) in
       let w : AllWritable fs = (e .1, (e .0, tt)) in
       takes-line O-letter fs (rw (row-back O-letter fs w) (arc-added Output p t a))
-  line-taken (arc Inhibitor p t) a =
+  line-taken (newArc Inhibitor p t) a =
       let fs = Number p ∷ Number t ∷ [] in
       let e = ends p t (a .0) (a .1) in
       let w : AllWritable fs = (e .0, (e .1, tt)) in

@@ -22,7 +22,7 @@ use Rattle.spec.specs.Build.{Run, start, inStep, playStep, isStepLine, logLine,
 use Rattle.spec.specs.Check.{withEvent, withCondition, withMark, enterEvent, enterCondition, enterMark, conditionOf, markIn, enterRow, enterLine, emptyRecord, obeys, readRecord}
 use Rattle.spec.specs.Replay.{isGroupLine, repeats, late, breaks, groupsLine, missing, readArrangement}
 use Rattle.spec.specs.Exactness.{IsProcess}
-use Rattle.spec.specs.Refusals.{netRefusals, logRefusals, recordRefusals, arrangementRefusals, Among}
+use Rattle.spec.specs.Refusals.{netRefusals, logRefusals, recordRefusals, arrangementRefusals, IsAmong}
 use Rattle.spec.specs.declared.ArcKind.{ArcKind}
 use Rattle.spec.specs.declared.ArcKind.the-variants.{Input, Output, Inhibitor}
 use Rattle.spec.specs.declared.Class.the-variants.{LetterP, LetterT, LetterI, LetterO, LetterH, LetterE, LetterC, LetterB, LetterA}
@@ -129,7 +129,7 @@ module _ {k : ℕ} {n : Net} (D : Drafted k n) where
       let r : Row = rowOf mostDigits (l .bytes) in
       let a : ℕ = valueOf (r .first) in
       let b : ℕ = valueOf (r .second) in
-      let bad : Among netRefusals 11 k = listed netRefusals 11 refl spot-few in
+      let bad : IsAmong netRefusals 11 k = listed netRefusals 11 refl spot-few in
       when-within 11 k _ _ (λ e. bad) λ e.
       cond-within (isOne LetterP r) _ _ (place-within a) (cond-within (isAlone LetterT r) _ _ transition-within
       (cond-within (isTwo LetterI r) _ _ (arc-within Input a b) (cond-within (isTwo LetterO r) _ _ (arc-within Output b a)
@@ -224,7 +224,7 @@ module _ (N : Net) {k : ℕ} {r : RunRecord} (D : Entered k r) where
   unfolding enterLine enterRow first
   row-within l =
       let w : Row = rowOf mostDigits (l .bytes) in
-      let bad : Among recordRefusals 31 k = listed recordRefusals 31 refl record-spot in
+      let bad : IsAmong recordRefusals 31 k = listed recordRefusals 31 refl record-spot in
       when-within 31 k _ _ (λ e. bad) λ e.
       cond-within (isOne LetterE w) _ _ (event-within (valueOf (w .first))) (cond-within (isThree LetterC w) _ _ (condition-within (conditionOf w))
       (cond-within (isTwo LetterB w) _ _ (mark-within (markIn Before w)) (cond-within (isTwo LetterA w) _ _ (mark-within (markIn After w)) (refused-within bad))))

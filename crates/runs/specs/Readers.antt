@@ -7,7 +7,7 @@ use mathlib.Core.List.{List, [], _∷_, _++_, map, append-nil, append-assoc, Mem
 use lib.ListN.{length, length-append}
 use Rattle.spec.specs.Lists.{In, flat}
 use Rattle.spec.specs.Answer.{Answer, gives, _>>=_}
-use Rattle.spec.specs.Text.{Line, linesOf, byLines, line}
+use Rattle.spec.specs.Text.{Line, linesOf, byLines, lineWith}
 use Rattle.spec.specs.declared.Class.{Class}
 use Rattle.spec.specs.declared.Field.{Field}
 use Rattle.lists.specs.Laws.{here}
@@ -24,7 +24,7 @@ pub record Takes {S : Type 0} (f : ℕ → Line → S → Answer S) (k : ℕ) (s
 
 module _ {S : Type 0} {f : ℕ → Line → S → Answer S} where
   pub takes-line : {c : Char} {K : Class} → Letter c K → (fs : List Field)
-      → {k : ℕ} {s t : S} → f k (ended (body c fs)) s ≡ gives t → Takes f k s (line c fs) (suc k) t
+      → {k : ℕ} {s t : S} → f k (ended (body c fs)) s ≡ gives t → Takes f k s (lineWith c fs) (suc k) t
   unfolding byLines _>>=_
   takes-line L fs h = record { reads = λ rest. rw (line-back L fs rest, h) }
 

@@ -11,7 +11,7 @@ use lib.ListN.{length, length-append}
 use lib.Seq.{take-length}
 use borrow.Author.Tests.{ltb-true}
 use Rattle.spec.specs.Lists.{In, sumOf, flat}
-use Rattle.spec.specs.Text.{fieldBytes, fieldsBytes, line, mostDigits}
+use Rattle.spec.specs.Text.{fieldBytes, fieldsBytes, lineWith, mostDigits}
 use Rattle.spec.specs.Net.{Net, places}
 use Rattle.spec.specs.Record.{RunRecord, Condition, Mark, bench, eventField, eventLine, conditionLine, markLineOf, markLine, recordBytes}
 use Rattle.spec.specs.Process.{WellFormed, isBelow}
@@ -38,8 +38,8 @@ unfolding fieldsBytes sumOf
 fields-wide [] = refl
 fields-wide (f ∷ fs) = omega (arith, length-append (fieldBytes f) (fieldsBytes fs), fields-wide fs)
 
-pub line-wide : (c : Char) (fs : List Field) → length (line c fs) ≡ 2 + sumOf wide fs
-unfolding line
+pub line-wide : (c : Char) (fs : List Field) → length (lineWith c fs) ≡ 2 + sumOf wide fs
+unfolding lineWith
 line-wide c fs = omega (arith, length-append (fieldsBytes fs) (10 ∷ []), fields-wide fs)
 
 pub number-wide : (k n : ℕ) → 1 ≤ k → n < 10 ^ k → length (fieldBytes (Number n)) ≤ k
@@ -114,7 +114,7 @@ unfolding arrangementBytes groupLine flat
 groups-wide [] h = zero-le
 groups-wide (l ∷ ls) h = omega (
   arith,
-  length-append (line "G" (map Number l)) (arrangementBytes ls),
+  length-append (lineWith "G" (map Number l)) (arrangementBytes ls),
   line-wide "G" (map Number l),
   numbers-wide l (λ e m. h e (Memᴰ·append-left (flat ls) m)),
   length-append l (flat ls),

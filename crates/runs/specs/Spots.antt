@@ -10,7 +10,7 @@ use lib.Dec.{ltb, leb}
 use borrow.Author.Tests.{ltb-true, leb-true}
 use Rattle.spec.specs.Lists.{In, every, first}
 use Rattle.spec.specs.Answer.{Answer, gives, refuses, _>>=_, found}
-use Rattle.spec.specs.Text.{linesOf, mostDigits, fieldOf, digits, line}
+use Rattle.spec.specs.Text.{linesOf, mostDigits, fieldOf, digits, lineWith}
 use Rattle.spec.specs.Net.{places, netOf, readNet}
 use Rattle.spec.specs.Record.{RunRecord, bench}
 use Rattle.spec.specs.Build.{built, build}
@@ -19,7 +19,7 @@ use Rattle.spec.specs.Arrange.{arrange}
 use Rattle.spec.specs.Replay.{readArrangement, replay}
 use Rattle.spec.specs.Line.{refusedLine}
 use Rattle.spec.specs.Program.{inputOf, parted, printed, program}
-use Rattle.spec.specs.Refusals.{Refusal, refusal, netRefusals, logRefusals, recordRefusals, arrangementRefusals, buildRefusals, checkRefusals, replayRefusals, arrangeRefusals, lineRefusals, inputRefusals, programRefusals, Among, Refuses, Refusals}
+use Rattle.spec.specs.Refusals.{NumberAndSpots, refusal, netRefusals, logRefusals, recordRefusals, arrangementRefusals, buildRefusals, checkRefusals, replayRefusals, arrangeRefusals, lineRefusals, inputRefusals, programRefusals, IsAmong, RefusesOnly, Refusals}
 use Rattle.spec.specs.declared.Field.the-variants.{Number}
 use Rattle.lists.specs.Laws.{there, and-true, every-in}
 use Rattle.runs.specs.Digits.{number-back}
@@ -31,7 +31,7 @@ use Rattle.runs.specs.ReaderSpots.{net-within, log-within, record-within
 -- ---- the operations
 
 -- "net's; check's but 30", among the refusals of an operation
-accepts-within : (rs : List Refusal) → ((r : Refusal) → In r netRefusals → In r rs) → ((r : Refusal) → In r recordRefusals → In r rs) → (net text : List ℕ)
+accepts-within : (rs : List NumberAndSpots) → ((r : NumberAndSpots) → In r netRefusals → In r rs) → ((r : NumberAndSpots) → In r recordRefusals → In r rs) → (net text : List ℕ)
     → Within (λ a. (readNet net ≡ gives (a .net)) × (readRecord bench (a .net) text ≡ gives (a .run))) rs (accepts bench net text)
 unfolding accepts readNet
 accepts-within rs i j net text =
@@ -70,13 +70,13 @@ replay-within net text arrangement room =
 line-within : (net second : List ℕ) (choice asked : ℕ) → Within (λ p. Unit) (lineRefusals asked) (refusedLine net second choice asked)
 unfolding refusedLine first
 line-within net second choice asked =
-    let over : Among (lineRefusals asked) 46 asked = listed (lineRefusals asked) 46 refl (le-refl asked, le-refl asked) in
+    let over : IsAmong (lineRefusals asked) 46 asked = listed (lineRefusals asked) 46 refl (le-refl asked, le-refl asked) in
     when-within 46 asked _ _ (λ t. over) λ e. found-within 46 asked _ over
 
 input-within : (input : List ℕ) → Within (λ q. Unit) inputRefusals (inputOf input)
 unfolding inputOf first
 input-within input =
-    let over : Among inputRefusals 10 0 = listed inputRefusals 10 refl (zero-le, zero-le) in
+    let over : IsAmong inputRefusals 10 0 = listed inputRefusals 10 refl (zero-le, zero-le) in
     when-within 10 0 _ _ (λ t. over) λ e. found-within 10 0 (parted (linesOf input)) over
 
 pub refusals : Refusals
@@ -105,7 +105,7 @@ unfolding program answerTo
 program-prints input = refl
 
 -- an input that is refused: by rule 10, for its net or for its log
-pub program-refuses : (input : List ℕ) → Refuses programRefusals (answerTo input)
+pub program-refuses : (input : List ℕ) → RefusesOnly programRefusals (answerTo input)
 unfolding answerTo every
 program-refuses input = refuses-listed refl (
     bind-within (inputOf input) _ (wider programRefusals (λ r m. Memᴰ·append-left (netRefusals ++ logRefusals) m) (input-within input)) (λ q e u.
@@ -123,7 +123,7 @@ program-spot input n s h =
 
 -- So the line that the program prints shows the whole number and the whole spot: both fields are read back.
 pub refusal-back : (input : List ℕ) (n s : ℕ) → answerTo input ≡ refuses n s
-    → (program input ≡ line "X" (Number n ∷ Number s ∷ [])) × (fieldOf mostDigits (digits mostDigits n) ≡ Number n) × (fieldOf mostDigits (digits mostDigits s) ≡ Number s)
+    → (program input ≡ lineWith "X" (Number n ∷ Number s ∷ [])) × (fieldOf mostDigits (digits mostDigits n) ≡ Number n) × (fieldOf mostDigits (digits mostDigits s) ≡ Number s)
 unfolding printed
 refusal-back input n s h =
     let z = program-spot input n s h in

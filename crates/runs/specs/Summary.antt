@@ -8,7 +8,7 @@ use mathlib.Core.List.{List, [], _∷_, _++_, map, map-append}
 use lib.ListN.{length}
 use Rattle.spec.specs.Lists.{from, upTo, count, sum}
 use Rattle.spec.specs.Answer.{gives}
-use Rattle.spec.specs.Text.{Line, mostDigits, fieldOf, digits, line}
+use Rattle.spec.specs.Text.{Line, mostDigits, fieldOf, digits, lineWith}
 use Rattle.spec.specs.Net.{Net, netOf}
 use Rattle.spec.specs.Record.{RunRecord, bench, recordBytes}
 use Rattle.spec.specs.Build.{playLog, recordOf, recordFor, built}
@@ -68,7 +68,7 @@ built-is-process net log N R e h =
     })
 
 pub summary-back : (input : List ℕ) (R : RunRecord) → answerTo input ≡ gives R
-    → (program input ≡ recordBytes R ++ line "Z" (Number (length (R .events)) ∷ Number (length (R .conditions)) ∷ Number (independentPairs R) ∷ Number (lineCount (levels R)) ∷ []))
+    → (program input ≡ recordBytes R ++ lineWith "Z" (Number (length (R .events)) ∷ Number (length (R .conditions)) ∷ Number (independentPairs R) ∷ Number (lineCount (levels R)) ∷ []))
     × Shown 128 (length (R .events)) × Shown 512 (length (R .conditions)) × Shown 8128 (independentPairs R) × Shown 128 (lineCount (levels R))
 unfolding answerTo printed summary
 summary-back input R h =

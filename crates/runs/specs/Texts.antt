@@ -7,7 +7,7 @@ use mathlib.Core.Bool.{Bool, true, false, _&&_, cond}
 use mathlib.Core.List.{List, [], _∷_, _++_, map, append-assoc, List·Memᴰ·head, List·Memᴰ·tail, List·Memᴰ·not-nil, List·Memᴰ·append-cases}
 use lib.ListN.{length}
 use Rattle.spec.specs.Lists.{flat}
-use Rattle.spec.specs.Text.{named, inDigits, classOf, alike, isA, Line, onFirst, linesOf, fieldBytes, fieldsBytes, line, mostDigits}
+use Rattle.spec.specs.Text.{named, inDigits, classOf, alike, isA, Line, onFirst, linesOf, fieldBytes, fieldsBytes, lineWith, mostDigits}
 use Rattle.spec.specs.Forms.{isList, numbersOf}
 use Rattle.spec.specs.declared.Class.{Class}
 use Rattle.spec.specs.declared.Class.the-variants.{LineEnd}
@@ -46,8 +46,8 @@ unfolding body
 body-lacks L fs b (List·Memᴰ·head e) = rw e (L .noEnd)
 body-lacks L fs b (List·Memᴰ·tail m) = fields-lack fs b m
 
-pub line-back : {c : Char} {k : Class} → Letter c k → (fs : List Field) (rest : List ℕ) → linesOf (line c fs ++ rest) ≡ ended (body c fs) ∷ linesOf rest
-unfolding line body
+pub line-back : {c : Char} {k : Class} → Letter c k → (fs : List Field) (rest : List ℕ) → linesOf (lineWith c fs ++ rest) ≡ ended (body c fs) ∷ linesOf rest
+unfolding lineWith body
 line-back {c} L fs rest = ap linesOf (append-assoc (body c fs) (10 ∷ []) rest) ∙ first-line (body c fs) rest (body-lacks L fs)
 
 -- a line's bytes with its end
@@ -69,12 +69,12 @@ text-is (b ∷ bs) = go (isA LineEnd b) refl (text-is bs)
     go false e h = lines-grow b (linesOf bs) ∙ ap (λ (l : List ℕ). b ∷ l) h
 
 -- a line of a form is what is written for its values
-pub ended-line : (c : Char) (fs : List Field) (l : Line) → l .ended ≡ true → l .bytes ≡ body c fs → lineBytes l ≡ line c fs
-unfolding lineBytes line body
+pub ended-line : (c : Char) (fs : List Field) (l : Line) → l .ended ≡ true → l .bytes ≡ body c fs → lineBytes l ≡ lineWith c fs
+unfolding lineBytes lineWith body
 ended-line c fs l e h = rw (e, h)
 
 pub ended-list : {c : Char} {k : Class} → Letter c k → (l : Line) → (l .ended && isList mostDigits k (l .bytes)) ≡ true
-    → (lineBytes l ≡ line c (map Number (numbersOf mostDigits (l .bytes)))) × (0 < length (numbersOf mostDigits (l .bytes)))
+    → (lineBytes l ≡ lineWith c (map Number (numbersOf mostDigits (l .bytes)))) × (0 < length (numbersOf mostDigits (l .bytes)))
 ended-list {c} {k} L l h =
     let z = and-true (l .ended) (isList mostDigits k (l .bytes)) h in
     let y = list-is L (l .bytes) (z .1) in

@@ -7,7 +7,7 @@ use lib.ListN.{length, getD}
 use lib.Dec.{eqb, ltb}
 use Rattle.spec.specs.Lists.{upTo, keep, greatest, flat}
 use Rattle.spec.specs.Answer.{Answer, gives, refuses, _>>=_, _>>_, refuse_at_when_}
-use Rattle.spec.specs.Text.{line}
+use Rattle.spec.specs.Text.{lineWith}
 use Rattle.spec.specs.Record.{RunRecord, bench}
 use Rattle.spec.specs.Order.{StrictlyBefore, NotLater, isStrictlyBefore, isNotLater}
 use Rattle.spec.specs.Check.{Accepted, accepts}
@@ -49,7 +49,7 @@ arrangedLines ls = map (onLine ls) (upTo (lineCount ls))
 
 -- "lines `G,event,...`"
 unfoldable pub groupLine : List ℕ → List ℕ
-groupLine es = line "G" (map Number es)
+groupLine es = lineWith "G" (map Number es)
 
 unfoldable pub arrangementBytes : List (List ℕ) → List ℕ
 arrangementBytes lines = flat (map groupLine lines)

@@ -8,14 +8,14 @@ use lib.ListN.{replicate}
 use lib.Dec.{eqb}
 use Rattle.spec.specs.Lists.{flat}
 use Rattle.spec.specs.Answer.{Answer, _>>=_}
-use Rattle.spec.specs.Text.{line}
+use Rattle.spec.specs.Text.{lineWith}
 use Rattle.spec.specs.Net.{Net, places, readNet}
 use Rattle.spec.specs.Record.{RunRecord, Condition, Mark, bench, noCondition}
 use Rattle.spec.specs.Build.{Run, Event, logLine, build}
 use Rattle.spec.specs.Check.{enterLine, checkWithin, check}
 use Rattle.spec.specs.Arrange.{arrange}
 use Rattle.spec.specs.Replay.{replay}
-use Rattle.spec.specs.Program.{Input, inputOf, program}
+use Rattle.spec.specs.Program.{NetAndLog, inputOf, program}
 use Rattle.spec.specs.Quoted.{text, ascii, same, refused, given, passes, atMost}
 use Rattle.spec.specs.Cases.{drive, recordB, openAll}
 use Rattle.spec.specs.RefusalOrder.{buildWithin}
@@ -43,12 +43,12 @@ ofNets =
 -- "23 over 128 events": of 128 the tokens are judged, of 129 not; those of earlier lines count
 pub ofEvents : Bool
 ofEvents =
-    refused 24 1 (build drive (line "S" (replicate 128 (Number 0))) 48256)
-    && refused 23 1 (build drive (line "S" (replicate 129 (Number 0))) 48256)
-    && refused 24 3 (build drive (text "S,0 S,1" ++ line "S" (replicate 126 (Number 0))) 48256)
-    && refused 23 3 (build drive (text "S,0 S,1" ++ line "S" (replicate 127 (Number 0))) 48256)
-    && same (program (drive ++ text "=" ++ line "S" (replicate 128 (Number 0)))) (text "X,24,1")
-    && same (program (drive ++ text "=" ++ line "S" (replicate 129 (Number 0)))) (text "X,23,1")
+    refused 24 1 (build drive (lineWith "S" (replicate 128 (Number 0))) 48256)
+    && refused 23 1 (build drive (lineWith "S" (replicate 129 (Number 0))) 48256)
+    && refused 24 3 (build drive (text "S,0 S,1" ++ lineWith "S" (replicate 126 (Number 0))) 48256)
+    && refused 23 3 (build drive (text "S,0 S,1" ++ lineWith "S" (replicate 127 (Number 0))) 48256)
+    && same (program (drive ++ text "=" ++ lineWith "S" (replicate 128 (Number 0)))) (text "X,24,1")
+    && same (program (drive ++ text "=" ++ lineWith "S" (replicate 129 (Number 0)))) (text "X,23,1")
     -- "32 limit passed", by each operation that takes a record
     && refused 32 129 (check drive (lines 129 (text "E,0")) 16384)
     && refused 32 129 (replay drive (lines 129 (text "E,0")) [] 4128)

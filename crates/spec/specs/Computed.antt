@@ -13,7 +13,7 @@ use Rattle.spec.specs.Process.{Process, WellFormed}
 use Rattle.spec.specs.Arrange.{Chain, levels}
 
 -- the level of an event is the number of strict pairs in the longest chain of the closed order that ends at it
-pub record Longest (R : RunRecord) (e : ℕ) : Type 0 where
+pub record LevelIsLongest (R : RunRecord) (e : ℕ) : Type 0 where
   pub attained : Chain R (getD (levels R) e 0) e
   pub most : (k : ℕ) → Chain R k e → k ≤ getD (levels R) e 0
 
@@ -28,4 +28,4 @@ pub record Computed : Type 0 where
       → (e f : ℕ) → (isNotLater R e f ≡ true) ↔ NotLater R e f
   -- the computed level of an event is the longest chain that ends at it
   pub longest : (N : Net) (R : RunRecord) → WellFormed N R → Process N R
-      → (e : ℕ) → e < length (R .events) → Longest R e
+      → (e : ℕ) → e < length (R .events) → LevelIsLongest R e

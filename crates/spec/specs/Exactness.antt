@@ -9,7 +9,7 @@ use lib.ListN.{length}
 use Rattle.spec.specs.Lists.{In, flat}
 use Rattle.spec.specs.Answer.{gives}
 use Rattle.spec.specs.Net.{Net, readNet}
-use Rattle.spec.specs.NetText.{Declaration, place, transition, arc, netBytes, declared, Allowed, Complete}
+use Rattle.spec.specs.NetText.{Declaration, newPlace, newTransition, newArc, netBytes, declared, Allowed, Complete}
 use Rattle.spec.specs.Record.{RunRecord, Condition, Mark, bench, recordBytes}
 use Rattle.spec.specs.Process.{Process, WellFormed, isBelow}
 use Rattle.spec.specs.Build.{recordFor, build}
@@ -112,9 +112,9 @@ abbrev pub LinesBelow : ℕ → List (List ℕ) → Type 0
 LinesBelow b lines = (n : ℕ) → In n (flat lines) → n < b
 
 abbrev pub DeclarationBelow : ℕ → Declaration → Type 0
-DeclarationBelow b (place v) = v < b
-DeclarationBelow b transition = Unit {0}
-DeclarationBelow b (arc x p t) = (p < b) × (t < b)
+DeclarationBelow b (newPlace v) = v < b
+DeclarationBelow b newTransition = Unit {0}
+DeclarationBelow b (newArc x p t) = (p < b) × (t < b)
 
 abbrev pub DeclarationsBelow : ℕ → List Declaration → Type 0
 DeclarationsBelow b ds = (d : Declaration) → In d ds → DeclarationBelow b d

@@ -4,7 +4,7 @@ use Prim.Native.Nat.{ℕ, _+_, _≤_, _<_}
 use mathlib.Core.Bool.{true, false}
 use mathlib.Core.List.{List, [], _∷_, map}
 use Rattle.spec.specs.Lists.{flat, sum}
-use Rattle.spec.specs.Text.{line}
+use Rattle.spec.specs.Text.{lineWith}
 use Rattle.spec.specs.Net.{Net, places, joined, withPlace, withTransition, withArc, emptyNet}
 use Rattle.spec.specs.declared.ArcKind.{ArcKind}
 use Rattle.spec.specs.declared.ArcKind.the-variants.{Input, Output, Inhibitor}
@@ -12,26 +12,26 @@ use Rattle.spec.specs.declared.Field.the-variants.{Number}
 
 -- what a line declares: a place with its tokens, a transition, or an arc of a kind between a place and a transition
 pub data Declaration : Type 0 where
-  place : ℕ → Declaration
-  transition : Declaration
-  arc : ArcKind → ℕ → ℕ → Declaration
+  newPlace : ℕ → Declaration
+  newTransition : Declaration
+  newArc : ArcKind → ℕ → ℕ → Declaration
 
 -- "`P,tokens` place. `T` transition. `I,place,transition` input. `O,transition,place` output. `H,place,transition` inhibitor."
 unfoldable pub declarationLine : Declaration → List ℕ
-declarationLine (place v) = line "P" (Number v ∷ [])
-declarationLine transition = line "T" []
-declarationLine (arc Input p t) = line "I" (Number p ∷ Number t ∷ [])
-declarationLine (arc Output p t) = line "O" (Number t ∷ Number p ∷ [])
-declarationLine (arc Inhibitor p t) = line "H" (Number p ∷ Number t ∷ [])
+declarationLine (newPlace v) = lineWith "P" (Number v ∷ [])
+declarationLine newTransition = lineWith "T" []
+declarationLine (newArc Input p t) = lineWith "I" (Number p ∷ Number t ∷ [])
+declarationLine (newArc Output p t) = lineWith "O" (Number t ∷ Number p ∷ [])
+declarationLine (newArc Inhibitor p t) = lineWith "H" (Number p ∷ Number t ∷ [])
 
 unfoldable pub netBytes : List Declaration → List ℕ
 netBytes ds = flat (map declarationLine ds)
 
 -- "Things are numbered from 0 as they appear.": the net n and one thing more, and all of them from the top
 unfoldable pub declare : Net → Declaration → Net
-declare n (place v) = withPlace v n
-declare n transition = withTransition n
-declare n (arc x p t) = withArc x p t n
+declare n (newPlace v) = withPlace v n
+declare n newTransition = withTransition n
+declare n (newArc x p t) = withArc x p t n
 
 unfoldable pub declareAll : Net → List Declaration → Net
 declareAll n [] = n
@@ -43,9 +43,9 @@ declared ds = declareAll emptyNet ds
 -- what may be declared below the net n. "At most 32 places, 32 transitions, 512 initial tokens in all." "An arc names things
 -- declared above it.", and no arc is repeated.
 abbrev pub Allowed : Net → Declaration → Type 0
-Allowed n (place v) = (places n < 32) × (sum (n .tokens) + v ≤ 512)
-Allowed n transition = n .transitions < 32
-Allowed n (arc x p t) = (p < places n) × (t < n .transitions) × (joined n x p t ≡ false)
+Allowed n (newPlace v) = (places n < 32) × (sum (n .tokens) + v ≤ 512)
+Allowed n newTransition = n .transitions < 32
+Allowed n (newArc x p t) = (p < places n) × (t < n .transitions) × (joined n x p t ≡ false)
 
 -- "Each transition has an input and an output."
 pub record Complete (n : Net) : Type 0 where

@@ -1,7 +1,7 @@
 -- For the modules of computed cases: what opens every definition of document 01, so that they compute. It says nothing of its own.
 use Rattle.spec.specs.Lists.{from, upTo, any, every, count, keep, first, sumOf, flat, asCount, sum, greatest, lowest, member}
 use Rattle.spec.specs.Answer.{_>>=_, _>>_, refuse_at_when_, refuse_at?_, found, returned}
-use Rattle.spec.specs.Text.{named, inDigits, classOf, digitOf, byteClass, alike, isA, onFirst, linesOf, byLines, needlessZero, isNumber, valueFrom, grow, pieces, isDash, fieldOf, letterOf, letterIn, fieldsOf, rowOf, digitByte, digits, fieldBytes, fieldsBytes, line}
+use Rattle.spec.specs.Text.{named, inDigits, classOf, digitOf, byteClass, alike, isA, onFirst, linesOf, byLines, needlessZero, isNumber, valueFrom, grow, pieces, isDash, fieldOf, letterOf, letterIn, fieldsOf, rowOf, digitByte, digits, fieldBytes, fieldsBytes, lineWith}
 use Rattle.spec.specs.Forms.{isAlone, isOne, isTwo, isThree, isList, numbersOf}
 use Rattle.spec.specs.Net.{isArc, joined, takes, makes, inhibits, withPlace, withTransition, withArc, addPlace, addTransition, addArc, addRow, addLine, emptyNet, lacking, whole, netOf, readNet}
 use Rattle.spec.specs.NetText.{declarationLine, netBytes, declare, declareAll}
@@ -29,7 +29,7 @@ unfolding _>>=_ _>>_ refuse_at_when_ refuse_at?_ found returned
 ofAnswer = tt
 
 unfoldable ofText : Unit {0}
-unfolding named inDigits classOf digitOf byteClass alike isA onFirst linesOf byLines needlessZero isNumber valueFrom grow pieces isDash fieldOf letterOf letterIn fieldsOf rowOf digitByte digits fieldBytes fieldsBytes line
+unfolding named inDigits classOf digitOf byteClass alike isA onFirst linesOf byLines needlessZero isNumber valueFrom grow pieces isDash fieldOf letterOf letterIn fieldsOf rowOf digitByte digits fieldBytes fieldsBytes lineWith
 ofText = tt
 
 unfoldable ofForms : Unit {0}

@@ -7,7 +7,7 @@ use mathlib.Core.List.{List, [], _∷_, _++_}
 use lib.ListN.{length, getD}
 use lib.Dec.{eqb, ltb}
 use Rattle.spec.specs.Answer.{Answer, gives, refuses, _>>=_, _>>_, refuse_at_when_, found}
-use Rattle.spec.specs.Text.{Line, linesOf, line}
+use Rattle.spec.specs.Text.{Line, linesOf, lineWith}
 use Rattle.spec.specs.Net.{netOf}
 use Rattle.spec.specs.Record.{RunRecord, bench, recordBytes}
 use Rattle.spec.specs.Build.{built}
@@ -16,7 +16,7 @@ use Rattle.spec.specs.Arrange.{levels, lineCount}
 use Rattle.spec.specs.declared.Field.the-variants.{Number}
 
 -- "The program reads standard input: net, a line `=` (the first counts), log."
-pub record Input : Type 0 where
+pub record NetAndLog : Type 0 where
   pub net : List Line
   pub log : List Line
 
@@ -24,17 +24,17 @@ pub record Input : Type 0 where
 unfoldable pub isParting : Line → Bool
 isParting l = l .ended && eqb (length (l .bytes)) 1 && eqb (getD (l .bytes) 0 0) (code "=")
 
-unfoldable pub withNetLine : Line → Option Input → Option Input
+unfoldable pub withNetLine : Line → Option NetAndLog → Option NetAndLog
 withNetLine l none = none
 withNetLine l (some q) = some (record { net = l ∷ q .net; log = q .log })
 
 -- the lines before the first line `=`, and those after it
-unfoldable pub parted : List Line → Option Input
+unfoldable pub parted : List Line → Option NetAndLog
 parted [] = none
 parted (l ∷ ls) = cond (isParting l) (some (record { net = []; log = ls })) (withNetLine l (parted ls))
 
 -- "Program: 10 input over 65,536 bytes or no `=` line (spot 0)."
-unfoldable pub inputOf : List ℕ → Answer Input
+unfoldable pub inputOf : List ℕ → Answer NetAndLog
 inputOf input = do
   refuse 10 at 0 when ltb 65536 (length input)
   found 10 0 (parted (linesOf input))
@@ -42,12 +42,12 @@ inputOf input = do
 -- "`Z,events,conditions,pairs,lines` (independent pairs, arranged lines)"
 unfoldable pub summary : RunRecord → List ℕ
 summary r =
-    line "Z" (Number (length (r .events)) ∷ Number (length (r .conditions)) ∷ Number (independentPairs r) ∷ Number (lineCount (levels r)) ∷ [])
+    lineWith "Z" (Number (length (r .events)) ∷ Number (length (r .conditions)) ∷ Number (independentPairs r) ∷ Number (lineCount (levels r)) ∷ [])
 
 -- "It prints the record, then [the summary], or `X,number,spot` alone."
 unfoldable pub printed : Answer RunRecord → List ℕ
 printed (gives r) = recordBytes r ++ summary r
-printed (refuses n s) = line "X" (Number n ∷ Number s ∷ [])
+printed (refuses n s) = lineWith "X" (Number n ∷ Number s ∷ [])
 
 unfoldable pub program : List ℕ → List ℕ
 program input = printed (do

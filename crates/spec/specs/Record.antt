@@ -6,7 +6,7 @@ use mathlib.Core.List.{List, [], _∷_, _++_, map}
 use lib.ListN.{getD}
 use lib.Dec.{eqb}
 use Rattle.spec.specs.Lists.{any, flat}
-use Rattle.spec.specs.Text.{line}
+use Rattle.spec.specs.Text.{lineWith}
 use Rattle.spec.specs.Net.{Net, inhibits}
 use Rattle.spec.specs.declared.Field.{Field}
 use Rattle.spec.specs.declared.Field.the-variants.{Number, Dash, Wrong, Absent}
@@ -74,14 +74,14 @@ eventField none = Dash
 eventField (some e) = Number e
 
 unfoldable pub eventLine : ℕ → List ℕ
-eventLine t = line "E" (Number t ∷ [])
+eventLine t = lineWith "E" (Number t ∷ [])
 
 unfoldable pub conditionLine : Condition → List ℕ
-conditionLine c = line "C" (Number (c .place) ∷ eventField (c .producer) ∷ eventField (c .consumer) ∷ [])
+conditionLine c = lineWith "C" (Number (c .place) ∷ eventField (c .producer) ∷ eventField (c .consumer) ∷ [])
 
 unfoldable pub markLineOf : MarkKind → ℕ → ℕ → List ℕ
-markLineOf Before c e = line "B" (Number c ∷ Number e ∷ [])
-markLineOf After c e = line "A" (Number c ∷ Number e ∷ [])
+markLineOf Before c e = lineWith "B" (Number c ∷ Number e ∷ [])
+markLineOf After c e = lineWith "A" (Number c ∷ Number e ∷ [])
 
 unfoldable pub markLine : Mark → List ℕ
 markLine m = markLineOf (m .kind) (m .condition) (m .event)

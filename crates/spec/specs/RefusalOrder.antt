@@ -7,7 +7,7 @@ use mathlib.Core.Bool.{Bool, true, _&&_}
 use mathlib.Core.List.{List, [], _∷_, _++_}
 use lib.ListN.{replicate}
 use Rattle.spec.specs.Answer.{Answer, _>>=_}
-use Rattle.spec.specs.Text.{linesOf, line}
+use Rattle.spec.specs.Text.{linesOf, lineWith}
 use Rattle.spec.specs.Net.{readNet}
 use Rattle.spec.specs.Record.{RunRecord}
 use Rattle.spec.specs.Build.{built, build}
@@ -87,7 +87,7 @@ ofBuild =
     && inLog 21 1 drive (text "S,3,x")
     -- 22 before 23, over the whole line,
     && inLogOf (atMost 2 9 9) 22 1 drive (text "S,0,2,3")
-    && inLog 22 1 drive (line "S" (replicate 128 (Number 0) ++ Number 3 ∷ []))
+    && inLog 22 1 drive (lineWith "S" (replicate 128 (Number 0) ++ Number 3 ∷ []))
     -- 23 before 24,
     && inLogOf (atMost 1 9 9) 23 1 drive (text "S,0,0")
     -- 24 before 25, also where the place that inhibits (1) is lower than the one that is short (2),

@@ -6,7 +6,7 @@ use mathlib.Core.Bool.{Bool, true}
 use mathlib.Core.List.{List, [], _∷_, map}
 use lib.ListN.{length, getD, take}
 use Rattle.spec.specs.Lists.{In, from, flat}
-use Rattle.spec.specs.Text.{line}
+use Rattle.spec.specs.Text.{lineWith}
 use Rattle.spec.specs.Net.{Net}
 use Rattle.spec.specs.Step.{EnabledAt, markingAfter}
 use Rattle.spec.specs.Record.{RunRecord, transitionOf}
@@ -74,7 +74,7 @@ pub record WithinLimits (N : Net) (steps : List (List ℕ)) : Type 0 where
 
 -- the text of a sequence: "`S` and one or more transitions" on each line
 unfoldable pub stepLine : List ℕ → List ℕ
-stepLine step = line "S" (map Number step)
+stepLine step = lineWith "S" (map Number step)
 
 unfoldable pub logBytes : List (List ℕ) → List ℕ
 logBytes steps = flat (map stepLine steps)

@@ -179,5 +179,5 @@ fieldsBytes [] = []
 fieldsBytes (f ∷ fs) = code "," ∷ fieldBytes f ++ fieldsBytes fs
 
 -- the line with this letter and these fields
-unfoldable pub line : Char → List Field → List ℕ
-line c fs = code c ∷ fieldsBytes fs ++ 10 ∷ []
+unfoldable pub lineWith : Char → List Field → List ℕ
+lineWith c fs = code c ∷ fieldsBytes fs ++ 10 ∷ []

@@ -7,7 +7,7 @@ use mathlib.Core.List.{List, [], _∷_, _++_, map}
 use lib.ListN.{take, drop, replicate}
 use lib.Dec.{eqb}
 use Rattle.spec.specs.Lists.{upTo, count}
-use Rattle.spec.specs.Text.{classOf, classCode, digitOf, isA, line}
+use Rattle.spec.specs.Text.{classOf, classCode, digitOf, isA, lineWith}
 use Rattle.spec.specs.Net.{Net, places, readNet}
 use Rattle.spec.specs.Build.{build}
 use Rattle.spec.specs.Check.{Checked, check}
@@ -83,8 +83,8 @@ texts =
     -- "Empty text has no lines."
     && declares [] 0 0
     -- how numbers are written
-    && same (line "C" (Number 0 ∷ Dash ∷ Number 10 ∷ [])) (text "C,0,-,10")
-    && same (line "Z" (Number 128 ∷ Number 512 ∷ Number 8128 ∷ Number 1 ∷ [])) (text "Z,128,512,8128,1")
+    && same (lineWith "C" (Number 0 ∷ Dash ∷ Number 10 ∷ [])) (text "C,0,-,10")
+    && same (lineWith "Z" (Number 128 ∷ Number 512 ∷ Number 8128 ∷ Number 1 ∷ [])) (text "Z,128,512,8128,1")
 
 -- ---- "An arc names things declared above it."; 14 is keyed by the letter; an inhibitor is no input
 
@@ -265,7 +265,7 @@ replayings =
     -- "each event of the record once in all": in a line and over the lines
     && refused 43 1 (replay drive recordB (text "G,1,1") 4128)
     && refused 43 2 (replay drive recordB (text "G,1 G,1") 4128)
-    && refused 43 1 (replay drive recordB (line "G" (replicate 200 (Number 1))) 4128)
+    && refused 43 1 (replay drive recordB (lineWith "G" (replicate 200 (Number 1))) 4128)
     -- "strict predecessors stand in earlier lines and weak ones no later"
     && refused 44 1 (replay drive recordA (text "G,0,1 G,2") 4128)
     && refused 44 2 (replay drive recordA (text "G,0 G,1,2") 4128)

@@ -6,7 +6,7 @@ use mathlib.Core.List.{List, [], _∷_}
 use lib.ListN.{length}
 use Rattle.spec.specs.Answer.{gives}
 use Rattle.spec.specs.Net.{readNet}
-use Rattle.spec.specs.Text.{line}
+use Rattle.spec.specs.Text.{lineWith}
 use Rattle.spec.specs.Record.{bench}
 use Rattle.spec.specs.Check.{accepts, readRecord, Accepted as AcceptedD}
 use Rattle.spec.specs.Arrange.{levels, lineCount}
@@ -51,7 +51,7 @@ module _ {s : Counts} {rec t : List ℕ} {g : ℕ} (K : Noted s rec) (O : Ordere
 
   noted-line : {k m : ℕ} → k ≡ independentPairs (s .events) (cellOf t) → m ≡ lineCount (levelsIn (s .events) t)
       → lineBytes 90 (Number (s .events) ∷ Number (s .conditions) ∷ Number k ∷ Number m ∷ []) ≡ summary (K .run)
-  unfolding summary line
+  unfolding summary lineWith
   noted-line p q =
       let l : lineCount (levelsIn (s .events) t) ≡ lineCount (levels (K .run)) = ap lineCount (levels-held (K .net) (K .run) (K .held .wellFormed) (K .process) (s .events) t (K .held .bytes .events) (O .order)) in
       rw (p ∙ pairs-counted (K .net) (K .run) t (s .events) (K .held .wellFormed) (O .order) (K .held .bytes .events), q ∙ l, K .held .bytes .events, K .held .bytes .conditions)
