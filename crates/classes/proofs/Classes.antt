@@ -11,15 +11,15 @@ use Rattle.spec.specs.Lists.{every}
 use Rattle.spec.specs.declared.Class.{Class}
 use Rattle.spec.specs.declared.Class.the-variants.{Digit, LineEnd, Foreign}
 use Rattle.spec.specs.declared.ByteClass.{ByteClass}
-use Rattle.spec.specs.Text.{named, classNames, inDigits, classOf, digitOf, byteClass, alike, isA}
+use Rattle.spec.specs.Text.{named, classNames, inDigits, classOf, digitOf, classAndDigit, alike, isA}
 use Rattle.lists.specs.Laws.{and-true}
 use Rattle.classes.specs.Scan.{plainByte}
 
 pub not-below : {a b : ℕ} → a < b → b ≤ a → ⊥
 not-below p q = omega arith
 
-pub digit : (b : ℕ) → 48 ≤ b → b ≤ 57 → record { class = Digit; digit = b - 48 } ≡ byteClass b
-unfolding byteClass classOf digitOf inDigits
+pub digit : (b : ℕ) → 48 ≤ b → b ≤ 57 → record { class = Digit; digit = b - 48 } ≡ classAndDigit b
+unfolding classAndDigit classOf digitOf inDigits
 digit b p q = simp le-leb
 
 -- the byte is none of those that the list names
@@ -50,8 +50,8 @@ no-digit b h = go (leb 48 b) (leb b 57) refl refl
     go true false p q = refl
     go false t p q = refl
 
-pub foreign : (b : ℕ) → (48 ≤ b → b ≤ 57 → ⊥) → Rest (Unit {0}) b classNames → plainByte Foreign ≡ byteClass b
-unfolding byteClass classOf digitOf
+pub foreign : (b : ℕ) → (48 ≤ b → b ≤ 57 → ⊥) → Rest (Unit {0}) b classNames → plainByte Foreign ≡ classAndDigit b
+unfolding classAndDigit classOf digitOf
 foreign b d h = sym (rw (no-digit b d, none-named b classNames (of-rest (Unit {0}) b classNames h .1)))
 
 pub digit-low : (b : ℕ) → digitOf b ≤ 9
@@ -65,13 +65,13 @@ digit-low b = go (leb 48 b) (leb b 57) refl
 
 -- ---- what the class and the digit of a byte tell, once it has been looked at
 
-module _ {r : ByteClass} (b : ℕ) (e : r ≡ byteClass b) where
+module _ {r : ByteClass} (b : ℕ) (e : r ≡ classAndDigit b) where
   pub told-class : (k : Class) → alike (r .class) k ≡ isA k b
-  unfolding byteClass isA
+  unfolding classAndDigit isA
   told-class k = rw e
 
   pub told-digit : r .digit ≡ digitOf b
-  unfolding byteClass
+  unfolding classAndDigit
   told-digit = ap (λ z. z .digit) e
 
   pub told-low : r .digit ≤ 9

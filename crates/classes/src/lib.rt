@@ -2,7 +2,7 @@
 ghost use mathlib.Core.Path.{_≡_};
 ghost use Prim.Native.Nat.{_+_, _≤_};
 ghost use lib.ListN.{length, drop};
-ghost use Rattle.spec.specs.Text.{byteClass, classCode, digitOf, isA, alike};
+ghost use Rattle.spec.specs.Text.{classAndDigit, classCode, digitOf, isA, alike};
 ghost use Rattle.classes.specs.Scan.{plainByte, before};
 use spec::ByteClass;
 use spec::Class;
@@ -16,7 +16,7 @@ fn plain(class: Class) -> ByteClass
 
 // What a byte is: its class, and its value as a digit.
 pub fn class_of(b: u8) -> ByteClass
-    ensures { λ r. ⌜ r ≡ byteClass b ⌝ }
+    ensures { λ r. ⌜ r ≡ classAndDigit b ⌝ }
 {
     match b {
         b'0'..=b'9' => ByteClass {

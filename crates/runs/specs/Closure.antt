@@ -11,7 +11,7 @@ use borrow.Author.Tests.{eq-eqb, ne-eqb, eqb-true, eqb-false, lt-ltb, le-leb, le
 use Rattle.spec.specs.Lists.{In, any, greatest}
 use Rattle.spec.specs.Net.{Net}
 use Rattle.spec.specs.Record.{RunRecord}
-use Rattle.spec.specs.Order.{Pair, pairs, Path, pair, then, StrictlyBefore, NotLater, isPair, reach, hasPath, pathBy, isStrictlyBefore, isNotLater}
+use Rattle.spec.specs.Order.{Pair, pairs, Path, single, then, StrictlyBefore, NotLater, isPair, reach, hasPath, pathBy, isStrictlyBefore, isNotLater}
 use Rattle.spec.specs.Process.{Process, WellFormed}
 use Rattle.spec.specs.Check.{related}
 use Rattle.order.specs.Join.{join}
@@ -68,7 +68,7 @@ module _ (ps : List Pair) where
   reach-path zero e f h =
       let r : (q : Pair) × In q ps × (isPair e f q ≡ true) = Laws.any-found (isPair e f) ps h in
       let z = pair-ends (r .0) (r .2) in
-      (r .0 .strict, cast refl (z .0) (z .1) (pair (r .0) (r .1)))
+      (r .0 .strict, cast refl (z .0) (z .1) (single (r .0) (r .1)))
   reach-path (suc k) e f h = elim (Laws.or-true (reach ps k e f) (reach ps k e k && reach ps k k f) h) [
     | inl a ↦ reach-path k e f a
     | inr a ↦
@@ -83,11 +83,11 @@ module _ (ps : List Pair) where
   By e f = (q : Pair) × In q ps × (q .strict ≡ true) × To e (q .source) × To (q .target) f
 
   path-by : {s : Bool} {e f : ℕ} → Path ps s e f → s ≡ true → By e f
-  path-by (pair q m) h = (q, m, h, inl refl, inl refl)
+  path-by (single q m) h = (q, m, h, inl refl, inl refl)
   path-by (then q {s} {f} m p) h = go (q .strict) refl h (λ j. path-by p j)
     where
       lead : (x : ℕ) → To (q .target) x → Some (q .source) x
-      lead x (inl z) = (q .strict, cast refl refl z (pair q m))
+      lead x (inl z) = (q .strict, cast refl refl z (single q m))
       lead x (inr w) = (q .strict || w .0, then q m (w .1))
 
       go : (x : Bool) → q .strict ≡ x → (x || s) ≡ true → (s ≡ true → By (q .target) f) → By (q .source) f
@@ -103,7 +103,7 @@ module _ (ps : List Pair) where
   lead-out p (inr w) = path-append p (w .1)
 
   by-path : {e f : ℕ} → By e f → Path ps true e f
-  by-path r = lead-in (r .3) (lead-out (cast (r .2) refl refl (pair (r .0) (r .1))) (r .4))
+  by-path r = lead-in (r .3) (lead-out (cast (r .2) refl refl (single (r .0) (r .1))) (r .4))
 
 -- ---- of a well-formed record: no path leaves its events
 

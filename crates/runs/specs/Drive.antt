@@ -11,7 +11,7 @@ use mathlib.Core.List.{List, [], _∷_, List·Memᴰ·head, List·Memᴰ·tail}
 use Rattle.spec.specs.Answer.{gives, refuses}
 use Rattle.spec.specs.Net.{Net, readNet}
 use Rattle.spec.specs.Record.{RunRecord, Mark, bench}
-use Rattle.spec.specs.Order.{pair, NotLater, StrictlyBefore}
+use Rattle.spec.specs.Order.{single, NotLater, StrictlyBefore}
 use Rattle.spec.specs.Build.{build}
 use Rattle.spec.specs.Check.{readRecord}
 use Rattle.spec.specs.Replay.{readArrangement}
@@ -19,7 +19,7 @@ use Rattle.spec.specs.Arrangement.{index}
 use Rattle.spec.specs.Arrange.{arrangementBytes}
 use Rattle.spec.specs.Runs.{EnabledSequence, KeepsOrder, asSteps, logBytes}
 use Rattle.spec.specs.Demand.{OrderOfRuns, RunIsRecorded}
-use Rattle.spec.specs.Quoted.{text}
+use Rattle.spec.specs.Quoted.{asText}
 use Rattle.spec.specs.Cases.{drive, recordB, openAll}
 use Rattle.spec.specs.declared.ArcKind.the-variants.{Input, Output, Inhibitor}
 use Rattle.spec.specs.declared.MarkKind.the-variants.{Before, After}
@@ -77,7 +77,7 @@ enabled = order-b .kept .enabled parkFirst keeps
 -- the write comes before the park in no run: the park is not later, by the one weak pair
 b-weak : NotLater runB 1 0
 unfolding openAll runB
-b-weak = (λ e. omega arith, (false, pair (record { source = 1; target = 0; strict = false }) (List·Memᴰ·head refl)))
+b-weak = (λ e. omega arith, (false, single (record { source = 1; target = 0; strict = false }) (List·Memᴰ·head refl)))
 
 pub never-first : (lines : List (List ℕ)) → KeepsOrder runB lines → ¬ (index 0 lines < index 1 lines)
 unfolding runB
@@ -100,10 +100,10 @@ unfoldable pub runF : RunRecord
 runF = markedBy (record { kind = Before; condition = 2; event = 2 })
 
 unfoldable recordA : List ℕ
-recordA = text "E,0 E,1 E,2 C,0,-,0 C,2,-,2 C,1,0,1 C,4,1,- C,3,2,- A,2,2"
+recordA = asText "E,0 E,1 E,2 C,0,-,0 C,2,-,2 C,1,0,1 C,4,1,- C,3,2,- A,2,2"
 
 unfoldable recordF : List ℕ
-recordF = text "E,0 E,1 E,2 C,0,-,0 C,2,-,2 C,1,0,1 C,4,1,- C,3,2,- B,2,2"
+recordF = asText "E,0 E,1 E,2 C,0,-,0 C,2,-,2 C,1,0,1 C,4,1,- C,3,2,- B,2,2"
 
 a-accepted : readRecord bench driveNet recordA ≡ gives runA
 unfolding openAll driveNet markedBy runA recordA
@@ -122,7 +122,7 @@ order-f = demand .order-of-runs drive driveNet net-accepted recordF runF f-accep
 -- in a the park comes after the flush in every run,
 a-strict : StrictlyBefore runA 1 2
 unfolding openAll markedBy runA
-a-strict = pair (record { source = 1; target = 2; strict = true }) (List·Memᴰ·tail (List·Memᴰ·head refl))
+a-strict = single (record { source = 1; target = 2; strict = true }) (List·Memᴰ·tail (List·Memᴰ·head refl))
 
 pub flushed-first : (lines : List (List ℕ)) → KeepsOrder runA lines → index 1 lines < index 2 lines
 unfolding runA markedBy
@@ -131,7 +131,7 @@ flushed-first = order-a .order .strict 1 2 (record { one = omega arith; other = 
 -- in f after the write in none
 f-weak : NotLater runF 2 0
 unfolding openAll markedBy runF
-f-weak = (λ e. omega arith, (false, pair (record { source = 2; target = 0; strict = false }) (List·Memᴰ·tail (List·Memᴰ·head refl))))
+f-weak = (λ e. omega arith, (false, single (record { source = 2; target = 0; strict = false }) (List·Memᴰ·tail (List·Memᴰ·head refl))))
 
 pub parked-first : (lines : List (List ℕ)) → KeepsOrder runF lines → ¬ (index 0 lines < index 2 lines)
 unfolding runF markedBy
@@ -169,13 +169,13 @@ netK = record {
   arcs = record { kind = Inhibitor; place = 0; transition = 0 } ∷ record { kind = Output; place = 1; transition = 0 } ∷ record { kind = Input; place = 0; transition = 0 } ∷ [];
 }
 
-k-net : readNet (text "P,1 P,0 T I,0,0 O,0,1 H,0,0") ≡ gives netK
+k-net : readNet (asText "P,1 P,0 T I,0,0 O,0,1 H,0,0") ≡ gives netK
 unfolding openAll netK
 k-net = refl
 
-k-refused : readRecord bench netK (text "E,0 C,0,-,0 C,1,0,- A,0,0") ≡ refuses 39 0
+k-refused : readRecord bench netK (asText "E,0 C,0,-,0 C,1,0,- A,0,0") ≡ refuses 39 0
 unfolding openAll netK
 k-refused = refl
 
-pub k-not-accepted : (R : RunRecord) → readRecord bench netK (text "E,0 C,0,-,0 C,1,0,- A,0,0") ≢ gives R
+pub k-not-accepted : (R : RunRecord) → readRecord bench netK (asText "E,0 C,0,-,0 C,1,0,- A,0,0") ≢ gives R
 k-not-accepted R h = not-refused (sym k-refused ∙ h)

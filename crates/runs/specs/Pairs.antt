@@ -10,7 +10,7 @@ use mathlib.Core.List.{List, [], _∷_}
 use lib.ListN.{length}
 use Rattle.spec.specs.Lists.{In}
 use Rattle.spec.specs.Record.{RunRecord}
-use Rattle.spec.specs.Order.{Pair, pairs, Path, pair, then, StrictlyBefore, NotLater}
+use Rattle.spec.specs.Order.{Pair, pairs, Path, single, then, StrictlyBefore, NotLater}
 use Rattle.spec.specs.Arrangement.{Arrangement, index}
 use Rattle.spec.specs.Runs.{KeepsOrder}
 use Rattle.lists.specs.Laws.{clash}
@@ -26,12 +26,12 @@ Bounded ps n = (q : Pair) → In q ps → (q .source < n) × (q .target < n)
 
 module _ {ps : List Pair} where
   pub path-bounded : {n : ℕ} → Bounded ps n → {s : Bool} {e f : ℕ} → Path ps s e f → (e < n) × (f < n)
-  path-bounded b (pair q m) = b q m
+  path-bounded b (single q m) = b q m
   path-bounded b (then q m p) = (b q m .0, path-bounded b p .1)
 
   module _ {ρ : ℕ → ℕ} (k : KeepsPairs ps ρ) where
     pub along : {s : Bool} {e f : ℕ} → Path ps s e f → (ρ e ≤ ρ f) × (s ≡ true → ρ e < ρ f)
-    along (pair q m) = (k .weak q m, k .strict q m)
+    along (single q m) = (k .weak q m, k .strict q m)
     along (then q {s} {f} m p) = go (q .strict) s refl (along p)
       where
         go : (x y : Bool) → q .strict ≡ x → (ρ (q .target) ≤ ρ f) × (y ≡ true → ρ (q .target) < ρ f) → (ρ (q .source) ≤ ρ f) × ((x || y) ≡ true → ρ (q .source) < ρ f)
@@ -49,12 +49,12 @@ module _ (R : RunRecord) (b : Bounded (pairs R) (length (R .events))) (lines : L
   order-pairs k = record { strict = strict; weak = weak }
     where
       strict : (q : Pair) → In q (pairs R) → q .strict ≡ true → index (q .source) lines < index (q .target) lines
-      strict q m h = k .strict (q .source) (q .target) (b q m .0) (b q m .1) (rw h at (pair q m))
+      strict q m h = k .strict (q .source) (q .target) (b q m .0) (b q m .1) (rw h at (single q m))
 
       weak : (q : Pair) → In q (pairs R) → index (q .source) lines ≤ index (q .target) lines
       weak q m = elim (ℕ-discrete (q .source) (q .target)) [
         | yes e ↦ le-of-eq (ap (λ (z : ℕ). index z lines) e)
-        | no d ↦ k .weak (q .source) (q .target) (b q m .0) (b q m .1) (d, (q .strict, pair q m))
+        | no d ↦ k .weak (q .source) (q .target) (b q m .0) (b q m .1) (d, (q .strict, single q m))
       ]
 
   pub pairs-order : Arrangement (length (R .events)) lines → KeepsPairs (pairs R) (λ e. index e lines) → KeepsOrder R lines

@@ -14,7 +14,7 @@ use borrow.Author.Tests.{eq-eqb, eqb-true, lt-ltb, le-leb}
 use Rattle.spec.specs.Lists.{In, greatest}
 use Rattle.spec.specs.Net.{Net}
 use Rattle.spec.specs.Record.{RunRecord}
-use Rattle.spec.specs.Order.{Pair, pairs, Path, pair, then, StrictlyBefore, NotLater, isPair}
+use Rattle.spec.specs.Order.{Pair, pairs, Path, single, then, StrictlyBefore, NotLater, isPair}
 use Rattle.spec.specs.Process.{Process, WellFormed}
 use Rattle.order.specs.Closure.{close, close-least, close-trans}
 use Rattle.order.specs.Paths
@@ -109,7 +109,7 @@ module _ {ps : List Pair} where
   cast x y z p = rw (← x, ← y, ← z) p
 
   pub path-append : {s t : Bool} {e g f : ℕ} → Path ps s e g → Path ps t g f → Path ps (s || t) e f
-  path-append (pair q m) r = then q m r
+  path-append (single q m) r = then q m r
   path-append {t} (then q {s} m p) r = cast (sym (or-assoc (q .strict) s t)) refl refl (then q m (path-append p r))
 
 module _ (ps : List Pair) (n : ℕ) where
@@ -117,7 +117,7 @@ module _ (ps : List Pair) (n : ℕ) where
   pair-close q m = le-trans (pair-above ps q m) (close-least (pairAt ps) n _ _)
 
   pub path-close : Bounded ps n → {s : Bool} {e f : ℕ} → Path ps s e f → weight s ≤ close (pairAt ps) n e f
-  path-close b (pair q m) = pair-close q m
+  path-close b (single q m) = pair-close q m
   path-close b (then q {s} {f} m p) =
       let x : weight s ≤ close (pairAt ps) n (q .target) f = path-close b p in
       omega (
@@ -131,7 +131,7 @@ module _ (ps : List Pair) (n : ℕ) where
   path-pos b {s} p = le-trans (weight-pos s) (path-close b p)
 
   path-of : {v e f : ℕ} → Paths.Path (pairAt ps) n v e f → Path ps (leb 2 v) e f
-  path-of (one {e} {f} a b h) = let r = pair-found ps e f h in cast (weight-two _ (r .4)) (r .2) (r .3) (pair (r .0) (r .1))
+  path-of (one {e} {f} a b h) = let r = pair-found ps e f h in cast (weight-two _ (r .4)) (r .2) (r .3) (single (r .0) (r .1))
   path-of (more {v} {e} {g} {f} a h w) =
       let r = pair-found ps e g h in
       let s : (r .0 .strict || leb 2 v) ≡ leb 2 (max (pairAt ps e g) v) = ap (λ (z : Bool). z || leb 2 v) (weight-two _ (r .4)) ∙ sym (Laws.leb-max 2 (pairAt ps e g) v) in

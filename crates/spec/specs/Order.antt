@@ -44,7 +44,7 @@ pairs r = flat (map conditionPair (r .conditions)) ++ flat (map (markPair r) (r 
 
 -- a path of pairs from e to f; the Boolean says whether a strict pair is on it
 pub data Path (ps : List Pair) : Bool → ℕ → ℕ → Type 0 where
-  pair : (q : Pair) → In q ps → Path ps (q .strict) (q .source) (q .target)
+  single : (q : Pair) → In q ps → Path ps (q .strict) (q .source) (q .target)
   then : (q : Pair) {s : Bool} {f : ℕ} → In q ps → Path ps s (q .target) f → Path ps (q .strict || s) (q .source) f
 
 abbrev pub StrictlyBefore : RunRecord → ℕ → ℕ → Type 0

@@ -17,14 +17,14 @@ ascii (c then s) = code c ∷ ascii s
 space→end : ℕ → ℕ
 space→end b = cond (eqb b (code " ")) 10 b
 
-ended : List ℕ → List ℕ
-ended [] = []
-ended (b ∷ bs) = (b ∷ bs) ++ 10 ∷ []
+withEnd : List ℕ → List ℕ
+withEnd [] = []
+withEnd (b ∷ bs) = (b ∷ bs) ++ 10 ∷ []
 
 -- "each on its line (spaces here part lines)"
-unfoldable pub text : String → List ℕ
-unfolding ascii space→end ended
-text s = ended (map space→end (ascii s))
+unfoldable pub asText : String → List ℕ
+unfolding ascii space→end withEnd
+asText s = withEnd (map space→end (ascii s))
 
 -- the same without the last byte 10
 unfoldable pub unended : String → List ℕ

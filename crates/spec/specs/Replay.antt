@@ -59,7 +59,7 @@ readArrangement r text = do
 -- "In each row a place holds its initial tokens plus those made minus those taken by the events so far.": after events
 -- with these transitions
 unfoldable pub countAfter : Net → List ℕ → ℕ → ℕ
-countAfter n ts p = tokensAt (n .tokens) p + made n ts p - taken n ts p
+countAfter n ts p = (tokensAt (n .tokens) p + made n ts p) - taken n ts p
 
 -- the transitions of the events of the first k lines
 unfoldable pub firedBy : RunRecord → List (List ℕ) → ℕ → List ℕ

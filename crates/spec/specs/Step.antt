@@ -36,7 +36,7 @@ inhibited n m step = any (λ p. ltb 0 (tokensAt m p) && any (inhibits n p) step)
 
 -- "It then removes all inputs and adds all outputs.": 004's M'(s) = M(s) − Σ U(t) + Σ U(t)
 unfoldable pub play : Net → List ℕ → List ℕ → List ℕ
-play n m step = map (λ p. tokensAt m p - taken n step p + made n step p) (upTo (places n))
+play n m step = map (λ p. (tokensAt m p - taken n step p) + made n step p) (upTo (places n))
 
 -- "One running marking is carried from step to step and changed."
 unfoldable pub markingAfter : Net → List ℕ → List (List ℕ) → List ℕ

@@ -42,8 +42,8 @@ unfoldable pub digitOf : ℕ → ℕ
 digitOf b = cond (inDigits b) (b - code "0") 0
 
 -- both together
-unfoldable pub byteClass : ℕ → ByteClass
-byteClass b = record { class = classOf b; digit = digitOf b }
+unfoldable pub classAndDigit : ℕ → ByteClass
+classAndDigit b = record { class = classOf b; digit = digitOf b }
 
 -- a number for each class, by which classes are compared
 abbrev pub classCode : Class → ℕ
