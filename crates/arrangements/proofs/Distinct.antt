@@ -11,7 +11,7 @@ use lib.Dec.{eqb}
 use lib.ListN.{length}
 use borrow.Author.Tests.{eq-eqb, ne-eqb, eqb-true}
 use Rattle.spec.specs.Lists.{In, any, count, asCount, upTo, member}
-use Rattle.spec.specs.Replay.{repeats}
+use Rattle.spec.specs.Replaying.{repeats}
 use Rattle.lists.specs.Laws.{here, there, clash, true-or-false, or-true, or-false, true-or-l, true-or-r, false-or, any-in, any-found, count-either, count-none, count-length, count-upTo, length-upTo, eqb-sym}
 
 pub member-in : {x : ℕ} (xs : List ℕ) → In x xs → member x xs ≡ true

@@ -13,7 +13,7 @@ use lib.ListN.{length, getD, take, drop, length-drop}
 use Rattle.spec.specs.Lists.{In, any, upTo, member, flat}
 use Rattle.spec.specs.Record.{RunRecord}
 use Rattle.spec.specs.Order.{isStrictlyBefore, isNotLater}
-use Rattle.spec.specs.Replay.{repeats, late, breaks}
+use Rattle.spec.specs.Replaying.{repeats, late, breaks}
 use Rattle.bit_sets.specs.Sets.{has, has-most, First}
 use Rattle.bit_sets.specs.declared.Set.{Set}
 use Rattle.reach.specs.declared.Row.{Row}

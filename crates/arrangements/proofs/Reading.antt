@@ -15,7 +15,7 @@ use Rattle.spec.specs.Answer.{Answer, gives, refuses, _>>_, refuse_at_when_}
 use Rattle.spec.specs.Text.{Line, linesOf, byLines, alike, isA, classOf, named, inDigits, letterIn, fieldsOf, mostDigits}
 use Rattle.spec.specs.Forms.{aNumber, isList, numbersOf, valueOf}
 use Rattle.spec.specs.Record.{RunRecord}
-use Rattle.spec.specs.Replay.{isGroupLine, repeats, breaks, groupsLine}
+use Rattle.spec.specs.Replaying.{isGroupLine, repeats, breaks, groupsLine}
 use Rattle.spec.specs.declared.Class.the-variants.{LetterG}
 use Rattle.lists.specs.Laws.{at-in, and-true, and-three, all-below, flat-snoc}
 use Rattle.lines.specs.Agree.{giving, refusing}

@@ -10,7 +10,7 @@ use lib.ListN.{length, getD, set, replicate, length-set, length-replicate, take,
 use lib.Seq.{getD-set-same, getD-set-other, getD-take, length-take-le}
 use borrow.Author.Tests.{lt-ltb, le-ltb, eq-eqb, ne-eqb}
 use Rattle.spec.specs.Lists.{In, any, member}
-use Rattle.spec.specs.Replay.{repeats}
+use Rattle.spec.specs.Replaying.{repeats}
 use Rattle.lists.specs.Laws.{here, there, in-at}
 use Rattle.lists.specs.Along.{rest-at}
 use Rattle.lists.specs.Arrays.{blank}

@@ -11,7 +11,7 @@ use Rattle.spec.specs.Text.{Line, linesOf, byLines, mostDigits}
 use Rattle.spec.specs.Forms.{numbersOf}
 use Rattle.lines.specs.Agree.{Agrees}
 use Rattle.spec.specs.Record.{RunRecord}
-use Rattle.spec.specs.Replay.{isGroupLine, groupsLine}
+use Rattle.spec.specs.Replaying.{isGroupLine, groupsLine}
 use Rattle.arrangements.specs.Lined.{Lined, Taken, brokenFrom}
 use Rattle.arrangements.specs.declared.Known.{Known}
 use Rattle.arrangements.specs.declared.LinesRead.{LinesRead}

@@ -9,7 +9,7 @@ use lib.Dec.{ltb, leb}
 use Rattle.spec.specs.Lists.{In, flat, member}
 use Rattle.spec.specs.Record.{RunRecord}
 use Rattle.spec.specs.Order.{isStrictlyBefore, isNotLater}
-use Rattle.spec.specs.Replay.{repeats, breaks}
+use Rattle.spec.specs.Replaying.{repeats, breaks}
 use Rattle.bit_sets.specs.Sets.{has}
 use Rattle.bit_sets.specs.declared.Set.{Set}
 use Rattle.reach.specs.Rows.{cellOf, rowOf}

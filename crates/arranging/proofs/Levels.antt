@@ -8,7 +8,7 @@ use lib.Seq.{length-take-le, getD-take}
 use Rattle.spec.specs.Net.{Net}
 use Rattle.spec.specs.Record.{RunRecord}
 use Rattle.spec.specs.Process.{Process, WellFormed}
-use Rattle.spec.specs.Arrange.{longest, levels, lineCount, arrangedLines, arrangementBytes}
+use Rattle.spec.specs.Arranging.{longest, levels, lineCount, arrangedLines, arrangementBytes}
 use Rattle.lists.specs.Mapped.{Mapped}
 use Rattle.lists.specs.Tables.{length-table, table-is}
 use Rattle.order.specs.Level.{lev, lev-same}

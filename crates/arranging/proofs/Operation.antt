@@ -7,7 +7,7 @@ use lib.ListN.{length}
 use borrow.Author.Tests.{lt-ltb, le-ltb}
 use Rattle.spec.specs.Answer.{Answer, gives, refuses, _>>=_, _>>_, refuse_at_when_, returned}
 use Rattle.spec.specs.Record.{bench}
-use Rattle.spec.specs.Arrange.{Arranged as ArrangedD, levels, arrangedLines, arrangementBytes, arrangedOf, arrange}
+use Rattle.spec.specs.Arranging.{Arranged as ArrangedD, levels, arrangedLines, arrangementBytes, arrangedOf, arrange}
 use Rattle.spec.specs.Buffer.{leaves, arrangeLeaves}
 use Rattle.order.specs.Order.{Order}
 use Rattle.reach.specs.Rows.{cellOf}

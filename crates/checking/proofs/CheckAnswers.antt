@@ -5,7 +5,7 @@ use mathlib.Core.List.{List}
 use lib.ListN.{length}
 use borrow.Author.Tests.{lt-ltb, le-ltb}
 use Rattle.spec.specs.Answer.{gives, refuses, _>>=_, _>>_, refuse_at_when_, returned}
-use Rattle.spec.specs.Check.{accepts, Accepted as AcceptedD, checkedOf, checkWithin}
+use Rattle.spec.specs.Checking.{accepts, Accepted as AcceptedD, checkedOf, checkWithin}
 use Rattle.spec.specs.Buffer.{leaves, checkLeaves}
 use Rattle.spec.specs.declared.Limits.{Limits}
 use Rattle.lists.specs.Mapped.{Mapped}

@@ -14,7 +14,7 @@ use Rattle.spec.specs.Lists.{count, upTo, from, flat, sum}
 use Rattle.spec.specs.Net.{Net as NetD}
 use Rattle.spec.specs.Record.{RunRecord}
 use Rattle.spec.specs.Process.{Process, WellFormed}
-use Rattle.spec.specs.Check.{related, tableAt, tableBytes, independent, independentPairs as pairsD}
+use Rattle.spec.specs.Checking.{related, tableAt, tableBytes, independent, independentPairs as pairsD}
 use Rattle.spec.specs.Buffer.{over}
 use Rattle.lists.specs.Laws.{length-map, length-upTo, upTo-snoc, in-upTo, flat-map-snoc, getD-table, getD-table-rows, map-same, count-same}
 use Rattle.lists.specs.Mapped.{Mapped}

@@ -9,7 +9,7 @@ use lib.Dec.{eqb}
 use lib.ListN.{length, getD}
 use borrow.Author.Tests.{ne-eqb}
 use Rattle.spec.specs.Record.{isNone, noCondition}
-use Rattle.spec.specs.Build.{isFree}
+use Rattle.spec.specs.Building.{isFree}
 use Rattle.lists.specs.Laws
 use Rattle.lists.specs.Tables.{length-table}
 use Rattle.conditions.specs.Conditions.{decoded, conditionIn, conditionsIn, freeAt}

@@ -7,7 +7,7 @@ use native.Mathlib.Omega.{arith}
 use lib.ListN.{length, getD, take, set, replicate, length-set, length-append, replicate-append-replicate}
 use lib.Seq.{getD-set-same, getD-set-other}
 use Rattle.spec.specs.Record.{Condition}
-use Rattle.spec.specs.Build.{madeBy}
+use Rattle.spec.specs.Building.{madeBy}
 use Rattle.lists.specs.Laws
 use Rattle.steps.specs.Holds.{cellAt}
 use Rattle.lists.specs.Tables.{table-more}

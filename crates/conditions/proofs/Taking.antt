@@ -11,7 +11,7 @@ use lib.ListN.{length, getD, set, replicate, length-set, replicate-append-replic
 use lib.Seq.{getD-set-same, getD-set-other}
 use borrow.Author.Tests.{ne-eqb}
 use Rattle.spec.specs.Record.{Condition, noCondition}
-use Rattle.spec.specs.Build.{isFree, consumedBy, consume}
+use Rattle.spec.specs.Building.{isFree, consumedBy, consume}
 use Rattle.lists.specs.Tables.{table-set}
 use Rattle.runs.specs.Flows.{Flow, flow}
 use Rattle.runs.specs.Consume.{taking}

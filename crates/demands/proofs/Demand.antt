@@ -9,9 +9,9 @@ use lib.ListN.{length, getD, take, drop, length-append}
 use Rattle.spec.specs.Answer.{Answer, gives, refuses, returned}
 use Rattle.spec.specs.Net.{Net, readNet}
 use Rattle.spec.specs.Record.{RunRecord, bench}
-use Rattle.spec.specs.Build.{build}
-use Rattle.spec.specs.Check.{readRecord}
-use Rattle.spec.specs.Arrange.{arrangementBytes}
+use Rattle.spec.specs.Building.{build}
+use Rattle.spec.specs.Checking.{readRecord}
+use Rattle.spec.specs.Arranging.{arrangementBytes}
 use Rattle.spec.specs.Buffer.{over, leaves, buildLeaves, checkLeaves, replayLeaves, arrangeLeaves}
 use Rattle.spec.specs.Demand.{OrderOfRuns}
 use Rattle.spec.specs.Runs.{KeepsOrder}

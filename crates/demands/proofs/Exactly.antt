@@ -8,10 +8,10 @@ use Rattle.spec.specs.Answer.{Answer, gives}
 use Rattle.spec.specs.Net.{Net, readNet}
 use Rattle.spec.specs.NetText.{Declaration, netBytes, declared, Complete}
 use Rattle.spec.specs.Record.{RunRecord, recordBytes}
-use Rattle.spec.specs.Build.{recordFor, build}
-use Rattle.spec.specs.Check.{checkedOf, check}
-use Rattle.spec.specs.Arrange.{arrangedOf, arrange, arrangementBytes}
-use Rattle.spec.specs.Replay.{replayedOf, replay}
+use Rattle.spec.specs.Building.{recordFor, build}
+use Rattle.spec.specs.Checking.{checkedOf, check}
+use Rattle.spec.specs.Arranging.{arrangedOf, arrange, arrangementBytes}
+use Rattle.spec.specs.Replaying.{replayedOf, replay}
 use Rattle.spec.specs.Runs.{logBytes}
 use Rattle.spec.specs.Buffer.{leaves, buildLeaves, checkLeaves, replayLeaves, arrangeLeaves}
 use Rattle.spec.specs.Values.{netValues, byteValues, checkValues, replayValues, arrangeValues, netReturns}

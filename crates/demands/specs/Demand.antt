@@ -9,8 +9,8 @@ use Rattle.spec.specs.Answer.{gives}
 use Rattle.spec.specs.Net.{Net, places, readNet}
 use Rattle.spec.specs.Step.{tokensAt}
 use Rattle.spec.specs.Record.{RunRecord, bench}
-use Rattle.spec.specs.Check.{readRecord}
-use Rattle.spec.specs.Arrange.{arrangementBytes}
+use Rattle.spec.specs.Checking.{readRecord}
+use Rattle.spec.specs.Arranging.{arrangementBytes}
 use Rattle.spec.specs.Runs.{EnabledSequence, KeepsOrder, WithinLimits, markingAt, asSteps, eventLines, logBytes}
 use Rattle.spec.specs.Runs.{TwoEvents, StandsEarlier, InEvery, InNone}
 use Rattle.spec.specs.declared.Numbers.{Numbers}

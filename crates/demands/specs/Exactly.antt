@@ -9,10 +9,10 @@ use Rattle.spec.specs.Answer.{gives}
 use Rattle.spec.specs.Net.{Net, readNet}
 use Rattle.spec.specs.NetText.{Declaration, netBytes, declared, Complete}
 use Rattle.spec.specs.Record.{RunRecord, recordBytes}
-use Rattle.spec.specs.Build.{recordFor}
-use Rattle.spec.specs.Check.{checkedOf}
-use Rattle.spec.specs.Arrange.{arrangedOf, arrangementBytes}
-use Rattle.spec.specs.Replay.{replayedOf}
+use Rattle.spec.specs.Building.{recordFor}
+use Rattle.spec.specs.Checking.{checkedOf}
+use Rattle.spec.specs.Arranging.{arrangedOf, arrangementBytes}
+use Rattle.spec.specs.Replaying.{replayedOf}
 use Rattle.spec.specs.Runs.{EnabledSequence, KeepsOrder, WithinLimits, logBytes}
 use Rattle.spec.specs.Buffer.{over}
 use Rattle.spec.specs.Values.{asNumbers, netValues, byteValues, checkValues, replayValues, arrangeValues}

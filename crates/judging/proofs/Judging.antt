@@ -12,7 +12,7 @@ use Rattle.spec.specs.Answer.{Answer, gives, refuses, _>>_, refuse_at_when_}
 use Rattle.spec.specs.Lists.{In, upTo, sumOf, asCount}
 use Rattle.spec.specs.Net.{Net, places, takes, makes, inhibits}
 use Rattle.spec.specs.Step.{EnabledAt, short, inhibited, play}
-use Rattle.spec.specs.Build.{Event, Run as RunD, inStep, takeAll, makeAll, playStep, marksDue}
+use Rattle.spec.specs.Building.{Event, Run as RunD, inStep, takeAll, makeAll, playStep, marksDue}
 use Rattle.lists.specs.Mapped.{Mapped}
 use Rattle.steps.specs.Holds.{HoldsStep, HoldsMarking, Sums, Arcs, cellAt, falls, blocks, moved}
 use Rattle.steps.proofs.Held.{step-length, sums-held, short-held, inhibited-held, play-held}

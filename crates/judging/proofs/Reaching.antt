@@ -11,7 +11,7 @@ use borrow.Author.Tests.{ltb-false}
 use Rattle.spec.specs.Answer.{Answer, refuses}
 use Rattle.spec.specs.Lists.{In, upTo, sumOf}
 use Rattle.spec.specs.Net.{Net, places}
-use Rattle.spec.specs.Build.{Run as RunD, isFree}
+use Rattle.spec.specs.Building.{Run as RunD, isFree}
 use Rattle.lists.specs.Laws
 use Rattle.lists.specs.Tables.{length-table}
 use Rattle.steps.specs.Holds.{IsStep, HoldsStep, ArcsAt, Sums, cellAt, falls, Playable}

@@ -9,7 +9,7 @@ use Rattle.spec.specs.Answer.{Answer, gives, refuses, _>>_, refuse_at_when_}
 use Rattle.spec.specs.Lists.{In}
 use Rattle.spec.specs.Net.{Net, places}
 use Rattle.spec.specs.Step.{short, inhibited}
-use Rattle.spec.specs.Build.{Run as RunD, playStep, marksDue}
+use Rattle.spec.specs.Building.{Run as RunD, playStep, marksDue}
 use Rattle.lines.specs.Agree.{Agrees}
 use Rattle.steps.specs.Holds.{IsStep, HoldsStep, HoldsMarking, ArcsAt}
 use Rattle.runs.specs.Built.{Good}

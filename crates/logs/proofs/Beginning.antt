@@ -9,7 +9,7 @@ use lib.ListN.{length, getD, take, List·getD-eq-default}
 use lib.Seq.{ext-getD, getD-take, length-take-le}
 use Rattle.spec.specs.Lists.{count, sumOf}
 use Rattle.spec.specs.Net.{Net, places}
-use Rattle.spec.specs.Build.{start, initialOf}
+use Rattle.spec.specs.Building.{start, initialOf}
 use Rattle.steps.specs.Holds.{HoldsMarking}
 use Rattle.runs.specs.Built.{good-start, start-count, blank as blankCondition}
 use Rattle.lists.specs.Stretch.{MappedFrom}

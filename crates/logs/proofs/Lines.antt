@@ -15,7 +15,7 @@ use Rattle.spec.specs.declared.Class.the-variants.{LetterS}
 use Rattle.spec.specs.declared.Field.{Field}
 use Rattle.spec.specs.Net.{Net}
 use Rattle.spec.specs.Record.{bench}
-use Rattle.spec.specs.Build.{Run as RunD, isStepLine, logLine}
+use Rattle.spec.specs.Building.{Run as RunD, isStepLine, logLine}
 use Rattle.lists.specs.Laws
 use Rattle.number_lines.specs.Numbers.{Begins}
 use Rattle.steps.specs.Holds.{HoldsStep}

@@ -8,7 +8,7 @@ use lib.ListN.{length, drop}
 use Rattle.spec.specs.Text.{Line, linesOf, byLines}
 use Rattle.spec.specs.Net.{Net}
 use Rattle.spec.specs.Record.{bench}
-use Rattle.spec.specs.Build.{Run as RunD, start, logLine, playLog}
+use Rattle.spec.specs.Building.{Run as RunD, start, logLine, playLog}
 use Rattle.lines.specs.Agree.{Agrees, giving, refusing}
 use Rattle.lines.proofs.ByLines.{line-taken, line-refused, lines-done}
 use Rattle.steps.specs.Holds.{ArcsAt}

@@ -10,7 +10,7 @@ use Rattle.spec.specs.Lists.{sum, any}
 use Rattle.spec.specs.Text.{Line, linesOf, mostDigits}
 use Rattle.spec.specs.Forms.{numbersOf}
 use Rattle.spec.specs.Net.{Net}
-use Rattle.spec.specs.Build.{Run as RunD, start, isStepLine, logLine, playLog}
+use Rattle.spec.specs.Building.{Run as RunD, start, isStepLine, logLine, playLog}
 use Rattle.spec.specs.Record.{bench}
 use Rattle.lines.specs.Agree.{Agrees}
 use Rattle.steps.specs.Holds.{HoldsStep, HoldsMarking, ArcsAt}

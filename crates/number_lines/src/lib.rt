@@ -7,7 +7,7 @@ ghost use lib.ListN.{length};
 ghost use Rattle.spec.specs.Lists.{any};
 ghost use Rattle.spec.specs.Text.{mostDigits, classOf};
 ghost use Rattle.spec.specs.Forms.{isList, numbersOf};
-ghost use Rattle.spec.specs.Build.{isStepLine};
+ghost use Rattle.spec.specs.Building.{isStepLine};
 ghost use Rattle.lines.specs.Lines.{lineOf};
 ghost use Rattle.plain.specs.Plain.{Opens};
 ghost use Rattle.number_lines.specs.Numbers.{Few, Begins, Puts, ListAt};

@@ -10,7 +10,7 @@ use lib.Dec.{eqb}
 use borrow.Author.Tests.{eq-eqb, ne-eqb, eqb-true}
 use Rattle.spec.specs.Lists.{In, upTo, count, greatest, sumOf, asCount}
 use Rattle.spec.specs.Arrangement.{Arrangement, times, index}
-use Rattle.spec.specs.Arrange.{onLine, arrangedLines, lineCount}
+use Rattle.spec.specs.Arranging.{onLine, arrangedLines, lineCount}
 use Rattle.lists.specs.Laws.{count-sum, count-none, count-keep, count-length, count-upTo, count-true, count-false, in-keep, in-upTo, sumOf-map, sumOf-same, sumOf-zero, getD-table, length-map, length-upTo, map-same}
 use Rattle.order.specs.Below.{maxBelow, max-above, max-least, max-attained}
 use Rattle.order.specs.Order.{Order, Keeps, keeps-same, keeps-less}

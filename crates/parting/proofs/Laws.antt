@@ -13,7 +13,7 @@ use lib.Dec.{eqb}
 use borrow.Author.Tests.{eqb-true, ne-eqb}
 use Rattle.spec.specs.Lists.{asCount}
 use Rattle.spec.specs.Text.{Line, linesOf, onFirst, isA}
-use Rattle.spec.specs.Program.{NetAndLog, isParting, withNetLine, parted}
+use Rattle.spec.specs.Printing.{NetAndLog, isParting, withNetLine, parted}
 use Rattle.spec.specs.declared.Class.the-variants.{LineEnd}
 use Rattle.lists.specs.Laws.{and-true, count-cons}
 use Rattle.lists.specs.Along.{take-more, rest-at}

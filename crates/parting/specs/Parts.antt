@@ -8,7 +8,7 @@ use mathlib.Core.List.{List, [], _∷_}
 use lib.ListN.{length, getD, take, drop}
 use lib.Dec.{eqb}
 use Rattle.spec.specs.Text.{Line, linesOf, onFirst, isA}
-use Rattle.spec.specs.Program.{NetAndLog, withNetLine, parted}
+use Rattle.spec.specs.Printing.{NetAndLog, withNetLine, parted}
 use Rattle.spec.specs.declared.Class.the-variants.{LineEnd}
 use Rattle.parting.specs.declared.Parting.{Parting}
 use Rattle.parting.specs.declared.Parting.the-variants.{At, Nothing}

@@ -11,7 +11,7 @@ use Rattle.spec.specs.Lists.{flat, upTo, from, first, lowest, member}
 use Rattle.spec.specs.Answer.{Answer, gives, refuses, _>>=_, _>>_, refuse_at?_}
 use Rattle.spec.specs.Text.{linesOf, byLines}
 use Rattle.spec.specs.Record.{RunRecord}
-use Rattle.spec.specs.Replay.{missing, groupsLine, readArrangement}
+use Rattle.spec.specs.Replaying.{missing, groupsLine, readArrangement}
 use Rattle.lists.specs.Search.{first-same}
 use Rattle.lines.specs.Agree.{Agrees, giving, refusing}
 use Rattle.lines.proofs.Answers.{isGiven}

@@ -13,7 +13,7 @@ use Rattle.spec.specs.Lists.{In, sumOf, flat, upTo}
 use Rattle.spec.specs.Net.{Net as NetD, takes, makes}
 use Rattle.spec.specs.Step.{tokensAt, taken, made}
 use Rattle.spec.specs.Record.{RunRecord, transitionOf}
-use Rattle.spec.specs.Replay.{countAfter, firedBy, rowAt, replayRow, replayedOf}
+use Rattle.spec.specs.Replaying.{countAfter, firedBy, rowAt, replayRow, replayedOf}
 use Rattle.lists.specs.Laws.{sumOf-same, map-same, flat-append, getD-table, length-upTo}
 use Rattle.lists.specs.Arrays.{blank}
 use Rattle.net.specs.Holds.{Cells}

@@ -6,7 +6,7 @@ use lib.ListN.{length, getD}
 use Rattle.spec.specs.Lists.{In, flat}
 use Rattle.spec.specs.Net.{Net as NetD, takes, makes}
 use Rattle.spec.specs.Record.{RunRecord, transitionOf}
-use Rattle.spec.specs.Replay.{readArrangement}
+use Rattle.spec.specs.Replaying.{readArrangement}
 use Rattle.columns.specs.Columns.{column}
 use Rattle.lines.specs.Agree.{Agrees}
 use Rattle.net.specs.Holds.{Cells}

@@ -5,7 +5,7 @@ use mathlib.Core.List.{List, _++_, map}
 use native.Mathlib.Omega.{arith}
 use lib.ListN.{length, getD, List·getD-append, length-map}
 use Rattle.spec.specs.Record.{Condition, noCondition}
-use Rattle.spec.specs.Build.{isFree}
+use Rattle.spec.specs.Building.{isFree}
 use Rattle.steps.specs.Holds.{cellAt}
 use Rattle.runs.specs.Flows.{Flow, flows}
 use Rattle.runs.specs.Consume.{taking, made-of}

@@ -6,7 +6,7 @@ use native.Mathlib.Omega.{arith}
 use lib.ListN.{length, getD, take, replicate}
 use Rattle.spec.specs.Lists.{In, upTo, flat, sumOf}
 use Rattle.spec.specs.Net.{Net, places}
-use Rattle.spec.specs.Build.{Run, inStep, takeAll, playStep}
+use Rattle.spec.specs.Building.{Run, inStep, takeAll, playStep}
 use Rattle.lists.specs.Laws
 use Rattle.lists.specs.Laws.{here, there}
 use Rattle.lists.specs.Tables.{length-table, table-same}

@@ -8,7 +8,7 @@ use lib.ListN.{length, getD, take, drop, replicate, length-append}
 use lib.Seq.{take-add, length-take-le}
 use Rattle.spec.specs.Lists.{from, upTo, sum}
 use Rattle.spec.specs.Record.{Condition}
-use Rattle.spec.specs.Build.{initialOf}
+use Rattle.spec.specs.Building.{initialOf}
 use Rattle.lists.specs.Along.{take-more}
 use Rattle.lists.specs.Grouped.{sum-append}
 use Rattle.runs.specs.Growth.{initial-length}

@@ -5,7 +5,7 @@ use mathlib.Core.List.{List, [], _++_, map}
 use lib.ListN.{length, getD, take}
 use Rattle.spec.specs.Lists.{upTo}
 use Rattle.spec.specs.Record.{Condition}
-use Rattle.spec.specs.Build.{Event, initialOf, inStep}
+use Rattle.spec.specs.Building.{Event, initialOf, inStep}
 use Rattle.steps.specs.Holds.{cellAt}
 use Rattle.steps.specs.declared.Extent.{Extent}
 use Rattle.runs.specs.Flows.{flows}

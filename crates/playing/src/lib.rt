@@ -6,7 +6,7 @@ ghost use Rattle.columns.specs.Columns.{column};
 ghost use Rattle.runs.specs.Flows.{flows};
 ghost use Rattle.steps.specs.Holds.{IsStep, cellAt};
 ghost use Rattle.spec.specs.Lists.{sum};
-ghost use Rattle.spec.specs.Build.{initialOf};
+ghost use Rattle.spec.specs.Building.{initialOf};
 ghost use Rattle.conditions.specs.Conditions.{MadeAt};
 ghost use Rattle.playing.specs.Holds.{AddedAt, Growable, GrownAt};
 use conditions::make_step;

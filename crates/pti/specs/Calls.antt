@@ -3,10 +3,10 @@ use mathlib.Core.Path.{_≡_}
 use Prim.Native.Nat.{ℕ}
 use mathlib.Core.List.{List}
 use lib.ListN.{length}
-use Rattle.spec.specs.Build.{build}
-use Rattle.spec.specs.Check.{check}
-use Rattle.spec.specs.Replay.{replay}
-use Rattle.spec.specs.Arrange.{arrange}
+use Rattle.spec.specs.Building.{build}
+use Rattle.spec.specs.Checking.{check}
+use Rattle.spec.specs.Replaying.{replay}
+use Rattle.spec.specs.Arranging.{arrange}
 use Rattle.spec.specs.Buffer.{buildLeaves, checkLeaves, replayLeaves, arrangeLeaves, programLeaves}
 use Rattle.spec.specs.Values.{buildReturns, checkReturns, replayReturns, arrangeReturns, programReturns}
 use Rattle.spec.specs.declared.Numbers.{Numbers}

@@ -8,7 +8,7 @@ use Rattle.spec.specs.Answer.{Answer, gives, refuses}
 use Rattle.spec.specs.Text.{Line, linesOf, byLines}
 use Rattle.spec.specs.Net.{Net, places}
 use Rattle.spec.specs.Record.{RunRecord, Condition, Mark}
-use Rattle.spec.specs.Check.{eventOf, enterLine, emptyRecord}
+use Rattle.spec.specs.Checking.{eventOf, enterLine, emptyRecord}
 use Rattle.spec.specs.declared.Field.{Field}
 use Rattle.spec.specs.declared.MarkKind.{MarkKind}
 use Rattle.spec.specs.declared.Limits.{Limits}

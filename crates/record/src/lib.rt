@@ -4,7 +4,7 @@ ghost use mathlib.Core.Bool.{true, false};
 ghost use Prim.Native.Nat.{_+_, _^_, _≤_, _<_};
 ghost use Rattle.spec.specs.Net.{Net, places as placesOf};
 ghost use Rattle.spec.specs.Process.{isBelow};
-ghost use Rattle.spec.specs.Check.{eventOf, enterEvent, enterCondition, enterMark, enterRow, enterLine};
+ghost use Rattle.spec.specs.Checking.{eventOf, enterEvent, enterCondition, enterMark, enterRow, enterLine};
 ghost use Rattle.lines.specs.Lines.{lineOf};
 ghost use Rattle.plain.specs.Plain.{Opens};
 ghost use Rattle.record.specs.Holds.{eventCode, kindCode, conditionOf, bitOf};

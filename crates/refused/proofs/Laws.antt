@@ -14,7 +14,7 @@ use borrow.Author.Tests.{lt-ltb, le-ltb}
 use Rattle.spec.specs.Lists.{count}
 use Rattle.spec.specs.Text.{Line, linesOf, onFirst, isA}
 use Rattle.spec.specs.Answer.{gives, refuses, _>>_, refuse_at_when_, found, returned}
-use Rattle.spec.specs.Line.{partsFrom, lineAt, chosenText, refusedLine, partOf}
+use Rattle.spec.specs.LineParts.{partsFrom, lineAt, chosenText, refusedLine, partOf}
 use Rattle.spec.specs.declared.Class.the-variants.{LineEnd}
 use Rattle.lists.specs.Laws.{count-true, count-false, count-cons, count-same}
 use Rattle.classes.proofs.Classes.{line-end}

@@ -7,7 +7,7 @@ use lib.ListN.{length, take, drop, getElem?}
 use denote.Ref.{RefT, ptr}
 use Rattle.spec.specs.Answer.{Answer, gives, refuses}
 use Rattle.spec.specs.Text.{linesOf}
-use Rattle.spec.specs.Line.{Part, partsFrom, lineAt, chosenText, refusedLine}
+use Rattle.spec.specs.LineParts.{Part, partsFrom, lineAt, chosenText, refusedLine}
 use Rattle.refused.specs.declared.Found.{Found}
 use Rattle.refused.specs.declared.Found.the-variants.{At, Nothing}
 use Rattle.refused.specs.declared.LineAnswer.{LineAnswer}

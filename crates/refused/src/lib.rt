@@ -3,7 +3,7 @@ ghost use mathlib.Core.Path.{_≡_};
 ghost use Prim.Native.Nat.{_<_};
 ghost use denote.Ref.{ptr};
 ghost use Rattle.spec.specs.Answer.{returned};
-ghost use Rattle.spec.specs.Line.{refusedLine, partOf};
+ghost use Rattle.spec.specs.LineParts.{refusedLine, partOf};
 ghost use Rattle.spec.specs.Values.{lineValues};
 ghost use Rattle.refused.specs.Shown.{Running, Finds, FindsChosen, answerOf, placeOf};
 use bytes::count_at;

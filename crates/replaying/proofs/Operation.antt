@@ -11,8 +11,8 @@ use Rattle.spec.specs.Lists.{sum}
 use Rattle.spec.specs.Answer.{gives, refuses, _>>=_, _>>_, refuse_at_when_, returned}
 use Rattle.spec.specs.Record.{bench, transitionOf}
 use Rattle.spec.specs.Process.{WellFormed}
-use Rattle.spec.specs.Check.{accepts, Accepted as AcceptedD}
-use Rattle.spec.specs.Replay.{readArrangement, replayedOf, replay}
+use Rattle.spec.specs.Checking.{accepts, Accepted as AcceptedD}
+use Rattle.spec.specs.Replaying.{readArrangement, replayedOf, replay}
 use Rattle.spec.specs.Buffer.{leaves, replayLeaves}
 use Rattle.lists.specs.Laws.{at-in}
 use Rattle.runs.specs.Answers.{not-refused}

@@ -3,7 +3,7 @@ use Prim.Native.Nat.{ℕ}
 use mathlib.Core.Path.{_≡_}
 use mathlib.Core.List.{List}
 use Rattle.spec.specs.Answer.{Answer, refuses, returned}
-use Rattle.spec.specs.Replay.{Replayed}
+use Rattle.spec.specs.Replaying.{Replayed}
 use Rattle.spec.specs.Buffer.{replayLeaves}
 use Rattle.spec.specs.Values.{replayValues}
 use Rattle.accepting.specs.Accepting.{refusedBy}

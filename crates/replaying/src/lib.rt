@@ -1,7 +1,7 @@
 // Replaying an arrangement, from its texts to its rows.
 ghost use mathlib.Core.Path.{_≡_};
 ghost use lib.ListN.{length};
-ghost use Rattle.spec.specs.Replay.{replay};
+ghost use Rattle.spec.specs.Replaying.{replay};
 ghost use Rattle.replaying.specs.Replaying.{Replays};
 use accepting::Refusal;
 use accepting::Verdict;

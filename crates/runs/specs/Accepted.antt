@@ -15,7 +15,7 @@ use Rattle.spec.specs.Net.{Net}
 use Rattle.spec.specs.Lists.{In, count}
 use Rattle.spec.specs.Record.{RunRecord, Mark, isAt, recordBytes}
 use Rattle.spec.specs.Process.{Process, WellFormed}
-use Rattle.spec.specs.Check.{enterLine, emptyRecord, obeys, readRecord}
+use Rattle.spec.specs.Checking.{enterLine, emptyRecord, obeys, readRecord}
 use Rattle.spec.specs.declared.Limits.{Limits}
 use Rattle.lists.specs.Laws.{count-none, one-le}
 use Rattle.runs.specs.Judge.{obeys-process, process-obeys}

@@ -17,7 +17,7 @@ use Rattle.spec.specs.Net.{Net, places, takes, makes, inhibits}
 use Rattle.spec.specs.Step.{tokensAt, taken, EnabledAt, play}
 use Rattle.spec.specs.Record.{Condition, names, isNone}
 use Rattle.spec.specs.Process.{initialIn, consumedIn, producedIn}
-use Rattle.spec.specs.Build.{Event, noEvent, Run, stepOf, start, initialOf, inStep, playStep, isFree, consumedBy, madeBy, takeAll, makeAll}
+use Rattle.spec.specs.Building.{Event, noEvent, Run, stepOf, start, initialOf, inStep, playStep, isFree, consumedBy, madeBy, takeAll, makeAll}
 use Rattle.lists.specs.Laws
 use Rattle.runs.specs.Steps.{play-at}
 use Rattle.runs.specs.Flows.{repeated, in-repeated, count-repeated, isFlow, flows, flows-before, flows-at}

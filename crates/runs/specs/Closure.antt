@@ -13,7 +13,7 @@ use Rattle.spec.specs.Net.{Net}
 use Rattle.spec.specs.Record.{RunRecord}
 use Rattle.spec.specs.Order.{Pair, pairs, Path, single, then, StrictlyBefore, NotLater, isPair, reach, hasPath, pathBy, isStrictlyBefore, isNotLater}
 use Rattle.spec.specs.Process.{Process, WellFormed}
-use Rattle.spec.specs.Check.{related}
+use Rattle.spec.specs.Checking.{related}
 use Rattle.order.specs.Join.{join}
 use Rattle.order.specs.Closure.{col, step, close, close-bound}
 use Rattle.order.specs.Diamond.{entry}

@@ -16,7 +16,7 @@ use Rattle.spec.specs.Net.{Net, places, takes, makes}
 use Rattle.spec.specs.Step.{taken, made}
 use Rattle.spec.specs.Record.{Condition, names, isNone}
 use Rattle.spec.specs.Process.{consumedIn, producedIn}
-use Rattle.spec.specs.Build.{isFree, consumedBy, consume, consumeAll, inputsOf, outputsOf, takeAll, madeBy, makeAll}
+use Rattle.spec.specs.Building.{isFree, consumedBy, consume, consumeAll, inputsOf, outputsOf, takeAll, madeBy, makeAll}
 use Rattle.lists.specs.Laws
 use Rattle.lists.specs.Laws.{here, there}
 use Rattle.runs.specs.Flows.{Flow, flow, inPlace, isFlow, spread, flows, in-flows, flows-sum}

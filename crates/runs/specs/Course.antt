@@ -17,9 +17,9 @@ use Rattle.spec.specs.Step.{tokensAt, taken, made}
 use Rattle.spec.specs.Record.{RunRecord, Condition, noCondition, Mark, names, isNone, isAt, due, transitionOf, conditionAt}
 use Rattle.spec.specs.Order.{pairs}
 use Rattle.spec.specs.Process.{Process, WellFormed, isBelow, initialIn, consumedIn, producedIn, wrongEnd}
-use Rattle.spec.specs.Build.{isFree}
+use Rattle.spec.specs.Building.{isFree}
 use Rattle.spec.specs.Arrangement.{Arrangement, index}
-use Rattle.spec.specs.Replay.{firedBy}
+use Rattle.spec.specs.Replaying.{firedBy}
 use Rattle.spec.specs.Runs.{KeepsOrder}
 use Rattle.spec.specs.declared.MarkKind.{MarkKind}
 use Rattle.spec.specs.declared.MarkKind.the-variants.{Before, After}

@@ -16,10 +16,10 @@ use Rattle.spec.specs.Step.{tokensAt}
 use Rattle.spec.specs.Record.{RunRecord, bench, recordBytes}
 use Rattle.spec.specs.Order.{isStrictlyBefore, isNotLater}
 use Rattle.spec.specs.Process.{Process, WellFormed}
-use Rattle.spec.specs.Build.{recordFor}
-use Rattle.spec.specs.Check.{accepts, readRecord, related, tableAt, tableBytes, checkedOf, check}
-use Rattle.spec.specs.Arrange.{levels, arrangedLines, arrangementBytes, arrangedOf, arrange}
-use Rattle.spec.specs.Replay.{rowAt, replayRow, firedBy, replayedOf, replay}
+use Rattle.spec.specs.Building.{recordFor}
+use Rattle.spec.specs.Checking.{accepts, readRecord, related, tableAt, tableBytes, checkedOf, check}
+use Rattle.spec.specs.Arranging.{levels, arrangedLines, arrangementBytes, arrangedOf, arrange}
+use Rattle.spec.specs.Replaying.{rowAt, replayRow, firedBy, replayedOf, replay}
 use Rattle.spec.specs.Runs.{EnabledSequence, KeepsOrder, WithinLimits, markingAt, asSteps}
 use Rattle.spec.specs.Exactness.{IsProcess}
 use Rattle.spec.specs.Demand.{ReplaysMarkings, TableSays, OrderOfRuns, RunIsRecorded, Demand}

@@ -12,11 +12,11 @@ use Rattle.spec.specs.Answer.{gives, refuses}
 use Rattle.spec.specs.Net.{Net, readNet}
 use Rattle.spec.specs.Record.{RunRecord, Mark, bench}
 use Rattle.spec.specs.Order.{single, NotLater, StrictlyBefore}
-use Rattle.spec.specs.Build.{build}
-use Rattle.spec.specs.Check.{readRecord}
-use Rattle.spec.specs.Replay.{readArrangement}
+use Rattle.spec.specs.Building.{build}
+use Rattle.spec.specs.Checking.{readRecord}
+use Rattle.spec.specs.Replaying.{readArrangement}
 use Rattle.spec.specs.Arrangement.{index}
-use Rattle.spec.specs.Arrange.{arrangementBytes}
+use Rattle.spec.specs.Arranging.{arrangementBytes}
 use Rattle.spec.specs.Runs.{EnabledSequence, KeepsOrder, asSteps, logBytes}
 use Rattle.spec.specs.Demand.{OrderOfRuns, RunIsRecorded}
 use Rattle.spec.specs.Quoted.{asText}

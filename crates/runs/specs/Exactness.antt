@@ -11,10 +11,10 @@ use Rattle.spec.specs.Answer.{gives, _>>=_, _>>_, refuse_at_when_}
 use Rattle.spec.specs.Text.{linesOf}
 use Rattle.spec.specs.Net.{Net, readNet}
 use Rattle.spec.specs.Record.{RunRecord, bench, recordBytes}
-use Rattle.spec.specs.Build.{playLog, recordOf, recordFor, built, build}
-use Rattle.spec.specs.Check.{readRecord}
-use Rattle.spec.specs.Replay.{readArrangement}
-use Rattle.spec.specs.Arrange.{arrangementBytes}
+use Rattle.spec.specs.Building.{playLog, recordOf, recordFor, built, build}
+use Rattle.spec.specs.Checking.{readRecord}
+use Rattle.spec.specs.Replaying.{readArrangement}
+use Rattle.spec.specs.Arranging.{arrangementBytes}
 use Rattle.spec.specs.Runs.{KeepsOrder, WithinLimits}
 use Rattle.spec.specs.Exactness.{IsBuilt, IsProcess, Exactness}
 use Rattle.runs.specs.Log.{record-events}

@@ -9,7 +9,7 @@ use lib.ListN.{length, length-append, length-map, length-replicate, replicate}
 use Rattle.spec.specs.Lists.{from, upTo, flat, count, sum}
 use Rattle.spec.specs.Net.{Net}
 use Rattle.spec.specs.Record.{Condition, Mark}
-use Rattle.spec.specs.Build.{Event, Run, initialOf, start, inStep, takeAll, makeAll, consumedBy, playStep, playSteps, runOf, marksDue, recordOf, recordFor}
+use Rattle.spec.specs.Building.{Event, Run, initialOf, start, inStep, takeAll, makeAll, consumedBy, playStep, playSteps, runOf, marksDue, recordOf, recordFor}
 use Rattle.spec.specs.declared.Limits.{Limits}
 use Rattle.lists.specs.Laws.{count-append}
 use Rattle.runs.specs.MarkWalks.{dueFor, markOf, marksOn, marksFrom, marks-walked}

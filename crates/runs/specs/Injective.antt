@@ -14,8 +14,8 @@ use Rattle.spec.specs.Text.{linesOf, alike, mostDigits, letterIn, fieldsOf, lin
 use Rattle.spec.specs.Forms.{valueOf}
 use Rattle.spec.specs.NetText.{Declaration, newPlace, newTransition, newArc, declarationLine, netBytes}
 use Rattle.spec.specs.Record.{RunRecord, Condition, Mark, eventField, eventLine, conditionLine, markLineOf, markLine, recordBytes}
-use Rattle.spec.specs.Check.{eventOf}
-use Rattle.spec.specs.Arrange.{groupLine, arrangementBytes}
+use Rattle.spec.specs.Checking.{eventOf}
+use Rattle.spec.specs.Arranging.{groupLine, arrangementBytes}
 use Rattle.spec.specs.Runs.{stepLine, logBytes}
 use Rattle.spec.specs.Exactness.{LinesBelow, DeclarationBelow, DeclarationsBelow, RecordBelow, OneReading}
 use Rattle.spec.specs.declared.ArcKind.the-variants.{Input, Output, Inhibitor}

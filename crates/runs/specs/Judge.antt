@@ -14,7 +14,7 @@ use Rattle.spec.specs.Step.{tokensAt}
 use Rattle.spec.specs.Record.{RunRecord, Mark, transitionOf, conditionAt, isAt, marked, due}
 use Rattle.spec.specs.Order.{StrictlyBefore, isStrictlyBefore}
 use Rattle.spec.specs.Process.{Process, WellFormed, initialIn, consumedIn, producedIn, wrongEnd}
-use Rattle.spec.specs.Check.{wrongInitial, wrongArcsAt, wrongArcs, agree, wrongMarkAt, wrongMarks, wrongKindAt, wrongKind, beforeItself, obeys}
+use Rattle.spec.specs.Checking.{wrongInitial, wrongArcsAt, wrongArcs, agree, wrongMarkAt, wrongMarks, wrongKindAt, wrongKind, beforeItself, obeys}
 use Rattle.lists.specs.Laws
 use Rattle.runs.specs.Answers.{of-lowest, of-last}
 use Rattle.runs.specs.Pairs.{path-bounded}

@@ -14,7 +14,7 @@ use Rattle.spec.specs.Record.{RunRecord}
 use Rattle.spec.specs.Order.{StrictlyBefore, NotLater, isStrictlyBefore, isNotLater}
 use Rattle.spec.specs.Process.{Process, WellFormed}
 use Rattle.spec.specs.Arrangement.{index}
-use Rattle.spec.specs.Arrange.{Chain, alone, weakly, strictly, prolonged, longest, levels, lineCount, onLine, arrangedLines}
+use Rattle.spec.specs.Arranging.{Chain, alone, weakly, strictly, prolonged, longest, levels, lineCount, onLine, arrangedLines}
 use Rattle.spec.specs.Runs.{KeepsOrder}
 use Rattle.spec.specs.Computed.{LevelIsLongest}
 use Rattle.order.specs.Below.{maxBelow, max-same}

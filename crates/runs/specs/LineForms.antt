@@ -17,7 +17,7 @@ use Rattle.spec.specs.Text.{alike, classCode, mostDigits, pieces, isNumber, isD
 use Rattle.spec.specs.Forms.{aNumber, aNumberOrDash, absent, valueOf, isAlone, isOne, isTwo, isThree, isList, numbersOf}
 use Rattle.spec.specs.Record.{eventField}
 use Rattle.spec.specs.Process.{isBelow}
-use Rattle.spec.specs.Check.{eventOf}
+use Rattle.spec.specs.Checking.{eventOf}
 use Rattle.spec.specs.declared.Class.{Class}
 use Rattle.spec.specs.declared.Field.{Field}
 use Rattle.spec.specs.declared.Field.the-variants.{Number, Dash, Wrong, Absent}

@@ -15,7 +15,7 @@ use Rattle.spec.specs.Net.{Net}
 use Rattle.spec.specs.Step.{EnabledAt, markingAfter}
 use Rattle.spec.specs.Order.{pairs}
 use Rattle.spec.specs.Process.{Process, WellFormed}
-use Rattle.spec.specs.Build.{Event, noEvent, Run, stepOf, start, inStep, playStep, playSteps, runOf, recordOf, recordFor}
+use Rattle.spec.specs.Building.{Event, noEvent, Run, stepOf, start, inStep, playStep, playSteps, runOf, recordOf, recordFor}
 use Rattle.spec.specs.Arrangement.{Arrangement, times, index}
 use Rattle.spec.specs.Runs.{markingAt, EnabledSequence, KeepsOrder, asSteps, eventLines}
 use Rattle.order.specs.Index.{index-here, index-there}

@@ -14,7 +14,7 @@ use lib.Dec.{ltb}
 use Rattle.spec.specs.Lists.{from, upTo, keep, flat}
 use Rattle.spec.specs.Net.{Net, inhibits}
 use Rattle.spec.specs.Record.{RunRecord, Condition, Mark, noCondition, conditionAt, transitionOf, names, due}
-use Rattle.spec.specs.Build.{Event, noEvent, Run, unmarked, stepOf, isEarlier, markAt, marksOf, marksDue}
+use Rattle.spec.specs.Building.{Event, noEvent, Run, unmarked, stepOf, isEarlier, markAt, marksOf, marksDue}
 use Rattle.spec.specs.declared.MarkKind.the-variants.{Before, After}
 
 -- ---- the walks

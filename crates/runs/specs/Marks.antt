@@ -16,7 +16,7 @@ use Rattle.spec.specs.Net.{Net, takes, makes}
 use Rattle.spec.specs.Record.{RunRecord, Condition, Mark, noCondition, transitionOf, isNone, isAt, due}
 use Rattle.spec.specs.Order.{Pair, pairs}
 use Rattle.spec.specs.Process.{Process, WellFormed, isBelow, wrongEnd}
-use Rattle.spec.specs.Build.{Event, noEvent, Run, stepOf, marksDue, recordOf}
+use Rattle.spec.specs.Building.{Event, noEvent, Run, stepOf, marksDue, recordOf}
 use Rattle.spec.specs.declared.MarkKind.{MarkKind}
 use Rattle.spec.specs.declared.MarkKind.the-variants.{Before, After}
 use Rattle.lists.specs.Laws

@@ -16,10 +16,10 @@ use Rattle.spec.specs.Net.{Net, readNet}
 use Rattle.spec.specs.NetText.{Declaration, netBytes, declared, Complete}
 use Rattle.spec.specs.Record.{RunRecord, bench, recordBytes}
 use Rattle.spec.specs.Process.{isBelow}
-use Rattle.spec.specs.Build.{recordFor, build}
-use Rattle.spec.specs.Check.{Accepted, Checked, readRecord, accepts, checkedOf, checkWithin, check}
-use Rattle.spec.specs.Arrange.{Arranged, arrangementBytes, arrangedOf, arrange}
-use Rattle.spec.specs.Replay.{Replayed, readArrangement, replayedOf, replay}
+use Rattle.spec.specs.Building.{recordFor, build}
+use Rattle.spec.specs.Checking.{Accepted, Checked, readRecord, accepts, checkedOf, checkWithin, check}
+use Rattle.spec.specs.Arranging.{Arranged, arrangementBytes, arrangedOf, arrange}
+use Rattle.spec.specs.Replaying.{Replayed, readArrangement, replayedOf, replay}
 use Rattle.spec.specs.Runs.{EnabledSequence, KeepsOrder, WithinLimits, logBytes}
 use Rattle.spec.specs.Exactness.{EachAllowed, IsProcess, LinesBelow, RecordBelow, IsAccepted, IsTextOf, Operations, NothingElse}
 use Rattle.lists.specs.Laws.{in-flat, in-at}

@@ -14,8 +14,8 @@ use Rattle.spec.specs.Net.{Net, places, takes, makes, inhibits}
 use Rattle.spec.specs.Step.{tokensAt, taken, made, EnabledAt, play, markingAfter}
 use Rattle.spec.specs.Record.{RunRecord, transitionOf}
 use Rattle.spec.specs.Process.{Process, WellFormed}
-use Rattle.spec.specs.Build.{isFree}
-use Rattle.spec.specs.Replay.{countAfter, firedBy, rowAt}
+use Rattle.spec.specs.Building.{isFree}
+use Rattle.spec.specs.Replaying.{countAfter, firedBy, rowAt}
 use Rattle.spec.specs.Runs.{EnabledSequence, KeepsOrder, markingAt, asSteps}
 use Rattle.lists.specs.Laws
 use Rattle.runs.specs.Steps.{play-at, marking-suc, marking-length, marking-beyond}

@@ -20,8 +20,8 @@ use Rattle.spec.specs.Net.{Net}
 use Rattle.spec.specs.Record.{RunRecord}
 use Rattle.spec.specs.Process.{WellFormed}
 use Rattle.spec.specs.Arrangement.{times}
-use Rattle.spec.specs.Arrange.{groupLine, arrangementBytes}
-use Rattle.spec.specs.Replay.{isGroupLine, repeats, breaks, groupsLine, missing, readArrangement}
+use Rattle.spec.specs.Arranging.{groupLine, arrangementBytes}
+use Rattle.spec.specs.Replaying.{isGroupLine, repeats, breaks, groupsLine, missing, readArrangement}
 use Rattle.spec.specs.Runs.{KeepsOrder}
 use Rattle.spec.specs.declared.Field.the-variants.{Number}
 use Rattle.lists.specs.Laws.{or-false, not-is-false, true-or-false, any-none, member-is, count-append, count-cons, count-none, eqb-count, neqb-count, one-le, lowest-none, none-lowest, flat-append, flat-in, flat-map-snoc, index-snoc, flat-snoc, all-below}

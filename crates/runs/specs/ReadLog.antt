@@ -14,7 +14,7 @@ use Rattle.spec.specs.Text.{Line, linesOf, mostDigits}
 use Rattle.spec.specs.Forms.{numbersOf}
 use Rattle.spec.specs.Net.{Net}
 use Rattle.spec.specs.Step.{EnabledAt}
-use Rattle.spec.specs.Build.{Run, start, playStep, playSteps, runOf, marksDue, recordOf, recordFor, isStepLine, logLine, playLog}
+use Rattle.spec.specs.Building.{Run, start, playStep, playSteps, runOf, marksDue, recordOf, recordFor, isStepLine, logLine, playLog}
 use Rattle.spec.specs.Runs.{markingAt, EnabledSequence, stepLine, logBytes}
 use Rattle.spec.specs.declared.Field.the-variants.{Number}
 use Rattle.spec.specs.declared.Limits.{Limits}

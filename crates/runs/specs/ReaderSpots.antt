@@ -18,9 +18,9 @@ use Rattle.spec.specs.Text.{Line, linesOf, byLines, rowOf, mostDigits}
 use Rattle.spec.specs.Forms.{isAlone, isOne, isTwo, isThree, valueOf, numbersOf}
 use Rattle.spec.specs.Net.{Net, Arc, places, arcKindCode, isArc, joined, withPlace, withTransition, withArc, addPlace, addTransition, addArc, addRow, addLine, emptyNet, lacking, whole, netOf}
 use Rattle.spec.specs.Record.{RunRecord, Condition, Mark, isAt, marked, bench}
-use Rattle.spec.specs.Build.{Run, start, inStep, playStep, isStepLine, logLine, playLog, built}
-use Rattle.spec.specs.Check.{withEvent, withCondition, withMark, enterEvent, enterCondition, enterMark, conditionOf, markIn, enterRow, enterLine, emptyRecord, obeys, readRecord}
-use Rattle.spec.specs.Replay.{isGroupLine, repeats, late, breaks, groupsLine, missing, readArrangement}
+use Rattle.spec.specs.Building.{Run, start, inStep, playStep, isStepLine, logLine, playLog, built}
+use Rattle.spec.specs.Checking.{withEvent, withCondition, withMark, enterEvent, enterCondition, enterMark, conditionOf, markIn, enterRow, enterLine, emptyRecord, obeys, readRecord}
+use Rattle.spec.specs.Replaying.{isGroupLine, repeats, late, breaks, groupsLine, missing, readArrangement}
 use Rattle.spec.specs.Exactness.{IsProcess}
 use Rattle.spec.specs.Refusals.{netRefusals, logRefusals, recordRefusals, arrangementRefusals, IsAmong}
 use Rattle.spec.specs.declared.ArcKind.{ArcKind}

@@ -16,7 +16,7 @@ use Rattle.spec.specs.Forms.{isOne, isTwo, isThree, valueOf}
 use Rattle.spec.specs.Net.{Net, places}
 use Rattle.spec.specs.Record.{RunRecord, Condition, Mark, isAt, marked, eventLine, conditionLine, markLineOf, markLine, recordBytes}
 use Rattle.spec.specs.Process.{WellFormed, isBelow}
-use Rattle.spec.specs.Check.{isEmpty, withEvent, withCondition, withMark, enterEvent, enterCondition, enterMark, conditionOf, markIn, enterRow, enterLine, emptyRecord}
+use Rattle.spec.specs.Checking.{isEmpty, withEvent, withCondition, withMark, enterEvent, enterCondition, enterMark, conditionOf, markIn, enterRow, enterLine, emptyRecord}
 use Rattle.spec.specs.declared.Class.the-variants.{LetterE, LetterC, LetterB, LetterA}
 use Rattle.spec.specs.declared.Limits.{Limits}
 use Rattle.spec.specs.declared.MarkKind.the-variants.{Before, After}

@@ -16,7 +16,7 @@ use Rattle.spec.specs.Net.{Net, places}
 use Rattle.spec.specs.Record.{RunRecord, Condition, Mark, bench, eventField, eventLine, conditionLine, markLineOf, markLine, recordBytes}
 use Rattle.spec.specs.Process.{WellFormed, isBelow}
 use Rattle.spec.specs.Arrangement.{times, Arrangement}
-use Rattle.spec.specs.Arrange.{groupLine, arrangementBytes}
+use Rattle.spec.specs.Arranging.{groupLine, arrangementBytes}
 use Rattle.spec.specs.declared.Field.{Field}
 use Rattle.spec.specs.declared.Field.the-variants.{Number}
 use Rattle.spec.specs.declared.MarkKind.{MarkKind}

@@ -13,12 +13,12 @@ use Rattle.spec.specs.Answer.{Answer, gives, refuses, _>>=_, found}
 use Rattle.spec.specs.Text.{linesOf, mostDigits, fieldOf, digits, lineWith}
 use Rattle.spec.specs.Net.{places, netOf, readNet}
 use Rattle.spec.specs.Record.{RunRecord, bench}
-use Rattle.spec.specs.Build.{built, build}
-use Rattle.spec.specs.Check.{readRecord, accepts, checkWithin, check}
-use Rattle.spec.specs.Arrange.{arrange}
-use Rattle.spec.specs.Replay.{readArrangement, replay}
-use Rattle.spec.specs.Line.{refusedLine}
-use Rattle.spec.specs.Program.{inputOf, parted, printed, program}
+use Rattle.spec.specs.Building.{built, build}
+use Rattle.spec.specs.Checking.{readRecord, accepts, checkWithin, check}
+use Rattle.spec.specs.Arranging.{arrange}
+use Rattle.spec.specs.Replaying.{readArrangement, replay}
+use Rattle.spec.specs.LineParts.{refusedLine}
+use Rattle.spec.specs.Printing.{inputOf, parted, printed, program}
 use Rattle.spec.specs.Refusals.{NumberAndSpots, refusal, netRefusals, logRefusals, recordRefusals, arrangementRefusals, buildRefusals, checkRefusals, replayRefusals, arrangeRefusals, lineRefusals, inputRefusals, programRefusals, IsAmong, RefusesOnly, Refusals}
 use Rattle.spec.specs.declared.Field.the-variants.{Number}
 use Rattle.lists.specs.Laws.{there, and-true, every-in}

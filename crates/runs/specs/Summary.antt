@@ -11,10 +11,10 @@ use Rattle.spec.specs.Answer.{gives}
 use Rattle.spec.specs.Text.{Line, mostDigits, fieldOf, digits, lineWith}
 use Rattle.spec.specs.Net.{Net, netOf}
 use Rattle.spec.specs.Record.{RunRecord, bench, recordBytes}
-use Rattle.spec.specs.Build.{playLog, recordOf, recordFor, built}
-use Rattle.spec.specs.Check.{independent, independentPairs}
-use Rattle.spec.specs.Arrange.{levels, lineCount, arrangedLines}
-use Rattle.spec.specs.Program.{inputOf, summary, printed, program}
+use Rattle.spec.specs.Building.{playLog, recordOf, recordFor, built}
+use Rattle.spec.specs.Checking.{independent, independentPairs}
+use Rattle.spec.specs.Arranging.{levels, lineCount, arrangedLines}
+use Rattle.spec.specs.Printing.{inputOf, summary, printed, program}
 use Rattle.spec.specs.Exactness.{IsProcess}
 use Rattle.spec.specs.declared.Field.the-variants.{Number}
 use Rattle.lists.specs.Laws.{count-length, length-upTo, upTo-snoc}

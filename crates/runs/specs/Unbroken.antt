@@ -14,7 +14,7 @@ use Rattle.spec.specs.Record.{RunRecord}
 use Rattle.spec.specs.Order.{isStrictlyBefore, isNotLater}
 use Rattle.spec.specs.Process.{WellFormed}
 use Rattle.spec.specs.Arrangement.{Arrangement, times, index}
-use Rattle.spec.specs.Replay.{late, breaks}
+use Rattle.spec.specs.Replaying.{late, breaks}
 use Rattle.spec.specs.Runs.{KeepsOrder}
 use Rattle.order.specs.Index.{placed, place-of, index-has}
 use Rattle.lists.specs.Laws.{or-false, and-not, false-or, any-none, none-any, member-is, counted-in, flat-take-suc, upTo-in, in-upTo}

@@ -11,11 +11,11 @@ use Rattle.spec.specs.Answer.{Answer, _>>=_}
 use Rattle.spec.specs.Text.{lineWith}
 use Rattle.spec.specs.Net.{Net, places, readNet}
 use Rattle.spec.specs.Record.{RunRecord, Condition, Mark, bench, noCondition}
-use Rattle.spec.specs.Build.{Run, Event, logLine, build}
-use Rattle.spec.specs.Check.{enterLine, checkWithin, check}
-use Rattle.spec.specs.Arrange.{arrange}
-use Rattle.spec.specs.Replay.{replay}
-use Rattle.spec.specs.Program.{NetAndLog, inputOf, program}
+use Rattle.spec.specs.Building.{Run, Event, logLine, build}
+use Rattle.spec.specs.Checking.{enterLine, checkWithin, check}
+use Rattle.spec.specs.Arranging.{arrange}
+use Rattle.spec.specs.Replaying.{replay}
+use Rattle.spec.specs.Printing.{NetAndLog, inputOf, program}
 use Rattle.spec.specs.Quoted.{asText, ascii, same, refused, given, passes, atMost}
 use Rattle.spec.specs.Cases.{drive, recordB, openAll}
 use Rattle.spec.specs.RefusalOrder.{buildWithin}

@@ -3,10 +3,10 @@ use Prim.Native.Nat.{ℕ}
 use mathlib.Core.List.{List, [], _∷_, _++_}
 use lib.ListN.{length, drop}
 use Rattle.spec.specs.Answer.{Answer, gives, refuses}
-use Rattle.spec.specs.Check.{Checked}
-use Rattle.spec.specs.Arrange.{Arranged}
-use Rattle.spec.specs.Replay.{Replayed}
-use Rattle.spec.specs.Program.{program}
+use Rattle.spec.specs.Checking.{Checked}
+use Rattle.spec.specs.Arranging.{Arranged}
+use Rattle.spec.specs.Replaying.{Replayed}
+use Rattle.spec.specs.Printing.{program}
 
 -- what is written, and behind it the old contents: "past what an operation writes, a buffer keeps its old contents"
 unfoldable pub over : List ℕ → List ℕ → List ℕ

@@ -4,11 +4,11 @@ use Prim.Native.Nat.{ℕ, _+_, _*_}
 use mathlib.Core.Bool.{Bool, true, _&&_}
 use mathlib.Core.List.{List, [], _∷_, _++_}
 use lib.Dec.{eqb}
-use Rattle.spec.specs.Build.{build}
-use Rattle.spec.specs.Check.{Checked, check}
-use Rattle.spec.specs.Arrange.{Arranged, arrange}
-use Rattle.spec.specs.Replay.{Replayed, replay}
-use Rattle.spec.specs.Program.{program}
+use Rattle.spec.specs.Building.{build}
+use Rattle.spec.specs.Checking.{Checked, check}
+use Rattle.spec.specs.Arranging.{Arranged, arrange}
+use Rattle.spec.specs.Replaying.{Replayed, replay}
+use Rattle.spec.specs.Printing.{program}
 use Rattle.spec.specs.Opening.{openDefinitions}
 use Rattle.spec.specs.Quoted.{asText, same, refused, given, zerosBut}
 

@@ -10,7 +10,7 @@ use Rattle.spec.specs.Step.{EnabledAt, short, inhibited}
 use Rattle.spec.specs.Record.{RunRecord}
 use Rattle.spec.specs.Order.{StrictlyBefore, NotLater, isStrictlyBefore, isNotLater}
 use Rattle.spec.specs.Process.{Process, WellFormed}
-use Rattle.spec.specs.Arrange.{Chain, levels}
+use Rattle.spec.specs.Arranging.{Chain, levels}
 
 -- the level of an event is the number of strict pairs in the longest chain of the closed order that ends at it
 pub record LevelIsLongest (R : RunRecord) (e : ℕ) : Type 0 where

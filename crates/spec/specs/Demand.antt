@@ -9,10 +9,10 @@ use Rattle.spec.specs.Net.{Net, readNet}
 use Rattle.spec.specs.Step.{tokensAt}
 use Rattle.spec.specs.Record.{RunRecord, bench}
 use Rattle.spec.specs.Order.{StrictlyBefore, NotLater}
-use Rattle.spec.specs.Build.{build}
-use Rattle.spec.specs.Check.{Checked, readRecord, check}
-use Rattle.spec.specs.Arrange.{Arranged, arrange, arrangementBytes}
-use Rattle.spec.specs.Replay.{Replayed, replay}
+use Rattle.spec.specs.Building.{build}
+use Rattle.spec.specs.Checking.{Checked, readRecord, check}
+use Rattle.spec.specs.Arranging.{Arranged, arrange, arrangementBytes}
+use Rattle.spec.specs.Replaying.{Replayed, replay}
 use Rattle.spec.specs.Runs.{EnabledSequence, KeepsOrder, WithinLimits, markingAt, asSteps, eventLines, logBytes}
 use Rattle.spec.specs.Runs.{TwoEvents, StandsEarlier, InEvery, InNone}
 

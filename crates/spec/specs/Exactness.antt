@@ -12,10 +12,10 @@ use Rattle.spec.specs.Net.{Net, readNet}
 use Rattle.spec.specs.NetText.{Declaration, newPlace, newTransition, newArc, netBytes, declared, Allowed, Complete}
 use Rattle.spec.specs.Record.{RunRecord, Condition, Mark, bench, recordBytes}
 use Rattle.spec.specs.Process.{Process, WellFormed, isBelow}
-use Rattle.spec.specs.Build.{recordFor, build}
-use Rattle.spec.specs.Check.{Checked, readRecord, checkedOf, check}
-use Rattle.spec.specs.Arrange.{Arranged, arrangementBytes, arrangedOf, arrange}
-use Rattle.spec.specs.Replay.{Replayed, readArrangement, replayedOf, replay}
+use Rattle.spec.specs.Building.{recordFor, build}
+use Rattle.spec.specs.Checking.{Checked, readRecord, checkedOf, check}
+use Rattle.spec.specs.Arranging.{Arranged, arrangementBytes, arrangedOf, arrange}
+use Rattle.spec.specs.Replaying.{Replayed, readArrangement, replayedOf, replay}
 use Rattle.spec.specs.Runs.{EnabledSequence, KeepsOrder, WithinLimits, logBytes}
 
 -- ---- of any text: what is accepted is the text of such a thing

@@ -9,13 +9,13 @@ use Rattle.spec.specs.Step.{taken, made, short, inhibited, play, marking
 use Rattle.spec.specs.Record.{bench, noCondition, names, isNone, isAt, marked, due, eventField, eventLine, conditionLine, markLineOf, markLine, recordBytes}
 use Rattle.spec.specs.Order.{pairOf, conditionPair, markPairOf, markPair, pairs, isPair, reach, hasPath, pathBy, isStrictlyBefore, isNotLater}
 use Rattle.spec.specs.Process.{initialIn, consumedIn, producedIn, wrongEnd, isBelow}
-use Rattle.spec.specs.Build.{noEvent, initialOf, start, outputsOf, madeBy, makeAll, isFree, consumedBy, consume, consumeAll, inputsOf, takeAll, inStep, playStep, playSteps, runOf, isEarlier, markAt, marksOf, marksDue, recordOf, recordFor, isStepLine, logLine, playLog, built, build}
-use Rattle.spec.specs.Check.{isEmpty, withEvent, withCondition, withMark, enterEvent, enterCondition, enterMark, conditionOf, markIn, enterRow, enterLine, emptyRecord, wrongInitial, wrongArcsAt, wrongArcs, agree, wrongMarkAt, wrongMarks, wrongKindAt, wrongKind, beforeItself, obeys, readRecord, accepts, related, tableAt, tableBytes, independent, independentPairs, checkedOf, checkWithin, check}
+use Rattle.spec.specs.Building.{noEvent, initialOf, start, outputsOf, madeBy, makeAll, isFree, consumedBy, consume, consumeAll, inputsOf, takeAll, inStep, playStep, playSteps, runOf, isEarlier, markAt, marksOf, marksDue, recordOf, recordFor, isStepLine, logLine, playLog, built, build}
+use Rattle.spec.specs.Checking.{isEmpty, withEvent, withCondition, withMark, enterEvent, enterCondition, enterMark, conditionOf, markIn, enterRow, enterLine, emptyRecord, wrongInitial, wrongArcsAt, wrongArcs, agree, wrongMarkAt, wrongMarks, wrongKindAt, wrongKind, beforeItself, obeys, readRecord, accepts, related, tableAt, tableBytes, independent, independentPairs, checkedOf, checkWithin, check}
 use Rattle.spec.specs.Arrangement.{times, index}
-use Rattle.spec.specs.Arrange.{prolonged, longest, levels, lineCount, onLine, arrangedLines, groupLine, arrangementBytes, arrangedOf, arrange}
-use Rattle.spec.specs.Replay.{isGroupLine, repeats, late, breaks, groupsLine, missing, readArrangement, countAfter, firedBy, rowAt, replayRow, replayedOf, replay}
-use Rattle.spec.specs.Line.{partsFrom, lineAt, chosenText, refusedLine, partOf}
-use Rattle.spec.specs.Program.{isParting, withNetLine, parted, inputOf, summary, printed, program}
+use Rattle.spec.specs.Arranging.{prolonged, longest, levels, lineCount, onLine, arrangedLines, groupLine, arrangementBytes, arrangedOf, arrange}
+use Rattle.spec.specs.Replaying.{isGroupLine, repeats, late, breaks, groupsLine, missing, readArrangement, countAfter, firedBy, rowAt, replayRow, replayedOf, replay}
+use Rattle.spec.specs.LineParts.{partsFrom, lineAt, chosenText, refusedLine, partOf}
+use Rattle.spec.specs.Printing.{isParting, withNetLine, parted, inputOf, summary, printed, program}
 use Rattle.spec.specs.Buffer.{over, leaves, buildLeaves, checkLeaves, replayLeaves, arrangeLeaves, programLeaves}
 use Rattle.spec.specs.Runs.{markingAt, asSteps, eventLines, stepLine, logBytes}
 use Rattle.spec.specs.Quoted.{ascii, asText, unended, same, refused, given, passes, atMost, zerosBut}
@@ -60,33 +60,33 @@ unfoldable openProcess : Unit {0}
 unfolding initialIn consumedIn producedIn wrongEnd isBelow
 openProcess = tt
 
-unfoldable openBuild : Unit {0}
+unfoldable openBuilding : Unit {0}
 unfolding noEvent initialOf start outputsOf madeBy makeAll isFree consumedBy consume consumeAll inputsOf takeAll inStep playStep playSteps runOf isEarlier markAt marksOf marksDue recordOf recordFor isStepLine logLine playLog built build
-openBuild = tt
+openBuilding = tt
 
-unfoldable openCheck : Unit {0}
+unfoldable openChecking : Unit {0}
 unfolding isEmpty withEvent withCondition withMark enterEvent enterCondition enterMark conditionOf markIn enterRow enterLine emptyRecord wrongInitial wrongArcsAt wrongArcs agree wrongMarkAt wrongMarks wrongKindAt wrongKind beforeItself obeys readRecord accepts related tableAt tableBytes independent independentPairs checkedOf checkWithin check
-openCheck = tt
+openChecking = tt
 
 unfoldable openArrangement : Unit {0}
 unfolding times index
 openArrangement = tt
 
-unfoldable openArrange : Unit {0}
+unfoldable openArranging : Unit {0}
 unfolding prolonged longest levels lineCount onLine arrangedLines groupLine arrangementBytes arrangedOf arrange
-openArrange = tt
+openArranging = tt
 
-unfoldable openReplay : Unit {0}
+unfoldable openReplaying : Unit {0}
 unfolding isGroupLine repeats late breaks groupsLine missing readArrangement countAfter firedBy rowAt replayRow replayedOf replay
-openReplay = tt
+openReplaying = tt
 
-unfoldable openLine : Unit {0}
+unfoldable openLineParts : Unit {0}
 unfolding partsFrom lineAt chosenText refusedLine partOf
-openLine = tt
+openLineParts = tt
 
-unfoldable openProgram : Unit {0}
+unfoldable openPrinting : Unit {0}
 unfolding isParting withNetLine parted inputOf summary printed program
-openProgram = tt
+openPrinting = tt
 
 unfoldable openBuffer : Unit {0}
 unfolding over leaves buildLeaves checkLeaves replayLeaves arrangeLeaves programLeaves
@@ -101,5 +101,5 @@ unfolding ascii asText unended same refused given passes atMost zerosBut
 openQuoted = tt
 
 unfoldable pub openDefinitions : Unit {0}
-unfolding openLists openAnswer openText openForms openNet openNetText openStep openRecord openOrder openProcess openBuild openCheck openArrangement openArrange openReplay openLine openProgram openBuffer openRuns openQuoted
+unfolding openLists openAnswer openText openForms openNet openNetText openStep openRecord openOrder openProcess openBuilding openChecking openArrangement openArranging openReplaying openLineParts openPrinting openBuffer openRuns openQuoted
 openDefinitions = tt

@@ -10,12 +10,12 @@ use Rattle.spec.specs.Answer.{Answer, _>>=_}
 use Rattle.spec.specs.Text.{linesOf, lineWith}
 use Rattle.spec.specs.Net.{readNet}
 use Rattle.spec.specs.Record.{RunRecord}
-use Rattle.spec.specs.Build.{built, build}
-use Rattle.spec.specs.Check.{checkWithin, check}
-use Rattle.spec.specs.Arrange.{arrange}
-use Rattle.spec.specs.Replay.{replay}
-use Rattle.spec.specs.Line.{refusedLine}
-use Rattle.spec.specs.Program.{program}
+use Rattle.spec.specs.Building.{built, build}
+use Rattle.spec.specs.Checking.{checkWithin, check}
+use Rattle.spec.specs.Arranging.{arrange}
+use Rattle.spec.specs.Replaying.{replay}
+use Rattle.spec.specs.LineParts.{refusedLine}
+use Rattle.spec.specs.Printing.{program}
 use Rattle.spec.specs.Quoted.{asText, unended, same, refused, atMost}
 use Rattle.spec.specs.Cases.{drive, recordA, recordB, netK, recordK, openAll}
 use Rattle.spec.specs.Traps.{crossed, inItsWay}

@@ -7,12 +7,12 @@ use mathlib.Core.List.{List, [], _∷_, _++_}
 use Rattle.spec.specs.Lists.{In}
 use Rattle.spec.specs.Answer.{Answer, refuses}
 use Rattle.spec.specs.Net.{readNet}
-use Rattle.spec.specs.Build.{build}
-use Rattle.spec.specs.Check.{check}
-use Rattle.spec.specs.Arrange.{arrange}
-use Rattle.spec.specs.Replay.{replay}
-use Rattle.spec.specs.Line.{refusedLine}
-use Rattle.spec.specs.Program.{inputOf}
+use Rattle.spec.specs.Building.{build}
+use Rattle.spec.specs.Checking.{check}
+use Rattle.spec.specs.Arranging.{arrange}
+use Rattle.spec.specs.Replaying.{replay}
+use Rattle.spec.specs.LineParts.{refusedLine}
+use Rattle.spec.specs.Printing.{inputOf}
 
 pub record NumberAndSpots : Type 0 where
   pub number : ℕ

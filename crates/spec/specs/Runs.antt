@@ -11,7 +11,7 @@ use Rattle.spec.specs.Net.{Net}
 use Rattle.spec.specs.Step.{EnabledAt, markingAfter}
 use Rattle.spec.specs.Record.{RunRecord, transitionOf}
 use Rattle.spec.specs.Order.{StrictlyBefore, NotLater}
-use Rattle.spec.specs.Build.{recordFor}
+use Rattle.spec.specs.Building.{recordFor}
 use Rattle.spec.specs.Arrangement.{Arrangement, index}
 use Rattle.spec.specs.declared.Field.the-variants.{Number}
 

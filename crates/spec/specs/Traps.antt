@@ -9,12 +9,12 @@ use lib.Dec.{eqb}
 use Rattle.spec.specs.Lists.{upTo, count}
 use Rattle.spec.specs.Text.{classOf, classCode, digitOf, isA, lineWith}
 use Rattle.spec.specs.Net.{Net, places, readNet}
-use Rattle.spec.specs.Build.{build}
-use Rattle.spec.specs.Check.{Checked, check}
-use Rattle.spec.specs.Arrange.{Arranged, arrange}
-use Rattle.spec.specs.Replay.{Replayed, replay}
-use Rattle.spec.specs.Line.{Part, refusedLine, partOf}
-use Rattle.spec.specs.Program.{program}
+use Rattle.spec.specs.Building.{build}
+use Rattle.spec.specs.Checking.{Checked, check}
+use Rattle.spec.specs.Arranging.{Arranged, arrange}
+use Rattle.spec.specs.Replaying.{Replayed, replay}
+use Rattle.spec.specs.LineParts.{Part, refusedLine, partOf}
+use Rattle.spec.specs.Printing.{program}
 use Rattle.spec.specs.Buffer.{buildLeaves, checkLeaves, replayLeaves, arrangeLeaves}
 use Rattle.spec.specs.Values.{netReturns, buildReturns, checkReturns, replayReturns, arrangeReturns, lineReturns, programReturns}
 use Rattle.spec.specs.Quoted.{asText, unended, ascii, same, refused, given, passes, zerosBut}

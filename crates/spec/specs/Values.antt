@@ -4,12 +4,12 @@ use mathlib.Core.List.{List}
 use lib.ListN.{length}
 use Rattle.spec.specs.Answer.{Answer, gives, refuses, returned}
 use Rattle.spec.specs.Net.{Net, places, readNet}
-use Rattle.spec.specs.Build.{build}
-use Rattle.spec.specs.Check.{Checked, check}
-use Rattle.spec.specs.Replay.{Replayed, replay}
-use Rattle.spec.specs.Arrange.{Arranged, arrange}
-use Rattle.spec.specs.Line.{Part, refusedLine}
-use Rattle.spec.specs.Program.{program}
+use Rattle.spec.specs.Building.{build}
+use Rattle.spec.specs.Checking.{Checked, check}
+use Rattle.spec.specs.Replaying.{Replayed, replay}
+use Rattle.spec.specs.Arranging.{Arranged, arrange}
+use Rattle.spec.specs.LineParts.{Part, refusedLine}
+use Rattle.spec.specs.Printing.{program}
 use Rattle.spec.specs.declared.Numbers.{Numbers}
 
 -- "A refusal returns number and spot": its values are 0, and number and spot are 0 where a call is accepted

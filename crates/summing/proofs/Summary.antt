@@ -8,9 +8,9 @@ use Rattle.spec.specs.Answer.{gives}
 use Rattle.spec.specs.Net.{readNet}
 use Rattle.spec.specs.Text.{lineWith}
 use Rattle.spec.specs.Record.{bench}
-use Rattle.spec.specs.Check.{accepts, readRecord, Accepted as AcceptedD}
-use Rattle.spec.specs.Arrange.{levels, lineCount}
-use Rattle.spec.specs.Program.{summary}
+use Rattle.spec.specs.Checking.{accepts, readRecord, Accepted as AcceptedD}
+use Rattle.spec.specs.Arranging.{levels, lineCount}
+use Rattle.spec.specs.Printing.{summary}
 use Rattle.spec.specs.declared.Field.the-variants.{Number}
 use Rattle.order.specs.Order.{Order}
 use Rattle.reach.specs.Rows.{cellOf}

@@ -1,7 +1,7 @@
 -- What the summary of a record promises.
 use Prim.Native.Nat.{ℕ}
 use mathlib.Core.List.{List}
-use Rattle.spec.specs.Program.{summary}
+use Rattle.spec.specs.Printing.{summary}
 use Rattle.writing.specs.Written.{Wrote}
 use Rattle.record.specs.declared.Counts.{Counts}
 use Rattle.held.specs.Noted.{Noted}

@@ -2,7 +2,7 @@
 ghost use mathlib.Core.Path.{_≡_};
 ghost use Prim.Native.Nat.{_+_, _≤_};
 ghost use lib.ListN.{length};
-ghost use Rattle.spec.specs.Arrange.{lineCount};
+ghost use Rattle.spec.specs.Arranging.{lineCount};
 ghost use Rattle.order.specs.Order.{Order};
 ghost use Rattle.reach.specs.Rows.{cellOf};
 ghost use Rattle.row_facts.specs.Counts.{Ready};

@@ -7,7 +7,7 @@ use native.Mathlib.Omega.{arith}
 use lib.ListN.{length, take}
 use Rattle.spec.specs.Lists.{upTo, count, sumOf, asCount}
 use Rattle.spec.specs.Net.{Net, places, makes, inhibits}
-use Rattle.spec.specs.Build.{Run, inStep, takeAll, madeBy, makeAll, playStep, consumedBy, marksDue}
+use Rattle.spec.specs.Building.{Run, inStep, takeAll, madeBy, makeAll, playStep, consumedBy, marksDue}
 use Rattle.lists.specs.Laws
 use Rattle.lists.specs.Grouped.{sumOf-scaled}
 use Rattle.steps.specs.Holds.{HoldsStep, Arcs}

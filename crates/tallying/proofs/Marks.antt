@@ -12,7 +12,7 @@ use Rattle.spec.specs.Lists.{In, upTo, count, sumOf, asCount}
 use Rattle.spec.specs.Net.{Net, places, makes, inhibits}
 use Rattle.spec.specs.Record.{Condition, names}
 use Rattle.spec.specs.Process.{producedIn}
-use Rattle.spec.specs.Build.{Event, noEvent, Run, marksDue}
+use Rattle.spec.specs.Building.{Event, noEvent, Run, marksDue}
 use Rattle.lists.specs.Laws
 use Rattle.lists.specs.Grouped.{sumOf-scaled, count-by}
 use Rattle.runs.specs.Built.{Good}

@@ -8,7 +8,7 @@ use lib.ListN.{length, getD}
 use Rattle.spec.specs.Lists.{upTo, count, sumOf, asCount}
 use Rattle.spec.specs.Net.{Net, places, makes, inhibits}
 use Rattle.spec.specs.Record.{Condition}
-use Rattle.spec.specs.Build.{Event, Run}
+use Rattle.spec.specs.Building.{Event, Run}
 use Rattle.columns.specs.Columns.{column}
 use Rattle.steps.specs.Holds.{cellAt, moved, Playable}
 use Rattle.tallying.specs.declared.Settling.{Settling}

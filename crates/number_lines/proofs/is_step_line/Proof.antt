@@ -1,4 +1,4 @@
-use Rattle.spec.specs.Build.{isStepLine}
+use Rattle.spec.specs.Building.{isStepLine}
 use Rattle.number_lines.proofs.is_step_line.Statement.{statement}
 use Rattle.number_lines.proofs.is_step_line.Tie as tie
 

@@ -3,7 +3,7 @@ use Prim.Native.Nat.{_-_, _≤_}
 use mathlib.Core.Path.{_≡_, refl, sym}
 use native.Mathlib.Omega.{arith}
 use lib.ListN.{take}
-use Rattle.spec.specs.Build.{initialOf}
+use Rattle.spec.specs.Building.{initialOf}
 use Rattle.conditions.specs.Conditions.{MadeAt}
 use Rattle.conditions.proofs.Lent.{makes-nothing, makes-then, makes-as}
 use Rattle.playing.proofs.Starting.{initial-none, initial-next, initial-fits}

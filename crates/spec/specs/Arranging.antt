@@ -10,7 +10,7 @@ use Rattle.spec.specs.Answer.{Answer, gives, refuses, _>>=_, _>>_, refus
 use Rattle.spec.specs.Text.{lineWith}
 use Rattle.spec.specs.Record.{RunRecord, bench}
 use Rattle.spec.specs.Order.{StrictlyBefore, NotLater, isStrictlyBefore, isNotLater}
-use Rattle.spec.specs.Check.{Accepted, accepts}
+use Rattle.spec.specs.Checking.{Accepted, accepts}
 use Rattle.spec.specs.declared.Field.the-variants.{Number}
 
 -- ---- "Arrange puts each event on the line whose index from 0 is the length, in strict pairs, of the longest chain of the

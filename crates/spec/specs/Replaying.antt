@@ -12,7 +12,7 @@ use Rattle.spec.specs.Net.{Net, places}
 use Rattle.spec.specs.Step.{tokensAt, taken, made}
 use Rattle.spec.specs.Record.{RunRecord, bench, transitionOf}
 use Rattle.spec.specs.Order.{isStrictlyBefore, isNotLater}
-use Rattle.spec.specs.Check.{Accepted, accepts}
+use Rattle.spec.specs.Checking.{Accepted, accepts}
 use Rattle.spec.specs.declared.Class.the-variants.{LetterG}
 
 -- ---- "per line 41 malformed, 42 unknown event, 43 event repeated, 44 order broken (spot: line); then 45 event missing

@@ -10,9 +10,9 @@ use Rattle.spec.specs.Answer.{Answer, gives, refuses, _>>=_, _>>_, refus
 use Rattle.spec.specs.Text.{Line, linesOf, lineWith}
 use Rattle.spec.specs.Net.{netOf}
 use Rattle.spec.specs.Record.{RunRecord, bench, recordBytes}
-use Rattle.spec.specs.Build.{built}
-use Rattle.spec.specs.Check.{independentPairs}
-use Rattle.spec.specs.Arrange.{levels, lineCount}
+use Rattle.spec.specs.Building.{built}
+use Rattle.spec.specs.Checking.{independentPairs}
+use Rattle.spec.specs.Arranging.{levels, lineCount}
 use Rattle.spec.specs.declared.Field.the-variants.{Number}
 
 -- "The program reads standard input: net, a line `=` (the first counts), log."
