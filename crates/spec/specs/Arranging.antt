@@ -13,8 +13,8 @@ use Rattle.spec.specs.Order.{StrictlyBefore, NotLater, isStrictlyBefore,
 use Rattle.spec.specs.Checking.{Accepted, accepts}
 use Rattle.spec.specs.declared.Field.the-variants.{Number}
 
--- ---- "Arrange puts each event on the line whose index from 0 is the length, in strict pairs, of the longest chain of the
--- closed order ending at it"
+-- ---- "Arrange puts each event on the line whose index from 0 is the length, in strict pairs, of the longest chain
+-- of the closed order ending at it"
 
 -- a chain of the closed order that ends at event e; k counts its strict pairs
 pub data Chain (r : RunRecord) : ℕ → ℕ → Type 0 where

@@ -1,4 +1,5 @@
--- The limits and sizes of document 01 at their boundaries, computed: what is just within passes, and one more is refused.
+-- The limits and sizes of document 01 at their boundaries, computed: what is just within passes, and one more is
+-- refused.
 use mathlib.Core.Path.{_≡_, refl}
 use Prim.Native.Nat.{ℕ}
 use mathlib.Core.Bool.{Bool, true, _&&_}
@@ -54,8 +55,8 @@ ofEvents =
     && refused 32 129 (replay drive (repeated 129 (asText "E,0")) [] 4128)
     && refused 32 129 (arrange drive (repeated 129 (asText "E,0")) 768)
 
--- a line of a record behind so many events, conditions and marks; these stand all at condition 0 and event 0, as only their
--- number counts
+-- a line of a record behind so many events, conditions and marks; these stand all at condition 0 and event 0, as only
+-- their number counts
 behind : ℕ → ℕ → ℕ → List ℕ → Answer RunRecord
 behind e c m bytes =
     readNet drive >>= λ n. enterLine bench n 9 (record { bytes = bytes; ended = true })
@@ -75,7 +76,8 @@ idle = asText "P,0 P,1 P,0 T T T I,1,0 O,0,1 I,1,1 O,1,1 I,1,2 O,2,1 H,2,2 H,0,0
 consumedAt : ℕ → Condition
 consumedAt p = record { place = p; producer = none; consumer = some 0 }
 
--- a run where 64 × 64 marks are due: its events are of transition 0, and of its conditions 64 stand at place 0, one at place 2
+-- a run where 64 × 64 marks are due: its events are of transition 0, and of its conditions 64 stand at place 0, one
+-- at place 2
 fullRun : Run
 fullRun =
     record {
@@ -104,7 +106,8 @@ ofAny =
     && refused 23 3 (buildWithin (atMost 2 5 1) drive (asText "S,0 S,1 S,2"))
     && refused 26 3 (buildWithin (atMost 3 4 1) drive (asText "S,0 S,1 S,2"))
     && refused 27 3 (buildWithin (atMost 3 5 0) drive (asText "S,0 S,1 S,2"))
-    -- "27 counts the marks due when that line is played": the mark of the first line's event is due when the second is played
+    -- "27 counts the marks due when that line is played": the mark of the first line's event is due when the second
+    -- is played
     && passes (buildWithin (atMost 2 4 1) drive (asText "S,2 S,0"))
     && refused 27 2 (buildWithin (atMost 2 4 0) drive (asText "S,2 S,0"))
     && passes (checkWithin (atMost 2 4 1) drive recordB 16384)

@@ -100,8 +100,8 @@ playSteps n k (ts ∷ tss) r = playSteps n (suc k) tss (playStep n k ts r)
 unfoldable pub runOf : Net → List (List ℕ) → Run
 runOf n steps = playSteps n 1 steps (start n)
 
--- ---- "one mark, B or A, for each condition and event where the condition's place inhibits the event's transition and the
--- event isn't its producer" (`due` of `Record`). "Marks stand by event, then condition."
+-- ---- "one mark, B or A, for each condition and event where the condition's place inhibits the event's transition
+-- and the event isn't its producer" (`due` of `Record`). "Marks stand by event, then condition."
 
 -- the events and conditions of a run, as a record that has no marks yet
 abbrev pub unmarked : Run → RunRecord
@@ -116,8 +116,8 @@ unfoldable pub isEarlier : List Event → Option ℕ → ℕ → Bool
 isEarlier es none e = false
 isEarlier es (some f) e = ltb (stepOf es f) (stepOf es e)
 
--- "A mark is A if the condition was consumed in a step earlier than the marked event's, else B.": the mark of event e at
--- condition c
+-- "A mark is A if the condition was consumed in a step earlier than the marked event's, else B.": the mark of event e
+-- at condition c
 unfoldable pub markAt : Run → ℕ → ℕ → Mark
 markAt r e c =
     let early : Bool = isEarlier (r .events) (conditionAt (unmarked r) c .consumer) e in
@@ -138,9 +138,9 @@ recordOf n r = record { events = unmarked r .events; conditions = r .conditions;
 unfoldable pub recordFor : Net → List (List ℕ) → RunRecord
 recordFor n steps = recordOf n (runOf n steps)
 
--- ---- "Build: 20 buffer under 48,256 bytes (spot 0); net's; per line 21 malformed, 22 unknown transition, 23 over 128 events,
--- 24 too few tokens, 25 inhibited, 26 over 512 conditions, 27 over 4,096 marks (spot: line). 27 counts the marks due when
--- that line is played."
+-- ---- "Build: 20 buffer under 48,256 bytes (spot 0); net's; per line 21 malformed, 22 unknown transition, 23 over
+-- 128 events, 24 too few tokens, 25 inhibited, 26 over 512 conditions, 27 over 4,096 marks (spot: line). 27 counts
+-- the marks due when that line is played."
 
 -- "A log line is `S` and one or more transitions, repeats allowed."
 unfoldable pub isStepLine : Line → Bool

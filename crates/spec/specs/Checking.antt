@@ -1,4 +1,5 @@
--- Reading and checking a run record, and the table that the check writes (01, "Record", "Checking"; refusals 30 to 39).
+-- Reading and checking a run record, and the table that the check writes (01, "Record", "Checking"; refusals 30 to
+-- 39).
 use Prim.Native.Nat.{ℕ, zero, suc, _+_}
 use mathlib.Core.Bool.{Bool, true, false, not, _&&_, _||_, cond}
 use mathlib.Core.Option.{Option, none, some}
@@ -22,8 +23,8 @@ use Rattle.spec.specs.declared.Limits.{Limits}
 use Rattle.spec.specs.declared.MarkKind.{MarkKind}
 use Rattle.spec.specs.declared.MarkKind.the-variants.{Before, After}
 
--- ---- "per line 31 malformed or group out of order, 32 limit passed, 33 undeclared number, 34 condition and event marked
--- already (spot: line);"
+-- ---- "per line 31 malformed or group out of order, 32 limit passed, 33 undeclared number, 34 condition and event
+-- marked already (spot: line);"
 
 unfoldable pub isEmpty : {A : Type 0} → List A → Bool
 isEmpty [] = true
@@ -51,7 +52,8 @@ unfoldable pub enterCondition : Limits → Net → ℕ → Condition → RunReco
 enterCondition lim n k c r = do
   refuse 31 at k when not (isEmpty (r .marks))
   refuse 32 at k when leb (lim .conditions) (length (r .conditions))
-  refuse 33 at k when not (ltb (c .place) (places n) && isBelow (length (r .events)) (c .producer) && isBelow (length (r .events)) (c .consumer))
+  let known : Option ℕ → Bool = isBelow (length (r .events))
+  refuse 33 at k when not (ltb (c .place) (places n) && known (c .producer) && known (c .consumer))
   gives (withCondition c r)
 
 unfoldable pub enterMark : Limits → ℕ → Mark → RunRecord → Answer RunRecord
@@ -92,7 +94,8 @@ unfoldable pub emptyRecord : RunRecord
 emptyRecord = record { events = []; conditions = []; marks = [] }
 
 -- ---- "then 35 initial count (lowest place), 36 inputs or outputs, 37 mark missing or undue, 38 B on initial or A on
--- unconsumed, 39 event strictly before itself (36 to 39: lowest event), each rule over the whole record before the next."
+-- unconsumed, 39 event strictly before itself (36 to 39: lowest event), each rule over the whole record before the
+-- next."
 
 -- 35: the place has another number of initial conditions than of initial tokens
 unfoldable pub wrongInitial : Net → RunRecord → ℕ → Bool
@@ -156,8 +159,8 @@ accepts lim net text = do
   r ← readRecord lim n text
   gives (record { net = n; run = r })
 
--- ---- "The check writes 16,384 bytes: at 128 × e + f, 2 if e is strictly before f, 1 if only not later, else 0; 0 beyond the
--- events."
+-- ---- "The check writes 16,384 bytes: at 128 × e + f, 2 if e is strictly before f, 1 if only not later, else 0; 0
+-- beyond the events."
 
 unfoldable pub related : RunRecord → ℕ → ℕ → ℕ
 related r e f = cond (isStrictlyBefore r e f) 2 (cond (isNotLater r e f) 1 0)
@@ -184,7 +187,13 @@ pub record Checked : Type 0 where
   pub table : List ℕ
 
 unfoldable pub checkedOf : RunRecord → Checked
-checkedOf r = record { events = length (r .events); conditions = length (r .conditions); independents = independentPairs r; table = tableBytes r }
+checkedOf r =
+    record {
+      events = length (r .events);
+      conditions = length (r .conditions);
+      independents = independentPairs r;
+      table = tableBytes r;
+    }
 
 -- "Check: 30 buffer under 16,384 bytes (spot 0); net's; .."
 unfoldable pub checkWithin : Limits → List ℕ → List ℕ → ℕ → Answer Checked

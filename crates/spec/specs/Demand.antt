@@ -16,11 +16,11 @@ use Rattle.spec.specs.Replaying.{Replayed, replay}
 use Rattle.spec.specs.Runs.{EnabledSequence, KeepsOrder, WithinLimits, markingAt, asSteps, eventLines, logBytes}
 use Rattle.spec.specs.Runs.{TwoEvents, StandsEarlier, InEvery, InNone}
 
--- Below, N is the net that a net text declares and R the record that a record text has; `room` is the size of the buffer
--- that is lent.
+-- Below, N is the net that a net text declares and R the record that a record text has; `room` is the size of the
+-- buffer that is lent.
 
--- ---- "For every accepted net and record, the arrangement written puts each event into one of its steps, none of them empty,
--- and keeps the order. Every other arrangement that keeps it has at least the returned count of steps."
+-- ---- "For every accepted net and record, the arrangement written puts each event into one of its steps, none of
+-- them empty, and keeps the order. Every other arrangement that keeps it has at least the returned count of steps."
 
 -- The lines are those of the arrangement that is written; the count returned is how many they are.
 pub record WritesShortest (net text : List ℕ) (R : RunRecord) : Type 0 where
@@ -30,11 +30,11 @@ pub record WritesShortest (net text : List ℕ) (R : RunRecord) : Type 0 where
   pub keeps : KeepsOrder R written
   pub shortest : InEvery R (λ lines. length written ≤ length lines)
 
--- ---- "Every arrangement that keeps the order is, read as transitions, an enabled step sequence of the net; replay writes that
--- sequence's markings for its lines, and all such arrangements end in the same marking."
+-- ---- "Every arrangement that keeps the order is, read as transitions, an enabled step sequence of the net; replay
+-- writes that sequence's markings for its lines, and all such arrangements end in the same marking."
 
--- "An arrangement of n lines that keeps the order meets none of 41 to 45, and row k, for each k from 0 to n, is the marking
--- that the first k steps of its sequence leave.": count p of row k stands at 32 × k + p
+-- "An arrangement of n lines that keeps the order meets none of 41 to 45, and row k, for each k from 0 to n, is the
+-- marking that the first k steps of its sequence leave.": count p of row k stands at 32 × k + p
 pub record ReplaysMarkings (net text : List ℕ) (N : Net) (R : RunRecord) (lines : List (List ℕ)) : Type 0 where
   pub counts : List ℕ
   pub plays : (room : ℕ) → 4128 ≤ room
@@ -53,8 +53,9 @@ pub record KeptAreRuns (net text : List ℕ) (N : Net) (R : RunRecord) : Type 0 
   pub one-end : (lines others : List (List ℕ)) → KeepsOrder R lines → KeepsOrder R others
       → lastMarking N R lines ≡ lastMarking N R others
 
--- ---- "Of two different events, the order, and with it the check's table, has one strictly before the other exactly when it
--- stands in an earlier step in every such arrangement, and not later exactly when it stands in a later step in none."
+-- ---- "Of two different events, the order, and with it the check's table, has one strictly before the other exactly
+-- when it stands in an earlier step in every such arrangement, and not later exactly when it stands in a later step
+-- in none."
 
 pub record OrderIsExact (R : RunRecord) : Type 0 where
   pub strict : (e f : ℕ) → TwoEvents R e f → StrictlyBefore R e f ↔ InEvery R (λ lines. StandsEarlier e f lines)
@@ -81,8 +82,8 @@ pub record OrderOfRuns (net text : List ℕ) (N : Net) (R : RunRecord) : Type 0 
   pub order : OrderIsExact R
   pub table : TableSays net text R
 
--- ---- "For every enabled step sequence within the limits, the record built from it is accepted, and that sequence is among the
--- arrangements that keep the record's order."
+-- ---- "For every enabled step sequence within the limits, the record built from it is accepted, and that sequence is
+-- among the arrangements that keep the record's order."
 
 -- "a built record is the bytes that building wrote"
 pub record RunIsRecorded (net : List ℕ) (N : Net) (steps : List (List ℕ)) : Type 0 where
@@ -95,8 +96,8 @@ pub record RunIsRecorded (net : List ℕ) (N : Net) (steps : List (List ℕ)) : 
 
 -- ---- the demand
 
--- "In the third demand, an accepted net meets none of the net's refusals, and an accepted record, under that net, none of 31
--- to 39." "The demand is one claim about whole sequences and whole arrangements."
+-- "In the third demand, an accepted net meets none of the net's refusals, and an accepted record, under that net,
+-- none of 31 to 39." "The demand is one claim about whole sequences and whole arrangements."
 pub record Demand : Type 0 where
   pub order-of-runs : (net : List ℕ) (N : Net) → readNet net ≡ gives N
       → (text : List ℕ) (R : RunRecord) → readRecord bench N text ≡ gives R

@@ -1,5 +1,5 @@
--- What exactly is accepted: the second demand, and of the first "Input that meets no refusal named in the papers is accepted,
--- by each operation." The statements are types here; the crate `runs` has a proof of each.
+-- What exactly is accepted: the second demand, and of the first "Input that meets no refusal named in the papers is
+-- accepted, by each operation." The statements are types here; the crate `runs` has a proof of each.
 use mathlib.Core.Path.{_≡_}
 use mathlib.Core.Logic.{_↔_}
 use Prim.Native.Nat.{ℕ, _≤_, _<_}
@@ -9,7 +9,8 @@ use lib.ListN.{length}
 use Rattle.spec.specs.Lists.{In, flat}
 use Rattle.spec.specs.Answer.{gives}
 use Rattle.spec.specs.Net.{Net, readNet}
-use Rattle.spec.specs.NetText.{Declaration, newPlace, newTransition, newArc, netBytes, declared, Allowed, Complete}
+use Rattle.spec.specs.NetText.{Declaration, newPlace, newTransition, newArc}
+use Rattle.spec.specs.NetText.{netBytes, declared, Allowed, Complete}
 use Rattle.spec.specs.Record.{RunRecord, Condition, Mark, bench, recordBytes}
 use Rattle.spec.specs.Process.{Process, WellFormed, isBelow}
 use Rattle.spec.specs.Building.{recordFor, build}
@@ -22,7 +23,8 @@ use Rattle.spec.specs.Runs.{EnabledSequence, KeepsOrder, WithinLimits, l
 
 -- each declaration is allowed below those above it
 abbrev pub EachAllowed : List Declaration → Type 0
-EachAllowed ds = (above rest : List Declaration) (d : Declaration) → ds ≡ above ++ d ∷ rest → Allowed (declared above) d
+EachAllowed ds =
+    (above rest : List Declaration) (d : Declaration) → ds ≡ above ++ d ∷ rest → Allowed (declared above) d
 
 -- the text is that of declarations, each allowed below those above it, and N is the net that they declare
 pub record IsNet (text : List ℕ) (N : Net) : Type 0 where
@@ -32,8 +34,8 @@ pub record IsNet (text : List ℕ) (N : Net) : Type 0 where
   pub complete : Complete N
   pub named : N ≡ declared lines
 
--- "a well-formed log of known transitions becomes a record exactly when each step is enabled in its turn and the limits
--- hold, and the record is the one document 01 names."
+-- "a well-formed log of known transitions becomes a record exactly when each step is enabled in its turn and the
+-- limits hold, and the record is the one document 01 names."
 pub record IsBuilt (N : Net) (log bytes : List ℕ) : Type 0 where
   pub steps : List (List ℕ)
   pub written : log ≡ logBytes steps
@@ -41,8 +43,8 @@ pub record IsBuilt (N : Net) (log bytes : List ℕ) : Type 0 where
   pub within : WithinLimits N steps
   pub named : bytes ≡ recordBytes (recordFor N steps)
 
--- "Likewise a proposed record is accepted exactly when it is a process by the definition there.": a record of the stated
--- size, whose numbers name something, that is a process
+-- "Likewise a proposed record is accepted exactly when it is a process by the definition there.": a record of the
+-- stated size, whose numbers name something, that is a process
 pub record IsProcess (N : Net) (R : RunRecord) : Type 0 where
   pub events : length (R .events) ≤ 128
   pub conditions : length (R .conditions) ≤ 512
@@ -63,14 +65,15 @@ pub record Exactness : Type 0 where
       → (arrangement : List ℕ) (lines : List (List ℕ))
       → (readArrangement R arrangement ≡ gives lines) ↔ ((arrangement ≡ arrangementBytes lines) × KeepsOrder R lines)
 
--- ---- of each operation, and of a given list of declarations, sequence, record or arrangement. "With an accepted net and
--- buffers of the stated sizes" its text is accepted exactly when it is what it should be, and what is then given is what
--- document 01 names.
+-- ---- of each operation, and of a given list of declarations, sequence, record or arrangement. "With an accepted net
+-- and buffers of the stated sizes" its text is accepted exactly when it is what it should be, and what is then given
+-- is what document 01 names.
 
 pub record Operations : Type 0 where
   pub reads : (ds : List Declaration) (N : Net)
       → (readNet (netBytes ds) ≡ gives N) ↔ (EachAllowed ds × Complete N × (N ≡ declared ds))
-  -- "a well-formed log of known transitions": an enabled sequence has no empty step, and names transitions of the net only
+  -- "a well-formed log of known transitions": an enabled sequence has no empty step, and names transitions of the net
+  -- only
   pub builds : (net : List ℕ) (N : Net) → readNet net ≡ gives N
       → (steps : List (List ℕ)) (room : ℕ) → 48256 ≤ room → (bytes : List ℕ)
       → (build net (logBytes steps) room ≡ gives bytes)

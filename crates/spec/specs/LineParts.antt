@@ -8,8 +8,8 @@ use lib.Dec.{eqb, ltb}
 use Rattle.spec.specs.Answer.{Answer, gives, refuses, _>>_, refuse_at_when_, found}
 use Rattle.spec.specs.Text.{Line, linesOf}
 
--- "a part of whichever of the two texts was chosen": of which (0 the net text, 1 the second), where it starts in it, and its
--- bytes
+-- "a part of whichever of the two texts was chosen": of which (0 the net text, 1 the second), where it starts in it,
+-- and its bytes
 pub record Part : Type 0 where
   pub text : ℕ
   pub start : ℕ
@@ -18,7 +18,9 @@ pub record Part : Type 0 where
 -- lines as parts of text t, "without byte 10": the first starts at s, and the next one behind the byte 10 that ends it
 unfoldable pub partsFrom : ℕ → ℕ → List Line → List Part
 partsFrom t s [] = []
-partsFrom t s (l ∷ ls) = record { text = t; start = s; bytes = l .bytes } ∷ partsFrom t ((s + length (l .bytes)) + 1) ls
+partsFrom t s (l ∷ ls) =
+    let next : ℕ = (s + length (l .bytes)) + 1 in
+    record { text = t; start = s; bytes = l .bytes } ∷ partsFrom t next ls
 
 -- the line with a number: lines are numbered from 1
 unfoldable pub lineAt : List Part → ℕ → Option Part
@@ -29,8 +31,8 @@ lineAt ps (suc k) = getElem? ps k
 unfoldable pub chosenText : List ℕ → List ℕ → ℕ → List ℕ
 chosenText net second choice = cond (eqb choice 0) net second
 
--- "Given a net text, a second text, a choice .. and a line number, the library returns the refused line ... An unended last
--- piece counts as a line."; "46 choice over 1 or no such line (spot: the line number asked)"
+-- "Given a net text, a second text, a choice .. and a line number, the library returns the refused line ... An
+-- unended last piece counts as a line."; "46 choice over 1 or no such line (spot: the line number asked)"
 unfoldable pub refusedLine : List ℕ → List ℕ → ℕ → ℕ → Answer Part
 refusedLine net second choice k = do
   refuse 46 at k when ltb 1 choice

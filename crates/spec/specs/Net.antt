@@ -61,7 +61,9 @@ unfoldable pub withTransition : Net → Net
 withTransition n = record { tokens = n .tokens; transitions = n .transitions + 1; arcs = n .arcs }
 
 unfoldable pub withArc : ArcKind → ℕ → ℕ → Net → Net
-withArc x p t n = record { tokens = n .tokens; transitions = n .transitions; arcs = record { kind = x; place = p; transition = t } ∷ n .arcs }
+withArc x p t n =
+    let new : Arc = record { kind = x; place = p; transition = t } in
+    record { tokens = n .tokens; transitions = n .transitions; arcs = new ∷ n .arcs }
 
 -- "At most 32 places, 32 transitions, 512 initial tokens in all." Line k declares a place with v tokens:
 unfoldable pub addPlace : ℕ → ℕ → Net → Answer Net
@@ -81,7 +83,8 @@ addArc x k p t n = do
   refuse 14 at k when joined n x p t
   gives (withArc x p t n)
 
--- "`P,tokens` place. `T` transition. `I,place,transition` input. `O,transition,place` output. `H,place,transition` inhibitor."
+-- "`P,tokens` place. `T` transition. `I,place,transition` input. `O,transition,place` output. `H,place,transition`
+-- inhibitor."
 unfoldable pub addRow : ℕ → Row → Net → Answer Net
 addRow k r n =
     cond (isOne LetterP r) (addPlace k (valueOf (r .first)) n)
@@ -101,7 +104,9 @@ emptyNet = record { tokens = []; transitions = 0; arcs = [] }
 
 -- "Each transition has an input and an output.": transition t lacks one
 unfoldable pub lacking : Net → ℕ → Bool
-lacking n t = not (any (λ p. ltb 0 (takes n t p)) (upTo (places n))) || not (any (λ p. ltb 0 (makes n t p)) (upTo (places n)))
+lacking n t =
+    not (any (λ p. ltb 0 (takes n t p)) (upTo (places n)))
+    || not (any (λ p. ltb 0 (makes n t p)) (upTo (places n)))
 
 -- the rule that is judged after all lines
 unfoldable pub whole : Net → Answer Net

@@ -16,7 +16,8 @@ pub data Declaration : Type 0 where
   newTransition : Declaration
   newArc : ArcKind → ℕ → ℕ → Declaration
 
--- "`P,tokens` place. `T` transition. `I,place,transition` input. `O,transition,place` output. `H,place,transition` inhibitor."
+-- "`P,tokens` place. `T` transition. `I,place,transition` input. `O,transition,place` output. `H,place,transition`
+-- inhibitor."
 unfoldable pub declarationLine : Declaration → List ℕ
 declarationLine (newPlace v) = lineWith "P" (Number v ∷ [])
 declarationLine newTransition = lineWith "T" []
@@ -40,8 +41,8 @@ declareAll n (d ∷ ds) = declareAll (declare n d) ds
 abbrev pub declared : List Declaration → Net
 declared ds = declareAll emptyNet ds
 
--- what may be declared below the net n. "At most 32 places, 32 transitions, 512 initial tokens in all." "An arc names things
--- declared above it.", and no arc is repeated.
+-- what may be declared below the net n. "At most 32 places, 32 transitions, 512 initial tokens in all." "An arc names
+-- things declared above it.", and no arc is repeated.
 abbrev pub Allowed : Net → Declaration → Type 0
 Allowed n (newPlace v) = (places n < 32) × (sum (n .tokens) + v ≤ 512)
 Allowed n newTransition = n .transitions < 32

@@ -1,4 +1,5 @@
--- For the modules of computed cases: what opens every definition of document 01, so that they compute. It says nothing of its own.
+-- For the modules of computed cases: what opens every definition of document 01, so that they compute. It says
+-- nothing of its own.
 use Rattle.spec.specs.Lists.{from, upTo, any, every, count, keep, first, sumOf, flat, asCount, sum, greatest, lowest, member}
 use Rattle.spec.specs.Answer.{_>>=_, _>>_, refuse_at_when_, refuse_at?_, found, returned}
 use Rattle.spec.specs.Text.{named, inDigits, classOf, digitOf, classAndDigit, alike, isA, onFirst, linesOf, byLines, needlessZero, isNumber, valueFrom, grow, pieces, isDash, fieldOf, letterOf, letterIn, fieldsOf, rowOf, digitByte, digits, fieldBytes, fieldsBytes, lineWith}

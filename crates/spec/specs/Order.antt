@@ -39,8 +39,8 @@ markPair r m = markPairOf (m .kind) (conditionAt r (m .condition)) (some (m .eve
 unfoldable pub pairs : RunRecord → List Pair
 pairs r = flat (map conditionPair (r .conditions)) ++ flat (map (markPair r) (r .marks))
 
--- ---- "In the closed order, e is strictly before f if a path of pairs from e to f has a strict pair, and not later if e and
--- f differ and any path exists (004's ◇-closure)."
+-- ---- "In the closed order, e is strictly before f if a path of pairs from e to f has a strict pair, and not later
+-- if e and f differ and any path exists (004's ◇-closure)."
 
 -- a path of pairs from e to f; the Boolean says whether a strict pair is on it
 pub data Path (ps : List Pair) : Bool → ℕ → ℕ → Type 0 where

@@ -42,7 +42,8 @@ inputOf input = do
 -- "`Z,events,conditions,pairs,lines` (independent pairs, arranged lines)"
 unfoldable pub summary : RunRecord → List ℕ
 summary r =
-    lineWith "Z" (Number (length (r .events)) ∷ Number (length (r .conditions)) ∷ Number (independentPairs r) ∷ Number (lineCount (levels r)) ∷ [])
+    lineWith "Z" (Number (length (r .events)) ∷ Number (length (r .conditions))
+    ∷ Number (independentPairs r) ∷ Number (lineCount (levels r)) ∷ [])
 
 -- "It prints the record, then [the summary], or `X,number,spot` alone."
 unfoldable pub printed : Answer RunRecord → List ℕ

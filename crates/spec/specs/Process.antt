@@ -1,4 +1,5 @@
--- What a process is (01, "Record"; 004, definition 2; 000, section 5), and when the numbers of a record name something.
+-- What a process is (01, "Record"; 004, definition 2; 000, section 5), and when the numbers of a record name
+-- something.
 use mathlib.Core.Path.{_≡_}
 use mathlib.Core.Logic.{_≢_}
 use Prim.Native.Nat.{ℕ, _<_}
@@ -35,9 +36,10 @@ pub record Process (N : Net) (R : RunRecord) : Type 0 where
   pub initial : (p : ℕ) → p < places N → count (initialIn p) (R .conditions) ≡ tokensAt (N .tokens) p
   -- "for each event and place, one consumed condition if that input arc exists, else none; the same for outputs;"
   pub arcs : (e p : ℕ) → e < length (R .events) → p < places N
-      → (count (consumedIn e p) (R .conditions) ≡ takes N (transitionOf R e) p) × (count (producedIn e p) (R .conditions) ≡ makes N (transitionOf R e) p)
-  -- "one mark, B or A, for each condition and event where the condition's place inhibits the event's transition and the
-  -- event isn't its producer; no other mark;"
+      → (count (consumedIn e p) (R .conditions) ≡ takes N (transitionOf R e) p)
+      × (count (producedIn e p) (R .conditions) ≡ makes N (transitionOf R e) p)
+  -- "one mark, B or A, for each condition and event where the condition's place inhibits the event's transition and
+  -- the event isn't its producer; no other mark;"
   pub marks : (c e : ℕ) → c < length (R .conditions) → e < length (R .events)
       → count (isAt c e) (R .marks) ≡ asCount (due N R c e)
   -- "B only on a produced, A only on a consumed condition;"

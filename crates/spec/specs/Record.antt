@@ -87,4 +87,7 @@ unfoldable pub markLine : Mark → List ℕ
 markLine m = markLineOf (m .kind) (m .condition) (m .event)
 
 unfoldable pub recordBytes : RunRecord → List ℕ
-recordBytes r = flat (map eventLine (r .events)) ++ flat (map conditionLine (r .conditions)) ++ flat (map markLine (r .marks))
+recordBytes r =
+    flat (map eventLine (r .events))
+    ++ flat (map conditionLine (r .conditions))
+    ++ flat (map markLine (r .marks))

@@ -1,6 +1,6 @@
--- The order of the refusals and their spots, computed: each refusal of document 01 comes after those that are named before it
--- and before those that are named after it, and its spot is the lowest of several. Each input below meets two refusals or
--- more, or one in several places.
+-- The order of the refusals and their spots, computed: each refusal of document 01 comes after those that are named
+-- before it and before those that are named after it, and its spot is the lowest of several. Each input below meets
+-- two refusals or more, or one in several places.
 use mathlib.Core.Path.{_≡_, refl}
 use Prim.Native.Nat.{ℕ}
 use mathlib.Core.Bool.{Bool, true, _&&_}
@@ -46,13 +46,13 @@ inLogOf lim n s net log = refused n s (buildWithin lim net log)
 inRecordOf : Limits → ℕ → ℕ → List ℕ → List ℕ → Bool
 inRecordOf lim n s net run = refused n s (checkWithin lim net run 16384)
 
--- ---- "Net: per line 11 malformed, 12 limit passed, 13 undeclared number, 14 arc repeated (spot: line); then 15 transition
--- lacking input or output (spot: lowest such)."
+-- ---- "Net: per line 11 malformed, 12 limit passed, 13 undeclared number, 14 arc repeated (spot: line); then 15
+-- transition lacking input or output (spot: lowest such)."
 
 pub ofNet : Bool
 ofNet =
-    -- 11 before 12, 13 and 14 on a line. No line meets two of these: a place or a transition names nothing, an arc passes no
-    -- limit, and the arc that it repeats was declared.
+    -- 11 before 12, 13 and 14 on a line. No line meets two of these: a place or a transition names nothing, an arc
+    -- passes no limit, and the arc that it repeats was declared.
     inNet 11 1 (unended "P,513")
     && inNet 11 1 (unended "I,0,0")
     && inNet 11 4 (unended "P,1 T I,0,0 I,0,0")
@@ -71,8 +71,8 @@ ofNet =
     && inNet 15 0 (asText "P,1 T T I,0,0 O,1,0")
     && inNet 15 0 (asText "P,1 T T O,0,0 I,0,1")
 
--- ---- "Build: 20 buffer under 48,256 bytes (spot 0); net's; per line 21 malformed, 22 unknown transition, 23 over 128 events,
--- 24 too few tokens, 25 inhibited, 26 over 512 conditions, 27 over 4,096 marks (spot: line)."
+-- ---- "Build: 20 buffer under 48,256 bytes (spot 0); net's; per line 21 malformed, 22 unknown transition, 23 over
+-- 128 events, 24 too few tokens, 25 inhibited, 26 over 512 conditions, 27 over 4,096 marks (spot: line)."
 
 pub ofBuild : Bool
 ofBuild =
@@ -106,8 +106,8 @@ ofBuild =
     && inLogOf (atMost 3 3 9) 26 2 drive (asText "S,0 S,1 S,2 S,0 S,1,1,1 S,3 x")
     && inLogOf (atMost 3 4 0) 27 2 drive (asText "S,2 S,0 S,1 S,0 S,1,1,1 S,3 x")
 
--- ---- "Check: 30 buffer under 16,384 bytes (spot 0); net's; per line 31 malformed or group out of order, 32 limit passed, 33
--- undeclared number, 34 condition and event marked already (spot: line);"
+-- ---- "Check: 30 buffer under 16,384 bytes (spot 0); net's; per line 31 malformed or group out of order, 32 limit
+-- passed, 33 undeclared number, 34 condition and event marked already (spot: line);"
 
 pub ofRecordLines : Bool
 ofRecordLines =
@@ -148,7 +148,8 @@ ofRecordLines =
     && inRecordOf (atMost 9 9 2) 34 4 drive (asText "E,0 C,0,-,0 B,0,0 B,0,0 A,0,0 B,9,9 C,0,-,-")
 
 -- ---- "then 35 initial count (lowest place), 36 inputs or outputs, 37 mark missing or undue, 38 B on initial or A on
--- unconsumed, 39 event strictly before itself (36 to 39: lowest event), each rule over the whole record before the next."
+-- unconsumed, 39 event strictly before itself (36 to 39: lowest event), each rule over the whole record before the
+-- next."
 
 -- a transition that only its own output can enable, and one that its own input place inhibits
 ownWays : List ℕ
@@ -200,8 +201,8 @@ ofRuleSpots =
     -- 39
     && inRecord 39 1 (asText "P,0 P,1 P,0 T T I,0,0 O,0,0 I,1,1 O,1,2") (asText "E,1 E,0 E,0 C,1,-,0 C,2,0,- C,0,1,1 C,0,2,2")
 
--- ---- "Replay: 40 under 4,128 counts (spot 0); net's; check's but 30; per line 41 malformed, 42 unknown event, 43 event
--- repeated, 44 order broken (spot: line); then 45 event missing (lowest)."
+-- ---- "Replay: 40 under 4,128 counts (spot 0); net's; check's but 30; per line 41 malformed, 42 unknown event, 43
+-- event repeated, 44 order broken (spot: line); then 45 event missing (lowest)."
 
 -- in the record of case a each event is strictly before the next
 pub ofReplay : Bool

@@ -15,8 +15,8 @@ use Rattle.spec.specs.Order.{isStrictlyBefore, isNotLater}
 use Rattle.spec.specs.Checking.{Accepted, accepts}
 use Rattle.spec.specs.declared.Class.the-variants.{LetterG}
 
--- ---- "per line 41 malformed, 42 unknown event, 43 event repeated, 44 order broken (spot: line); then 45 event missing
--- (lowest)."
+-- ---- "per line 41 malformed, 42 unknown event, 43 event repeated, 44 order broken (spot: line); then 45 event
+-- missing (lowest)."
 
 unfoldable pub isGroupLine : Line → Bool
 isGroupLine l = l .ended && isList mostDigits LetterG (l .bytes)
@@ -26,10 +26,12 @@ unfoldable pub repeats : List ℕ → Bool
 repeats [] = false
 repeats (e ∷ es) = member e es || repeats es
 
--- "It keeps the order if strict predecessors stand in earlier lines and weak ones no later.": d is strictly before e and
--- in no earlier line, or not later than e and in no line up to this one
+-- "It keeps the order if strict predecessors stand in earlier lines and weak ones no later.": d is strictly before e
+-- and in no earlier line, or not later than e and in no line up to this one
 unfoldable pub late : RunRecord → List ℕ → List ℕ → ℕ → ℕ → Bool
-late r done now e d = (isStrictlyBefore r d e && not (member d done)) || (isNotLater r d e && not (member d (done ++ now)))
+late r done now e d =
+    (isStrictlyBefore r d e && not (member d done))
+    || (isNotLater r d e && not (member d (done ++ now)))
 
 -- the line breaks the order: some event of it has a predecessor that is late
 unfoldable pub breaks : RunRecord → List ℕ → List ℕ → Bool
@@ -53,8 +55,8 @@ readArrangement r text = do
   refuse 45 at? lowest (missing gs) (length (r .events))
   gives gs
 
--- ---- "Replay writes 129 rows of 32 counts, each of 16 bits: row k is the marking after k lines, rows and columns beyond
--- are 0."
+-- ---- "Replay writes 129 rows of 32 counts, each of 16 bits: row k is the marking after k lines, rows and columns
+-- beyond are 0."
 
 -- "In each row a place holds its initial tokens plus those made minus those taken by the events so far.": after events
 -- with these transitions

@@ -1,4 +1,5 @@
--- Enabled step sequences, and arrangements that keep a record's order (01, the paragraph on the third demand; 004, section 3).
+-- Enabled step sequences, and arrangements that keep a record's order (01, the paragraph on the third demand; 004,
+-- section 3).
 use mathlib.Core.Path.{_≡_}
 use mathlib.Core.Logic.{_≢_}
 use Prim.Native.Nat.{ℕ, zero, suc, _+_, _≤_, _<_}
@@ -19,8 +20,8 @@ use Rattle.spec.specs.declared.Field.the-variants.{Number}
 unfoldable pub markingAt : Net → List (List ℕ) → ℕ → List ℕ
 markingAt N steps k = markingAfter N (N .tokens) (take k steps)
 
--- "An enabled step sequence starts at the initial marking, and each step is enabled at the marking that the steps before
--- it leave."  No step is empty, and each names transitions of the net.
+-- "An enabled step sequence starts at the initial marking, and each step is enabled at the marking that the steps
+-- before it leave."  No step is empty, and each names transitions of the net.
 pub record EnabledSequence (N : Net) (steps : List (List ℕ)) : Type 0 where
   pub full : (k : ℕ) → k < length steps → 0 < length (getD steps k [])
   pub known : (k t : ℕ) → k < length steps → In t (getD steps k []) → t < N .transitions

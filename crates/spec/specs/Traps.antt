@@ -1,5 +1,5 @@
--- What a to k leave open, computed too: each case fails under a reading of document 01 that a to k would let pass. The order of
--- the refusals and their spots stand in `RefusalOrder`, the limits and sizes in `Bounds`.
+-- What a to k leave open, computed too: each case fails under a reading of document 01 that a to k would let pass.
+-- The order of the refusals and their spots stand in `RefusalOrder`, the limits and sizes in `Bounds`.
 use mathlib.Core.Path.{_≡_, refl}
 use Prim.Native.Nat.{ℕ, _+_, _*_}
 use mathlib.Core.Bool.{Bool, true, _&&_}
@@ -45,7 +45,8 @@ byteClasses =
     -- the value of a byte that is no digit is 0
     && same (map digitOf (ascii "0189A,")) (0 ∷ 1 ∷ 8 ∷ 9 ∷ 0 ∷ 0 ∷ [])
 
--- ---- "A number is one to four digits in base ten without needless leading zeros"; "a last piece without it is malformed"
+-- ---- "A number is one to four digits in base ten without needless leading zeros"; "a last piece without it is
+-- malformed"
 
 pub texts : Bool
 texts =
@@ -152,14 +153,15 @@ buildings =
     && builds (asText "P,2 P,0 T I,0,0 O,0,1") (asText "S,0 S,0") (asText "E,0 E,0 C,0,-,0 C,0,-,1 C,1,0,- C,1,1,-")
     -- one for each input place
     && builds (asText "P,1 P,1 P,0 P,0 T I,0,0 I,1,0 O,0,2 O,0,3") (asText "S,0") (asText "E,0 C,0,-,0 C,1,-,0 C,2,0,- C,3,0,-")
-    -- events follow the line, initial conditions and outputs ascend by place, the outputs of an earlier event come first
+    -- events follow the line, initial conditions and outputs ascend by place, the outputs of an earlier event come
+    -- first
     && builds drive (asText "S,2,0") (asText "E,2 E,0 C,0,-,1 C,2,-,0 C,3,0,- C,1,1,- B,3,0")
     && builds (asText "P,1 P,0 P,0 T I,0,0 O,0,2 O,0,1") (asText "S,0") (asText "E,0 C,0,-,0 C,1,0,- C,2,0,-")
 
 -- ---- the check
 
--- weak both ways between 0 and 1, strict from 1 to 2, weak from 2 to 1: event 0 is on a closed walk with a strict pair, and on
--- no simple cycle with one
+-- weak both ways between 0 and 1, strict from 1 to 2, weak from 2 to 1: event 0 is on a closed walk with a strict
+-- pair, and on no simple cycle with one
 walkNet : List ℕ
 walkNet = asText "P,1 P,1 P,0 P,0 P,0 P,0 P,0 T T T I,0,0 O,0,2 H,3,0 I,1,1 O,1,3 O,1,4 O,1,5 H,2,1 I,4,2 O,2,6 H,5,2"
 
@@ -206,7 +208,8 @@ pub checks : Bool
 checks =
     -- "It also returns the events, conditions and independent pairs"
     given (λ c. eqb (c .events) 2 && eqb (c .conditions) 4 && eqb (c .independents) 1) (check drive recordB 16384)
-    -- in a group any order will do: events against the run, conditions and marks as they come; no lowest condition is asked
+    -- in a group any order will do: events against the run, conditions and marks as they come; no lowest condition is
+    -- asked
     && passesCheck drive (asText "E,2 E,1 E,0 C,3,0,- C,4,1,- C,1,2,1 C,2,-,0 C,0,-,2 A,2,0")
     && passesCheck crossed (asText "E,0 E,1 C,0,-,0 C,1,-,1 C,2,0,- C,3,1,- B,2,1 B,3,0")
     && passesCheck (asText "P,2 P,0 T I,0,0 O,0,1") (asText "E,0 E,0 C,0,-,1 C,0,-,0 C,1,0,- C,1,1,-")
@@ -216,7 +219,8 @@ checks =
     && refused 35 0 (check drive (asText "C,0,-,- C,0,-,- C,2,-,-") 16384)
     && refused 35 2 (check drive (asText "C,0,-,-") 16384)
     && refused 35 1 (check drive (asText "C,0,-,- C,1,-,- C,2,-,-") 16384)
-    -- "one consumed condition if that input arc exists, else none; the same for outputs": none, two, and one with no arc
+    -- "one consumed condition if that input arc exists, else none; the same for outputs": none, two, and one with no
+    -- arc
     && refused 36 0 (check pipe (asText "E,0 C,0,-,- C,1,0,-") 16384)
     && refused 36 0 (check inItsWay (asText "E,0 C,0,-,0 C,0,-,0 C,0,-,- C,1,0,-") 16384)
     && refused 36 0 (check drive (asText "E,0 C,0,-,0 C,2,-,0 C,1,0,-") 16384)
@@ -332,7 +336,8 @@ fiveNumbers r = r .number ∷ r .spot ∷ r .a ∷ r .b ∷ r .c ∷ []
 
 pub returns : Bool
 returns =
-    -- places and transitions; bytes; events, conditions and independent pairs; lines; bytes and lines; start and length; bytes
+    -- places and transitions; bytes; events, conditions and independent pairs; lines; bytes and lines; start and
+    -- length; bytes
     same (fiveNumbers (netReturns drive)) (0 ∷ 0 ∷ 5 ∷ 3 ∷ 0 ∷ [])
     && same (fiveNumbers (buildReturns drive (asText "S,0,2") 48256)) (0 ∷ 0 ∷ 46 ∷ 0 ∷ 0 ∷ [])
     && same (fiveNumbers (checkReturns drive recordB 16384)) (0 ∷ 0 ∷ 2 ∷ 4 ∷ 1 ∷ [])
@@ -340,7 +345,8 @@ returns =
     && same (fiveNumbers (arrangeReturns drive recordB 768)) (0 ∷ 0 ∷ 6 ∷ 1 ∷ 0 ∷ [])
     && same (fiveNumbers (lineReturns drive (asText "S,0 S,12") 1 2)) (0 ∷ 0 ∷ 4 ∷ 4 ∷ 0 ∷ [])
     && same (fiveNumbers (programReturns (asText "="))) (0 ∷ 0 ∷ 10 ∷ 0 ∷ 0 ∷ [])
-    -- "A refusal returns number and spot", and no value; the program's operation returns how many bytes its `X` line has
+    -- "A refusal returns number and spot", and no value; the program's operation returns how many bytes its `X` line
+    -- has
     && same (fiveNumbers (netReturns (asText "P,1 x"))) (11 ∷ 2 ∷ 0 ∷ 0 ∷ 0 ∷ [])
     && same (fiveNumbers (buildReturns drive (asText "S,0 S,2") 48256)) (25 ∷ 2 ∷ 0 ∷ 0 ∷ 0 ∷ [])
     && same (fiveNumbers (lineReturns drive (asText "S,0") 1 9)) (46 ∷ 9 ∷ 0 ∷ 0 ∷ 0 ∷ [])
