@@ -10,7 +10,7 @@ use lib.Dec.{ltb}
 use lib.Seq.{take-suc, take-length, drop-cons, drop-length, getD-take, getD-drop}
 use borrow.Author.Tests.{lt-ltb, le-leb, ltb-true, ltb-false, leb-true}
 use lib.ListN.{length, getD, take, drop, length-drop}
-use Rattle.spec.specs.Lists.{In, any, upTo, member, flat}
+use Rattle.spec.specs.Lists.{In, any, upTo, isIn, flat}
 use Rattle.spec.specs.Record.{RunRecord}
 use Rattle.spec.specs.Order.{isStrictlyBefore, isNotLater}
 use Rattle.spec.specs.Replaying.{repeats, late, breaks}
@@ -143,24 +143,24 @@ module _ {n : ℕ} {t : List ℕ} (R : RunRecord) (few : n ≤ 128) (good : Good
   unfolding Good Sub
   sub-is d e l = good d (omega arith) e
 
-  module _ (done g : List ℕ) (low : (e : ℕ) → In e g → e < n) (apart : (e : ℕ) → In e g → member e done ≡ false)
+  module _ (done g : List ℕ) (low : (e : ℕ) → In e g → e < n) (apart : (e : ℕ) → In e g → isIn e done ≡ false)
       {line strict behind u : Set} {b : Bool} (L : IsSet g line) (S : Unites (strictOf t) (λ d. In d g) strict)
-      (B : Unites (pathOf t) (λ d. (d < n) × (member d (done ++ g) ≡ false)) behind) (U : (f : ℕ) → has u f ≡ max (has behind f) (has strict f)) (M : Meets u line b) where
+      (B : Unites (pathOf t) (λ d. (d < n) × (isIn d (done ++ g) ≡ false)) behind) (U : (f : ℕ) → has u f ≡ max (has behind f) (has strict f)) (M : Meets u line b) where
     -- an event that is late for f
     found : (d f : ℕ) → d < n → In f g → late R done g f d ≡ true → breaks R done g ≡ true
     unfolding breaks
     found d f l m h = any-in (λ e. any (late R done g e) (upTo (length (R .events)))) f g m (any-in (late R done g f) d (upTo (length (R .events))) (upTo-in (length (R .events)) (omega (arith, o .events))) h)
 
-    here-too : (f : ℕ) → In f g → member f (done ++ g) ≡ true
+    here-too : (f : ℕ) → In f g → isIn f (done ++ g) ≡ true
     here-too f m = member-in (done ++ g) (Memᴰ·append-right done m)
 
-    late-strict : (d f : ℕ) → d < n → In f g → 2 ≤ cellOf t d f → member d done ≡ false → breaks R done g ≡ true
+    late-strict : (d f : ℕ) → d < n → In f g → 2 ≤ cellOf t d f → isIn d done ≡ false → breaks R done g ≡ true
     unfolding late
-    late-strict d f l m c p = found d f l m (true-or-l (isNotLater R d f && not (member d (done ++ g))) (true-and (sym (o .strict d f l (low f m)) ∙ le-leb 2 (cellOf t d f) c) (ap not p)))
+    late-strict d f l m c p = found d f l m (true-or-l (isNotLater R d f && not (isIn d (done ++ g))) (true-and (sym (o .strict d f l (low f m)) ∙ le-leb 2 (cellOf t d f) c) (ap not p)))
 
-    late-weak : (d f : ℕ) → d < n → In f g → 0 < cellOf t d f → member d (done ++ g) ≡ false → breaks R done g ≡ true
+    late-weak : (d f : ℕ) → d < n → In f g → 0 < cellOf t d f → isIn d (done ++ g) ≡ false → breaks R done g ≡ true
     unfolding late
-    late-weak d f l m c p = found d f l m (true-or-r (isStrictlyBefore R d f && not (member d done)) (true-and (sym (o .weak d f l (low f m) (λ e. clash (here-too f m) (rw e at p))) ∙ lt-ltb 0 (cellOf t d f) c) (ap not p)))
+    late-weak d f l m c p = found d f l m (true-or-r (isStrictlyBefore R d f && not (isIn d done)) (true-and (sym (o .weak d f l (low f m) (λ e. clash (here-too f m) (rw e at p))) ∙ lt-ltb 0 (cellOf t d f) c) (ap not p)))
 
     broken : b ≡ true → breaks R done g ≡ true
     broken q =
@@ -174,7 +174,7 @@ module _ {n : ℕ} {t : List ℕ} (R : RunRecord) (few : n ≤ 128) (good : Good
     hit : (f : ℕ) → In f g → has u f ≡ 1 → b ≡ true
     hit f m h = elim (true-or-false b) [ inl a ↦ a | inr a ↦ absurd (omega (arith, M .none a f (L .low f m) (L .has-all f m))) ]
 
-    hit-behind : (d f : ℕ) → d < n → In f g → member d (done ++ g) ≡ false → 0 < cellOf t d f → b ≡ true
+    hit-behind : (d f : ℕ) → d < n → In f g → isIn d (done ++ g) ≡ false → 0 < cellOf t d f → b ≡ true
     hit-behind d f l m p h = hit f m (omega (arith, U f, B .all d f (l, p) (omega (arith, cell-is d f, sub-is d f l, has-most (pathOf t d) f)), has-most strict f))
 
     kept : breaks R done g ≡ true → b ≡ true
@@ -183,17 +183,17 @@ module _ {n : ℕ} {t : List ℕ} (R : RunRecord) (few : n ≤ 128) (good : Good
         let z = any-found (λ e. any (late R done g e) (upTo (length (R .events)))) g h in let f = z .0 in let m = z .1 in
         let y = any-found (late R done g f) (upTo (length (R .events))) (z .2) in let d = y .0 in
         let l : d < n = omega (arith, in-upTo (length (R .events)) (y .1), o .events) in
-        elim (or-true (isStrictlyBefore R d f && not (member d done)) (isNotLater R d f && not (member d (done ++ g))) (y .2)) [
-          | inl a ↦ let x = and-true (isStrictlyBefore R d f) (not (member d done)) a in
+        elim (or-true (isStrictlyBefore R d f && not (isIn d done)) (isNotLater R d f && not (isIn d (done ++ g))) (y .2)) [
+          | inl a ↦ let x = and-true (isStrictlyBefore R d f) (not (isIn d done)) a in
               let c : 2 ≤ cellOf t d f = leb-true 2 (cellOf t d f) (o .strict d f l (low f m) ∙ x .0) in
-              elim (true-or-false (member d (done ++ g))) [
+              elim (true-or-false (isIn d (done ++ g))) [
                 | inl i ↦ elim (List·Memᴰ·append-cases done (in-member (done ++ g) i)) [
-                  | inl j ↦ clash (member-in done j) (not-is-true (member d done) (x .1))
+                  | inl j ↦ clash (member-in done j) (not-is-true (isIn d done) (x .1))
                   | inr j ↦ hit f m (omega (arith, U f, S .all d f j (omega (arith, cell-is d f, c, has-most (pathOf t d) f, has-most (strictOf t d) f)), has-most behind f))
                 ]
                 | inr i ↦ hit-behind d f l m i (omega arith)
               ]
-          | inr a ↦ let x = and-true (isNotLater R d f) (not (member d (done ++ g))) a in let i = not-is-true (member d (done ++ g)) (x .1) in
+          | inr a ↦ let x = and-true (isNotLater R d f) (not (isIn d (done ++ g))) a in let i = not-is-true (isIn d (done ++ g)) (x .1) in
               hit-behind d f l m i (ltb-true 0 (cellOf t d f) (o .weak d f l (low f m) (λ e. clash (here-too f m) (rw e at i)) ∙ x .0))
         ]
 
@@ -209,7 +209,7 @@ first-line R k done g gs = refl
 -- behind the first k lines: the first of the others that breaks the order, and what an event in none of the k is not later than
 pub record Behind (n m : ℕ) (t xs lined : List ℕ) (k r : ℕ) (s : Set) : Type 0 where
   pub broken : (R : RunRecord) (gs : List (List ℕ)) → TellsOrder n t R → Taken n m xs lined gs → r ≡ brokenFrom R (suc k) (flat (take k gs)) (drop k gs)
-  pub late : (gs : List (List ℕ)) → Taken n m xs lined gs → Unites (pathOf t) (λ d. (d < n) × (member d (flat (take k gs)) ≡ false)) s
+  pub late : (gs : List (List ℕ)) → Taken n m xs lined gs → Unites (pathOf t) (λ d. (d < n) × (isIn d (flat (take k gs)) ≡ false)) s
 
 pub behind-all : {n m : ℕ} {t xs lined : List ℕ} {s : Set} → n ≤ 128 → Unites (pathOf t) (Lacks n m xs) s → Behind n m t xs lined m 0 s
 unfolding brokenFrom
@@ -230,7 +230,7 @@ module _ {n m : ℕ} {xs lined : List ℕ} {gs : List (List ℕ)} (T : Taken n m
   line-known : (j : ℕ) → j < m → (e : ℕ) → In e (getD gs j []) → e < n
   line-known j h e i = T .known e (rw (parted (T .ordered) j) (Memᴰ·append-right (flat (take j gs)) (line-rest j h e i)))
 
-  line-apart : (j : ℕ) → j < m → (e : ℕ) → In e (getD gs j []) → member e (flat (take j gs)) ≡ false
+  line-apart : (j : ℕ) → j < m → (e : ℕ) → In e (getD gs j []) → isIn e (flat (take j gs)) ≡ false
   line-apart j h e i = repeats-apart (flat (take j gs)) (flat (drop j gs)) (subst (λ (z : List ℕ). repeats z ≡ false) (parted (T .ordered) j) (T .once)) (line-rest j h e i)
 
   -- each line has an event of its own
@@ -261,7 +261,7 @@ behind-more {n} {m} {t} {xs} {lined} j {r} {from} {to} {late} {g = g} {b = b} fe
   broken = λ R gs o T. c ∙ go R gs T (breaks-is R few good o (flat (take j gs)) (getD gs j []) (line-known T j h) (line-apart T j h) (group gs T .line) (group gs T .strict) (rest gs T) U M) (B .broken R gs o T);
   late = λ gs T. unites-same
       (λ d z. elim z [ inl a ↦ (a .0, before gs T d (a .1)) | inr a ↦ (line-known T j h d a, line-apart T j h d a) ])
-      (λ d z. elim (true-or-false (member d (flat (take j gs) ++ getD gs j []))) [
+      (λ d z. elim (true-or-false (isIn d (flat (take j gs) ++ getD gs j []))) [
         | inl a ↦ elim (List·Memᴰ·append-cases (flat (take j gs)) (in-member (flat (take j gs) ++ getD gs j []) a)) [ inl i ↦ clash (member-in (flat (take j gs)) i) (z .1) | inr i ↦ inr i ]
         | inr a ↦ inl (z .0, a)
       ])
@@ -274,11 +274,11 @@ behind-more {n} {m} {t} {xs} {lined} j {r} {from} {to} {late} {g = g} {b = b} fe
     group : (gs : List (List ℕ)) → Taken n m xs lined gs → Grouped t (getD gs j []) g
     group gs T = subst (λ (es : List ℕ). Grouped t es g) (line-out (T .ordered) j from to (within gs T) (p ∙ T .ordered .ends j (omega (arith, within gs T))) (q ∙ T .ordered .ends (suc j) (within gs T))) G
 
-    rest : (gs : List (List ℕ)) → Taken n m xs lined gs → Unites (pathOf t) (λ d. (d < n) × (member d (flat (take j gs) ++ getD gs j []) ≡ false)) late
+    rest : (gs : List (List ℕ)) → Taken n m xs lined gs → Unites (pathOf t) (λ d. (d < n) × (isIn d (flat (take j gs) ++ getD gs j []) ≡ false)) late
     rest gs T = rw (flat-take-suc gs j (within gs T)) at (B .late gs T)
 
-    before : (gs : List (List ℕ)) → Taken n m xs lined gs → (d : ℕ) → member d (flat (take j gs) ++ getD gs j []) ≡ false → member d (flat (take j gs)) ≡ false
-    before gs T d z = elim (true-or-false (member d (flat (take j gs)))) [
+    before : (gs : List (List ℕ)) → Taken n m xs lined gs → (d : ℕ) → isIn d (flat (take j gs) ++ getD gs j []) ≡ false → isIn d (flat (take j gs)) ≡ false
+    before gs T d z = elim (true-or-false (isIn d (flat (take j gs)))) [
       | inl a ↦ clash (member-in (flat (take j gs) ++ getD gs j []) (Memᴰ·append-left (getD gs j []) (in-member (flat (take j gs)) a))) z
       | inr a ↦ a
     ]

@@ -10,7 +10,7 @@ use lib.Dec.{leb, ltb}
 use lib.ListN.{length, getD, take, drop, replicate, length-append, length-map}
 use lib.Seq.{getD-take}
 use borrow.Author.Tests.{leb-true, le-leb, lt-leb, lt-ltb}
-use Rattle.spec.specs.Lists.{In, any, every, flat, member}
+use Rattle.spec.specs.Lists.{In, any, every, flat, isIn}
 use Rattle.spec.specs.Answer.{Answer, gives, refuses, _>>_, refuse_at_when_}
 use Rattle.spec.specs.Text.{Line, linesOf, byLines, alike, isA, classOf, named, inDigits, letterIn, fieldsOf, mostDigits}
 use Rattle.spec.specs.Forms.{aNumber, isList, numbersOf, valueOf}
@@ -205,7 +205,7 @@ kept-of {n} {l = l} few (known e p q c b) f = record { formed = p; low = q; coun
 
 module _ {n : ℕ} {text : List ℕ} {k i : ℕ} {xs lined : List ℕ} (g : Reading n text k i xs lined) where
   -- the lines before, and an array in which events of this line may be entered
-  taken-of : {xs′ : List ℕ} → ((e : ℕ) → e < 128 → member e (flat (g .groups)) ≡ (ltb 0 (getD xs′ e 0) && ltb (getD xs′ e 0) k)) → Taken n (k - 1) xs′ lined (g .groups)
+  taken-of : {xs′ : List ℕ} → ((e : ℕ) → e < 128 → isIn e (flat (g .groups)) ≡ (ltb 0 (getD xs′ e 0) && ltb (getD xs′ e 0) k)) → Taken n (k - 1) xs′ lined (g .groups)
   taken-of h = let z : k - 1 + 1 ≡ k = omega (arith, g .stood .lines) in record {
     lines = omega (arith, g .stood .lines);
     full = g .stood .full;
@@ -283,7 +283,7 @@ module _ {n : ℕ} {text : List ℕ} {k i : ℕ} {xs lined : List ℕ} (g : Read
           | no h ↦ stopped (repeats-right (flat (g .groups)) now (too-many 128 now (λ e m. omega (arith, low e m, g .few)) (omega (arith, kept .counted)))) (rw (E .many (omega arith) .1) (g .stood .stands .earlier))
         ]
           where
-            stopped : repeats (flat (g .groups) ++ now) ≡ true → ((e : ℕ) → e < 128 → member e (flat (g .groups)) ≡ (ltb 0 (getD xs′ e 0) && ltb (getD xs′ e 0) k)) → ReadsLines n text (record { answer = Repeated k; lines = k - 1 }) xs′ lined
+            stopped : repeats (flat (g .groups) ++ now) ≡ true → ((e : ℕ) → e < 128 → isIn e (flat (g .groups)) ≡ (ltb 0 (getD xs′ e 0) && ltb (getD xs′ e 0) k)) → ReadsLines n text (record { answer = Repeated k; lines = k - 1 }) xs′ lined
             stopped c t = refused (Repeated k) 43 refl refl (taken-of t) (λ R o. line-refused (groupsLine R) k (g .groups) (K .lines) (repeated-line R k (K .line) (g .groups) (kept .formed) (stranger R o (kept .low)) c))
 
         module _ (q : again ≡ false) where

@@ -9,7 +9,7 @@ use lib.Dec.{ltb}
 use lib.ListN.{length, getD, set, replicate, length-set, length-replicate, take, drop, drop-of-length-le}
 use lib.Seq.{getD-set-same, getD-set-other, getD-take, length-take-le}
 use borrow.Author.Tests.{lt-ltb, le-ltb, eq-eqb, ne-eqb}
-use Rattle.spec.specs.Lists.{In, any, member}
+use Rattle.spec.specs.Lists.{In, any, isIn}
 use Rattle.spec.specs.Replaying.{repeats}
 use Rattle.lists.specs.Laws.{here, there, in-at}
 use Rattle.lists.specs.Along.{rest-at}
@@ -19,7 +19,7 @@ use Rattle.arrangements.proofs.Distinct.{member-snoc, repeats-hit, repe
 
 -- no event has come
 pub stands-none : Stands 1 (replicate 128 0) [] []
-unfolding member any
+unfolding isIn any
 stands-none = record {
   long = length-replicate {A = ℕ} 128 0;
   most = λ e l. omega (arith, blank 128 e);
@@ -37,10 +37,10 @@ stands-next {k} {xs} {done} {now} s = record {
 }
 
 module _ {k : ℕ} {xs done now : List ℕ} (s : Stands k xs done now) (v : ℕ) (v<n : v < 128) where
-  pub come-again : 0 < getD xs v 0 → member v (done ++ now) ≡ true
+  pub come-again : 0 < getD xs v 0 → isIn v (done ++ now) ≡ true
   come-again h = s .come v v<n ∙ lt-ltb 0 _ h
 
-  pub not-come : getD xs v 0 ≤ 0 → member v (done ++ now) ≡ false
+  pub not-come : getD xs v 0 ≤ 0 → isIn v (done ++ now) ≡ false
   not-come h = s .come v v<n ∙ le-ltb 0 _ h
 
   -- event v is entered

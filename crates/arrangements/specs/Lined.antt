@@ -6,7 +6,7 @@ use mathlib.Core.Bool.{Bool, true, false, _&&_, cond}
 use mathlib.Core.List.{List, [], _∷_, _++_}
 use lib.ListN.{length, getD, take}
 use lib.Dec.{ltb, leb}
-use Rattle.spec.specs.Lists.{In, flat, member}
+use Rattle.spec.specs.Lists.{In, flat, isIn}
 use Rattle.spec.specs.Record.{RunRecord}
 use Rattle.spec.specs.Order.{isStrictlyBefore, isNotLater}
 use Rattle.spec.specs.Replaying.{repeats, breaks}
@@ -30,8 +30,8 @@ pub record TellsOrder (n : ℕ) (t : List ℕ) (R : RunRecord) : Type 0 where
 pub record Stands (k : ℕ) (xs done now : List ℕ) : Type 0 where
   pub long : length xs ≡ 128
   pub most : (e : ℕ) → e < 128 → getD xs e 0 ≤ k
-  pub earlier : (e : ℕ) → e < 128 → member e done ≡ (ltb 0 (getD xs e 0) && ltb (getD xs e 0) k)
-  pub come : (e : ℕ) → e < 128 → member e (done ++ now) ≡ ltb 0 (getD xs e 0)
+  pub earlier : (e : ℕ) → e < 128 → isIn e done ≡ (ltb 0 (getD xs e 0) && ltb (getD xs e 0) k)
+  pub come : (e : ℕ) → e < 128 → isIn e (done ++ now) ≡ ltb 0 (getD xs e 0)
 
 -- the lines gs have been taken, and k is the number of the next
 pub record Lined (n k : ℕ) (xs : List ℕ) (gs : List (List ℕ)) : Type 0 where
@@ -54,7 +54,7 @@ pub record Taken (n m : ℕ) (xs lined : List ℕ) (gs : List (List ℕ)) : Type
   pub known : (e : ℕ) → In e (flat gs) → e < n
   pub once : repeats (flat gs) ≡ false
   pub ordered : Ordered gs lined
-  pub earlier : (e : ℕ) → e < 128 → member e (flat gs) ≡ (ltb 0 (getD xs e 0) && ltb (getD xs e 0) (m + 1))
+  pub earlier : (e : ℕ) → e < 128 → isIn e (flat gs) ≡ (ltb 0 (getD xs e 0) && ltb (getD xs e 0) (m + 1))
 
 pub record AnyTaken (n m : ℕ) (xs lined : List ℕ) : Type 0 where
   pub groups : List (List ℕ)
@@ -64,7 +64,7 @@ pub record AnyTaken (n m : ℕ) (xs lined : List ℕ) : Type 0 where
 
 pub record Entered (k : ℕ) (done es : List ℕ) (again : Bool) (xs : List ℕ) : Type 0 where
   pub repeated : again ≡ repeats (done ++ es)
-  pub earlier : (e : ℕ) → e < 128 → member e done ≡ (ltb 0 (getD xs e 0) && ltb (getD xs e 0) k)
+  pub earlier : (e : ℕ) → e < 128 → isIn e done ≡ (ltb 0 (getD xs e 0) && ltb (getD xs e 0) k)
   pub stands : again ≡ false → Stands k xs done es
 
 abbrev pub Enters : ℕ → List ℕ → List ℕ → Bool → List ℕ → Type 0

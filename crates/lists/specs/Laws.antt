@@ -12,7 +12,7 @@ use lib.ListN.{length, getD, replicate, length-append, List·getD-append, take}
 use lib.Seq.{ext-getD, getD-append-add, getD-append-seam, take-suc}
 use lib.Dec.{eqb, ltb, leb}
 use borrow.Author.Tests.{eq-eqb, ne-eqb, eqb-true, lt-ltb, le-ltb, le-leb, lt-leb, ltb-true, leb-false}
-use Rattle.spec.specs.Lists.{In, from, upTo, any, every, count, keep, first, lowest, sumOf, asCount, flat, greatest, member}
+use Rattle.spec.specs.Lists.{In, from, upTo, any, every, count, keep, first, lowest, sumOf, asCount, flat, greatest, isIn}
 
 abbrev pub here : {A : Type 0} {x : A} {xs : List A} → In x (x ∷ xs)
 here = List·Memᴰ·head refl
@@ -342,12 +342,12 @@ pub all-below : (n : ℕ) (xs : List ℕ) → (any (leb n) xs ≡ false) ↔ ((x
 all-below n xs = (λ h x m. leb-false n x (any-none (leb n) xs h x m), λ h. none-any (leb n) xs (λ x m. lt-leb n x (h x m)))
 
 -- a number that stands in a list
-pub member-is : (x : ℕ) (xs : List ℕ) → (member x xs ≡ true) ↔ (0 < count (eqb x) xs)
-unfolding member
+pub member-is : (x : ℕ) (xs : List ℕ) → (isIn x xs ≡ true) ↔ (0 < count (eqb x) xs)
+unfolding isIn
 member-is x xs = (λ h. ltb-true 0 (count (eqb x) xs) (sym (any-count (eqb x) xs) ∙ h), λ h. any-count (eqb x) xs ∙ lt-ltb 0 (count (eqb x) xs) h)
 
 pub counted-in : (x : ℕ) (xs : List ℕ) → 0 < count (eqb x) xs → In x xs
-unfolding member
+unfolding isIn
 counted-in x xs h = let r = any-found (eqb x) xs (member-is x xs .1 h) in subst (λ (y : ℕ). In y xs) (sym (eqb-true x (r .0) (r .2))) (r .1)
 
 pub length-map : {A B : Type 0} (f : A → B) (xs : List A) → length (map f xs) ≡ length xs

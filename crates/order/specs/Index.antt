@@ -8,7 +8,7 @@ use mathlib.Core.List.{List, [], _∷_, _++_}
 use lib.ListN.{length, getD, take}
 use lib.Dec.{eqb}
 use borrow.Author.Tests.{lt-ltb, le-ltb}
-use Rattle.spec.specs.Lists.{count, flat, member, sumOf}
+use Rattle.spec.specs.Lists.{count, flat, isIn, sumOf}
 use Rattle.spec.specs.Arrangement.{times, index}
 use Rattle.lists.specs.Laws.{count-append, count-flat, any-count, sumOf-append}
 
@@ -26,11 +26,11 @@ module _ (e : ℕ) where
 
   -- the equations of `index`
   pub index-here : (l : List ℕ) (ls : List (List ℕ)) → 0 < count (eqb e) l → index e (l ∷ ls) ≡ 0
-  unfolding index member
+  unfolding index isIn
   index-here l ls h = rw (any-count (eqb e) l, lt-ltb 0 (count (eqb e) l) h)
 
   pub index-there : (l : List ℕ) (ls : List (List ℕ)) → count (eqb e) l ≡ 0 → index e (l ∷ ls) ≡ suc (index e ls)
-  unfolding index member
+  unfolding index isIn
   index-there l ls h = rw (any-count (eqb e) l, le-ltb 0 (count (eqb e) l) (le-of-eq h))
 
   -- e stands in the first line, or it does not

@@ -7,7 +7,7 @@ use mathlib.Core.List.{List, [], append-nil}
 use native.Mathlib.Omega.{arith}
 use lib.ListN.{length}
 use borrow.Author.Tests.{lt-ltb}
-use Rattle.spec.specs.Lists.{flat, upTo, from, first, lowest, member}
+use Rattle.spec.specs.Lists.{flat, upTo, from, first, lowest, isIn}
 use Rattle.spec.specs.Answer.{Answer, gives, refuses, _>>=_, _>>_, refuse_at?_}
 use Rattle.spec.specs.Text.{linesOf, byLines}
 use Rattle.spec.specs.Record.{RunRecord}
@@ -46,7 +46,7 @@ module _ (R : RunRecord) (text : List ℕ) where
 lowest-held : {n k : ℕ} {xs t : List ℕ} (gs : List (List ℕ)) (R : RunRecord) → n ≤ 128 → TellsOrder n t R → Stands k xs (flat gs) [] → lowest (missingIn xs) n ≡ lowest (missing gs) (length (R .events))
 unfolding lowest upTo missingIn missing
 lowest-held {n} gs R few o s =
-    first-same _ _ 0 n (λ e l. ap not (sym (ap (member e) (sym (append-nil (flat gs))) ∙ s .come e (omega arith)))) ∙ ap (λ (j : ℕ). first (missing gs) (from 0 j)) (o .events)
+    first-same _ _ 0 n (λ e l. ap not (sym (ap (isIn e) (sym (append-nil (flat gs))) ∙ s .come e (omega arith)))) ∙ ap (λ (j : ℕ). first (missing gs) (from 0 j)) (o .events)
 
 -- ---- by the first line that breaks the order
 

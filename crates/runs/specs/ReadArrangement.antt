@@ -12,7 +12,7 @@ use lib.ListN.{length, getD, take}
 use lib.Seq.{take-append-seam, take-append-le, getD-append-seam, take-length}
 use lib.Dec.{eqb, leb}
 use borrow.Author.Tests.{ne-eqb}
-use Rattle.spec.specs.Lists.{In, any, count, flat, lowest, member}
+use Rattle.spec.specs.Lists.{In, any, count, flat, lowest, isIn}
 use Rattle.spec.specs.Answer.{gives, _>>=_, _>>_, refuse_at_when_, refuse_at?_}
 use Rattle.spec.specs.Text.{Line, linesOf, byLines, mostDigits}
 use Rattle.spec.specs.Forms.{numbersOf}
@@ -38,16 +38,16 @@ use Rattle.runs.specs.Unbroken.{keeps-unbroken, unbroken-keeps}
 no-repeats : (es : List ℕ) → ((e : ℕ) → count (eqb e) es ≤ 1) → repeats es ≡ false
 unfolding repeats
 no-repeats [] h = refl
-no-repeats (x ∷ es) h = elim (true-or-false (member x es)) [
+no-repeats (x ∷ es) h = elim (true-or-false (isIn x es)) [
   | inl a ↦ absurd (omega (arith, h x, count-cons (eqb x) x es, eqb-count x x refl, member-is x es .0 a))
   | inr a ↦ rw a (no-repeats es (λ e. omega (arith, h e, count-cons (eqb e) x es)))
 ]
 
 pub once-each : (es : List ℕ) → repeats es ≡ false → (e : ℕ) → count (eqb e) es ≤ 1
-unfolding repeats count member
+unfolding repeats count isIn
 once-each [] h e = zero-le
 once-each (x ∷ es) h e =
-    let z = or-false (member x es) (repeats es) h in
+    let z = or-false (isIn x es) (repeats es) h in
     elim (ℕ-discrete e x) [
       | yes q ↦ omega (arith, count-cons (eqb e) x es, one-le (eqb e x), ap (λ (y : ℕ). count (eqb y) es) q, count-none (eqb x) es (any-none (eqb x) es (z .0)))
       | no q ↦ omega (arith, count-cons (eqb e) x es, neqb-count e x q, once-each es (z .1) e)

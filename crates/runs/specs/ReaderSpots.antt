@@ -12,7 +12,7 @@ use mathlib.Core.List.{List, [], _∷_, _++_, map, List·Memᴰ·head, List·Mem
 use lib.ListN.{length, length-append, length-map}
 use lib.Dec.{eqb, ltb, leb}
 use borrow.Author.Tests.{eq-eqb, eqb-true, eqb-false, ltb-true, ltb-false, leb-true, leb-false}
-use Rattle.spec.specs.Lists.{In, upTo, any, count, first, flat, member}
+use Rattle.spec.specs.Lists.{In, upTo, any, count, first, flat, isIn}
 use Rattle.spec.specs.Order.{hasPath, isStrictlyBefore, isNotLater}
 use Rattle.spec.specs.Text.{Line, linesOf, byLines, rowOf, mostDigits}
 use Rattle.spec.specs.Forms.{isAlone, isOne, isTwo, isThree, valueOf, numbersOf}
@@ -274,8 +274,8 @@ two-left n d e xs b o l m q p r = omega (arith, numbers-few n (d ∷ e ∷ xs) k
           ]
         ]
 
-none-counted : (x : ℕ) (xs : List ℕ) → member x xs ≡ false → count (eqb x) xs ≡ 0
-unfolding member
+none-counted : (x : ℕ) (xs : List ℕ) → isIn x xs ≡ false → count (eqb x) xs ≡ 0
+unfolding isIn
 none-counted x xs h = count-none (eqb x) xs (any-none (eqb x) xs h)
 
 module _ (N : Net) (R : RunRecord) (I : IsProcess N R) where
@@ -285,12 +285,12 @@ module _ (N : Net) (R : RunRecord) (I : IsProcess N R) where
   -- a predecessor that is late is another event, and in no line before
   late-apart : (done now : List ℕ) (e d : ℕ) → late R done now e d ≡ true → (d ≢ e) × (count (eqb d) done ≡ 0)
   unfolding late isNotLater
-  late-apart done now e d h = elim (or-true (isStrictlyBefore R d e && not (member d done)) (isNotLater R d e && not (member d (done ++ now))) h) [
+  late-apart done now e d h = elim (or-true (isStrictlyBefore R d e && not (isIn d done)) (isNotLater R d e && not (isIn d (done ++ now))) h) [
     | inl a ↦
-        let z = and-true (isStrictlyBefore R d e) (not (member d done)) a in
+        let z = and-true (isStrictlyBefore R d e) (not (isIn d done)) a in
         (λ q. I .process .acyclic e (strict-is N R (I .wellFormed) e e .0 (rw q at (z .0))), none-counted d done (not-is-true _ (z .1)))
     | inr a ↦
-        let z = and-true (isNotLater R d e) (not (member d (done ++ now))) a in
+        let z = and-true (isNotLater R d e) (not (isIn d (done ++ now))) a in
         let y = and-true (not (eqb d e)) (hasPath R d e) (z .0) in
         (eqb-false d e (not-is-true _ (y .0)), omega (arith, none-counted d (done ++ now) (not-is-true _ (z .1)), count-append (eqb d) done now))
   ]

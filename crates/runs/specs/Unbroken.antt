@@ -8,7 +8,7 @@ use native.Mathlib.Omega.{arith}
 use mathlib.Core.Bool.{true, false, not, _&&_}
 use mathlib.Core.List.{List, [], _++_}
 use lib.ListN.{length, getD, take}
-use Rattle.spec.specs.Lists.{In, any, flat, upTo, member}
+use Rattle.spec.specs.Lists.{In, any, flat, upTo, isIn}
 use Rattle.spec.specs.Net.{Net}
 use Rattle.spec.specs.Record.{RunRecord}
 use Rattle.spec.specs.Order.{isStrictlyBefore, isNotLater}
@@ -25,7 +25,7 @@ use Rattle.runs.specs.Lines.{stands-in, line-below, line-inside, line-in
 
 -- d stands where it must for event e of the line
 abbrev InTime : RunRecord → List ℕ → List ℕ → ℕ → ℕ → Type 0
-InTime R done now e d = (isStrictlyBefore R d e ≡ true → member d done ≡ true) × (isNotLater R d e ≡ true → member d (done ++ now) ≡ true)
+InTime R done now e d = (isStrictlyBefore R d e ≡ true → isIn d done ≡ true) × (isNotLater R d e ≡ true → isIn d (done ++ now) ≡ true)
 
 module _ (R : RunRecord) (done now : List ℕ) where
   abbrev events : List ℕ
@@ -34,7 +34,7 @@ module _ (R : RunRecord) (done now : List ℕ) where
   late-is : (e d : ℕ) → (late R done now e d ≡ false) ↔ InTime R done now e d
   unfolding late
   late-is e d = (
-    λ h. let z = or-false (isStrictlyBefore R d e && not (member d done)) (isNotLater R d e && not (member d (done ++ now))) h in (and-not _ _ .0 (z .0), and-not _ _ .0 (z .1)),
+    λ h. let z = or-false (isStrictlyBefore R d e && not (isIn d done)) (isNotLater R d e && not (isIn d (done ++ now))) h in (and-not _ _ .0 (z .0), and-not _ _ .0 (z .1)),
     λ h. false-or (and-not _ _ .1 (h .0)) (and-not _ _ .1 (h .1)),
   )
 
@@ -48,7 +48,7 @@ module _ (R : RunRecord) (done now : List ℕ) where
 -- ---- arrangements
 
 -- an event stands in the first k lines exactly where its line's index is below k
-stands-before : (n : ℕ) (lines : List (List ℕ)) → Arrangement n lines → (d k : ℕ) → d < n → (member d (flat (take k lines)) ≡ true) ↔ (index d lines < k)
+stands-before : (n : ℕ) (lines : List (List ℕ)) → Arrangement n lines → (d k : ℕ) → d < n → (isIn d (flat (take k lines)) ≡ true) ↔ (index d lines < k)
 unfolding times
 stands-before n lines A d k l =
     let z = member-is d (flat (take k lines)) in (λ h. placed d k lines (z .0 h), λ h. z .1 (place-of d k lines (stands-in n lines A d l) h))

@@ -73,5 +73,5 @@ unfoldable pub lowest : (ℕ → Bool) → ℕ → Option ℕ
 lowest p n = first p (upTo n)
 
 -- the number stands in the list
-unfoldable pub member : ℕ → List ℕ → Bool
-member x xs = any (eqb x) xs
+unfoldable pub isIn : ℕ → List ℕ → Bool
+isIn x xs = any (eqb x) xs

@@ -1,6 +1,6 @@
 -- For the modules of computed cases: what opens every definition of document 01, so that they compute. It says
 -- nothing of its own.
-use Rattle.spec.specs.Lists.{from, upTo, any, every, count, keep, first, sumOf, flat, asCount, sum, greatest, lowest, member}
+use Rattle.spec.specs.Lists.{from, upTo, any, every, count, keep, first, sumOf, flat, asCount, sum, greatest, lowest, isIn}
 use Rattle.spec.specs.Answer.{_>>=_, _>>_, refuse_at_when_, refuse_at?_, found, returned}
 use Rattle.spec.specs.Text.{named, inDigits, classOf, digitOf, classAndDigit, alike, isA, onFirst, linesOf, byLines, needlessZero, isNumber, valueFrom, grow, pieces, isDash, fieldOf, letterOf, letterIn, fieldsOf, rowOf, digitByte, digits, fieldBytes, fieldsBytes, lineWith}
 use Rattle.spec.specs.Forms.{isAlone, isOne, isTwo, isThree, isList, numbersOf}
@@ -22,7 +22,7 @@ use Rattle.spec.specs.Runs.{markingAt, asSteps, eventLines, stepLine, lo
 use Rattle.spec.specs.Quoted.{ascii, asText, unended, same, refused, given, passes, atMost, zerosBut}
 
 unfoldable openLists : Unit {0}
-unfolding from upTo any every count keep first sumOf flat asCount sum greatest lowest member
+unfolding from upTo any every count keep first sumOf flat asCount sum greatest lowest isIn
 openLists = tt
 
 unfoldable openAnswer : Unit {0}

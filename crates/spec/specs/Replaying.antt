@@ -4,7 +4,7 @@ use mathlib.Core.Bool.{Bool, true, false, not, _&&_, _||_, cond}
 use mathlib.Core.List.{List, [], _∷_, _++_, map}
 use lib.ListN.{length, replicate, take}
 use lib.Dec.{ltb, leb}
-use Rattle.spec.specs.Lists.{any, upTo, lowest, flat, member}
+use Rattle.spec.specs.Lists.{any, upTo, lowest, flat, isIn}
 use Rattle.spec.specs.Answer.{Answer, gives, refuses, _>>=_, _>>_, refuse_at_when_, refuse_at?_}
 use Rattle.spec.specs.Text.{Line, linesOf, byLines, mostDigits}
 use Rattle.spec.specs.Forms.{isList, numbersOf}
@@ -24,14 +24,14 @@ isGroupLine l = l .ended && isList mostDigits LetterG (l .bytes)
 -- a number stands twice in the list
 unfoldable pub repeats : List ℕ → Bool
 repeats [] = false
-repeats (e ∷ es) = member e es || repeats es
+repeats (e ∷ es) = isIn e es || repeats es
 
 -- "It keeps the order if strict predecessors stand in earlier lines and weak ones no later.": d is strictly before e
 -- and in no earlier line, or not later than e and in no line up to this one
 unfoldable pub late : RunRecord → List ℕ → List ℕ → ℕ → ℕ → Bool
 late r done now e d =
-    (isStrictlyBefore r d e && not (member d done))
-    || (isNotLater r d e && not (member d (done ++ now)))
+    (isStrictlyBefore r d e && not (isIn d done))
+    || (isNotLater r d e && not (isIn d (done ++ now)))
 
 -- the line breaks the order: some event of it has a predecessor that is late
 unfoldable pub breaks : RunRecord → List ℕ → List ℕ → Bool
@@ -47,7 +47,7 @@ groupsLine r k l gs = do
   gives (gs ++ es ∷ [])
 
 unfoldable pub missing : List (List ℕ) → ℕ → Bool
-missing gs e = not (member e (flat gs))
+missing gs e = not (isIn e (flat gs))
 
 unfoldable pub readArrangement : RunRecord → List ℕ → Answer (List (List ℕ))
 readArrangement r text = do
