@@ -22,7 +22,7 @@ use Rattle.spec.specs.Runs.{TwoEvents, StandsEarlier, InEvery, InNone}
 -- ---- "For every accepted net and record, the arrangement written puts each event into one of its steps, none of
 -- them empty, and keeps the order. Every other arrangement that keeps it has at least the returned count of steps."
 
--- The lines are those of the arrangement that is written; the count returned is how many they are.
+-- `written` is the arrangement that is written; the count returned is how many lines it has.
 pub record WritesShortest (net text : List ℕ) (R : RunRecord) : Type 0 where
   pub written : List (List ℕ)
   pub writes : (room : ℕ) → 768 ≤ room
@@ -74,7 +74,7 @@ pub record TableSays (net text : List ℕ) (R : RunRecord) : Type 0 where
   pub weak : (e f : ℕ) → TwoEvents R e f
       → ((entryAt (answer .table) e f ≡ 1) ⊎ (entryAt (answer .table) e f ≡ 2)) ↔ NotLater R e f
 
--- ---- the three together, of an accepted record
+-- ---- all of this together, of an accepted record
 
 pub record OrderOfRuns (net text : List ℕ) (N : Net) (R : RunRecord) : Type 0 where
   pub arranging : WritesShortest net text R
