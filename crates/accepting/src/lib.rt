@@ -2,46 +2,35 @@
 ghost use mathlib.Core.Path.{_≡_};
 ghost use Prim.Native.Nat.{_<_, _≤_};
 ghost use lib.ListN.{length};
-ghost use Rattle.spec.specs.Answer.{returned};
 ghost use Rattle.spec.specs.Net.{Net as NetD};
 ghost use Rattle.spec.specs.Record.{RunRecord, bench};
-ghost use Rattle.net.specs.Holds.{answerOf as netAnswerOf, netAt, Blank as NetBlank};
+ghost use Rattle.net.specs.Holds.{netAt, Blank as NetBlank};
 ghost use Rattle.net.specs.declared.Net.{Net as NetA};
-ghost use Rattle.record.specs.Reads.{answerOf as recordAnswerOf, Blank as RecordBlank};
+ghost use Rattle.record.specs.Reads.{Blank as RecordBlank};
 ghost use Rattle.held.specs.Held.{Held, Sound};
 ghost use Rattle.accepting.specs.Relation.{Blank, HasMarks, Ordered};
-ghost use Rattle.accepting.specs.Accepting.{verdictOf, isGiven, nothing, Within, Judges, Accepts, Keeps};
+ghost use Rattle.accepting.specs.Accepting.{Within, Judges, Accepts, Keeps};
 use arc_rules::wrong_arcs;
 use arc_rules::wrong_initial;
 use mark_rules::walk_marks;
 use mark_rules::wrong_marks;
 use net::NetAnswer;
+use net::NetRefusal;
 use net::read_into;
 use reach::close;
 use record::Counts;
 use record::RecordAnswer;
+use record::RecordRefusal;
 use record::read_record;
 use row_facts::first_loop;
 use row_pairs::raise_conditions;
 use row_pairs::raise_marks;
 use spec::Limits;
 
-// Why a net and a record are not accepted, with the spot: a line, or the lowest transition, place or event.
+// Why a net and a record are not accepted: the net, or the record under it.
 pub enum Refusal {
-    NetMalformed(usize),
-    NetLimitPassed(usize),
-    NetUndeclared(usize),
-    ArcRepeated(usize),
-    Lacking(usize),
-    Malformed(usize),
-    LimitPassed(usize),
-    Undeclared(usize),
-    MarkedAlready(usize),
-    WrongInitial(usize),
-    WrongArcs(usize),
-    WrongMarks(usize),
-    WrongKind(usize),
-    BeforeItself(usize),
+    Net(NetRefusal),
+    Record(RecordRefusal),
 }
 
 pub enum Verdict {
@@ -92,15 +81,6 @@ pub fn order(s: Counts, rec: &[u8], w: &mut [u64; 512]) -> usize
 
 // ---- accepting
 
-fn given(v: Verdict) -> bool
-    ensures { λ r. ⌜ r ≡ isGiven v ⌝ }
-{
-    match v {
-        Verdict::Given => true,
-        Verdict::Refused(_) => false,
-    }
-}
-
 // The rules 35 to 39, each over the whole record before the next. Where none is broken the closed order is in the rows.
 fn judge(
     places: usize,
@@ -116,60 +96,33 @@ fn judge(
 {
     let p = wrong_initial(places, tokens, s, rec);
     if p < places {
-        return Verdict::Refused(Refusal::WrongInitial(p));
+        return Verdict::Refused(Refusal::Record(RecordRefusal::WrongInitial(p)));
     }
     let d = wrong_arcs(places, arcs, s, rec);
     if d < s.events {
-        return Verdict::Refused(Refusal::WrongArcs(d));
+        return Verdict::Refused(Refusal::Record(RecordRefusal::WrongArcs(d)));
     }
     let mut sums = [0u32; 128];
     let f = walk_marks(s, rec, arcs, &mut sums, w);
     let e = wrong_marks(places, transitions, arcs, s, rec, &sums);
     if e < s.events {
-        return Verdict::Refused(Refusal::WrongMarks(e));
+        return Verdict::Refused(Refusal::Record(RecordRefusal::WrongMarks(e)));
     }
     if f < s.events {
-        return Verdict::Refused(Refusal::WrongKind(f));
+        return Verdict::Refused(Refusal::Record(RecordRefusal::WrongKind(f)));
     }
     let g = close_pairs(s, rec, w);
     if g < s.events {
-        return Verdict::Refused(Refusal::BeforeItself(g));
+        return Verdict::Refused(Refusal::Record(RecordRefusal::BeforeItself(g)));
     }
     Verdict::Given
 }
 
-// A net's answer without its values.
-fn of_net(a: NetAnswer) -> Verdict
-    ensures { λ r. ⌜ verdictOf r ≡ returned nothing (netAnswerOf a) ⌝ }
-{
-    match a {
-        NetAnswer::Accepted(_, _) => Verdict::Given,
-        NetAnswer::Malformed(k) => Verdict::Refused(Refusal::NetMalformed(k)),
-        NetAnswer::LimitPassed(k) => Verdict::Refused(Refusal::NetLimitPassed(k)),
-        NetAnswer::Undeclared(k) => Verdict::Refused(Refusal::NetUndeclared(k)),
-        NetAnswer::ArcRepeated(k) => Verdict::Refused(Refusal::ArcRepeated(k)),
-        NetAnswer::Lacking(t) => Verdict::Refused(Refusal::Lacking(t)),
-    }
-}
-
-// A record's answer.
-fn of_record(a: RecordAnswer) -> Verdict
-    ensures { λ r. ⌜ verdictOf r ≡ recordAnswerOf a ⌝ }
-{
-    match a {
-        RecordAnswer::Read => Verdict::Given,
-        RecordAnswer::Malformed(k) => Verdict::Refused(Refusal::Malformed(k)),
-        RecordAnswer::LimitPassed(k) => Verdict::Refused(Refusal::LimitPassed(k)),
-        RecordAnswer::Undeclared(k) => Verdict::Refused(Refusal::Undeclared(k)),
-        RecordAnswer::MarkedAlready(k) => Verdict::Refused(Refusal::MarkedAlready(k)),
-    }
-}
-
-fn refused(verdict: Verdict) -> Accepted
-    ensures { λ r. ⌜ r .verdict ≡ verdict ⌝ }
+fn refused(why: Refusal) -> Accepted
+    ensures { λ r. ⌜ r .verdict ≡ Verdict.Refused why ⌝ }
 {
     Accepted {
-        verdict,
+        verdict: Verdict::Refused(why),
         places: 0,
         events: 0,
         conditions: 0,
@@ -190,21 +143,21 @@ pub fn accept(
     requires { ⌜ Within lim × NetBlank (now tokens) (now arcs) × RecordBlank (now rec) × Blank (now w) ⌝ }
     ensures { λ r. ⌜ (length (now (w .exit)) ≡ length (now (w .entry))) × Accepts lim (now (net .entry)) (now (text .entry)) r (now (w .exit)) × Keeps lim (now (net .entry)) (now (text .entry)) r (now (tokens .exit)) (now (arcs .exit)) (now (rec .exit)) ⌝ }
 {
-    let answer = read_into(net, tokens, arcs);
-    if let NetAnswer::Accepted(places, transitions) = answer {
-        let read = read_record(lim, places, transitions, text, rec);
-        let told = read.answer;
-        let verdict = of_record(told);
-        if !given(verdict) {
-            return refused(verdict);
+    match read_into(net, tokens, arcs) {
+        NetAnswer::Refused(why) => refused(Refusal::Net(why)),
+        NetAnswer::Accepted(places, transitions) => {
+            let read = read_record(lim, places, transitions, text, rec);
+            let answer = read.answer;
+            if let RecordAnswer::Refused(why) = answer {
+                return refused(Refusal::Record(why));
+            }
+            let s = read.counts;
+            Accepted {
+                verdict: judge(places, transitions, tokens, arcs, s, rec, w),
+                places,
+                events: s.events,
+                conditions: s.conditions,
+            }
         }
-        let s = read.counts;
-        return Accepted {
-            verdict: judge(places, transitions, tokens, arcs, s, rec, w),
-            places,
-            events: s.events,
-            conditions: s.conditions,
-        };
     }
-    refused(of_net(answer))
 }

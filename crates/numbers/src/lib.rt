@@ -2,7 +2,9 @@
 ghost use mathlib.Core.Path.{_≡_};
 ghost use Rattle.spec.specs.Answer.{gives, refuses};
 ghost use Rattle.spec.specs.Values.{asNumbers};
-ghost use Rattle.net.specs.Holds.{answerOf as netAnswer};
+ghost use Rattle.lines.specs.Agree.{refusedAs};
+ghost use Rattle.net.specs.Holds.{netRefusal, answerOf as netAnswer};
+ghost use Rattle.record.specs.Reads.{recordRefusal};
 ghost use Rattle.building.specs.Holds.{buildAnswer};
 ghost use Rattle.accepting.specs.Accepting.{refusedBy};
 ghost use Rattle.checking.specs.Checking.{checkOf};
@@ -16,6 +18,8 @@ use arranging::ArrangeAnswer;
 use building::BuildAnswer;
 use checking::CheckAnswer;
 use net::NetAnswer;
+use net::NetRefusal;
+use record::RecordRefusal;
 use refused::LineAnswer;
 use replaying::ReplayAnswer;
 use spec::Numbers;
@@ -44,17 +48,26 @@ fn refused(number: u64, spot: usize) -> Numbers
     }
 }
 
+// What a net is refused for, by every operation.
+fn of_net_refusal(x: NetRefusal) -> Numbers
+    ensures { λ r. ⌜ r ≡ asNumbers (refusedAs (netRefusal x)) ⌝ }
+{
+    match x {
+        NetRefusal::Malformed(k) => refused(11, k),
+        NetRefusal::LimitPassed(k) => refused(12, k),
+        NetRefusal::Undeclared(k) => refused(13, k),
+        NetRefusal::ArcRepeated(k) => refused(14, k),
+        NetRefusal::Lacking(t) => refused(15, t),
+    }
+}
+
 // Reading a net: places and transitions.
 pub fn of_net(x: NetAnswer) -> Numbers
     ensures { λ r. ⌜ r ≡ asNumbers (netAnswer x) ⌝ }
 {
     match x {
         NetAnswer::Accepted(p, t) => accepted(p, t, 0),
-        NetAnswer::Malformed(k) => refused(11, k),
-        NetAnswer::LimitPassed(k) => refused(12, k),
-        NetAnswer::Undeclared(k) => refused(13, k),
-        NetAnswer::ArcRepeated(k) => refused(14, k),
-        NetAnswer::Lacking(t) => refused(15, t),
+        NetAnswer::Refused(y) => of_net_refusal(y),
     }
 }
 
@@ -65,11 +78,7 @@ pub fn of_build(x: BuildAnswer) -> Numbers
     match x {
         BuildAnswer::Written(n) => accepted(n, 0, 0),
         BuildAnswer::BufferShort => refused(20, 0),
-        BuildAnswer::NetMalformed(k) => refused(11, k),
-        BuildAnswer::NetLimitPassed(k) => refused(12, k),
-        BuildAnswer::NetUndeclared(k) => refused(13, k),
-        BuildAnswer::ArcRepeated(k) => refused(14, k),
-        BuildAnswer::Lacking(t) => refused(15, t),
+        BuildAnswer::Net(y) => of_net_refusal(y),
         BuildAnswer::Malformed(k) => refused(21, k),
         BuildAnswer::UnknownTransition(k) => refused(22, k),
         BuildAnswer::OverEvents(k) => refused(23, k),
@@ -80,25 +89,30 @@ pub fn of_build(x: BuildAnswer) -> Numbers
     }
 }
 
+// What a record is refused for.
+fn of_record_refusal(x: RecordRefusal) -> Numbers
+    ensures { λ r. ⌜ r ≡ asNumbers (refusedAs (recordRefusal x)) ⌝ }
+{
+    match x {
+        RecordRefusal::Malformed(k) => refused(31, k),
+        RecordRefusal::LimitPassed(k) => refused(32, k),
+        RecordRefusal::Undeclared(k) => refused(33, k),
+        RecordRefusal::MarkedAlready(k) => refused(34, k),
+        RecordRefusal::WrongInitial(p) => refused(35, p),
+        RecordRefusal::WrongArcs(e) => refused(36, e),
+        RecordRefusal::WrongMarks(e) => refused(37, e),
+        RecordRefusal::WrongKind(e) => refused(38, e),
+        RecordRefusal::BeforeItself(e) => refused(39, e),
+    }
+}
+
 // What a net or a record is refused for, by the check, by replaying and by arranging.
 fn of_refusal(x: Refusal) -> Numbers
     ensures { λ r. ⌜ r ≡ asNumbers (refusedBy x) ⌝ }
 {
     match x {
-        Refusal::NetMalformed(k) => refused(11, k),
-        Refusal::NetLimitPassed(k) => refused(12, k),
-        Refusal::NetUndeclared(k) => refused(13, k),
-        Refusal::ArcRepeated(k) => refused(14, k),
-        Refusal::Lacking(t) => refused(15, t),
-        Refusal::Malformed(k) => refused(31, k),
-        Refusal::LimitPassed(k) => refused(32, k),
-        Refusal::Undeclared(k) => refused(33, k),
-        Refusal::MarkedAlready(k) => refused(34, k),
-        Refusal::WrongInitial(p) => refused(35, p),
-        Refusal::WrongArcs(e) => refused(36, e),
-        Refusal::WrongMarks(e) => refused(37, e),
-        Refusal::WrongKind(e) => refused(38, e),
-        Refusal::BeforeItself(e) => refused(39, e),
+        Refusal::Net(y) => of_net_refusal(y),
+        Refusal::Record(y) => of_record_refusal(y),
     }
 }
 

@@ -4,7 +4,7 @@ use mathlib.Core.Path.{_≡_}
 use mathlib.Core.Bool.{Bool, true, false}
 use mathlib.Core.List.{List, _∷_}
 use lib.ListN.{length, getD, drop}
-use Rattle.spec.specs.Answer.{Answer, gives, refuses}
+use Rattle.spec.specs.Answer.{Answer, gives}
 use Rattle.spec.specs.Text.{Line, linesOf, byLines}
 use Rattle.spec.specs.Net.{Net, places}
 use Rattle.spec.specs.Record.{RunRecord, Condition, Mark}
@@ -12,29 +12,36 @@ use Rattle.spec.specs.Checking.{eventOf, enterLine, emptyRecord}
 use Rattle.spec.specs.declared.Field.{Field}
 use Rattle.spec.specs.declared.MarkKind.{MarkKind}
 use Rattle.spec.specs.declared.Limits.{Limits}
-use Rattle.lines.specs.Agree.{Agrees}
+use Rattle.lines.specs.Agree.{Agrees, refusedAs}
 use Rattle.record.specs.Holds.{HoldsRecord, HoldsBits}
 use Rattle.record.specs.declared.Counts.{Counts}
 use Rattle.record.specs.declared.RecordRead.{RecordRead}
 use Rattle.record.specs.declared.Took.{Took}
 use Rattle.record.specs.declared.RecordAnswer.{RecordAnswer}
-use Rattle.record.specs.declared.RecordAnswer.the-variants.{Read, Malformed, LimitPassed, Undeclared, MarkedAlready}
+use Rattle.record.specs.declared.RecordAnswer.the-variants.{Read, Refused}
+use Rattle.record.specs.declared.RecordRefusal.{RecordRefusal}
+use Rattle.record.specs.declared.RecordRefusal.the-variants.{Malformed, LimitPassed, Undeclared, MarkedAlready, WrongInitial, WrongArcs, WrongMarks, WrongKind, BeforeItself}
 
--- the paper's number and spot of an answer
+-- the paper's number and spot of a refusal
+abbrev pub recordRefusal : RecordRefusal → ℕ × ℕ
+recordRefusal (Malformed k) = (31, k)
+recordRefusal (LimitPassed k) = (32, k)
+recordRefusal (Undeclared k) = (33, k)
+recordRefusal (MarkedAlready k) = (34, k)
+recordRefusal (WrongInitial p) = (35, p)
+recordRefusal (WrongArcs e) = (36, e)
+recordRefusal (WrongMarks e) = (37, e)
+recordRefusal (WrongKind e) = (38, e)
+recordRefusal (BeforeItself e) = (39, e)
+
 abbrev pub answerOf : RecordAnswer → Answer (Unit {0})
 answerOf Read = gives tt
-answerOf (Malformed k) = refuses 31 k
-answerOf (LimitPassed k) = refuses 32 k
-answerOf (Undeclared k) = refuses 33 k
-answerOf (MarkedAlready k) = refuses 34 k
+answerOf (Refused x) = refusedAs (recordRefusal x)
 
 -- the reading goes on
 abbrev pub goesOf : RecordAnswer → Bool
 goesOf Read = true
-goesOf (Malformed k) = false
-goesOf (LimitPassed k) = false
-goesOf (Undeclared k) = false
-goesOf (MarkedAlready k) = false
+goesOf (Refused x) = false
 
 -- nothing is returned of a record beside its counts
 abbrev pub noValues : RunRecord → Unit {0}

@@ -9,7 +9,7 @@ ghost use Rattle.lines.specs.Lines.{lineOf};
 ghost use Rattle.plain.specs.Plain.{Opens};
 ghost use Rattle.record.specs.Holds.{eventCode, kindCode, conditionOf, bitOf};
 ghost use lib.ListN.{length};
-ghost use Rattle.record.specs.Reads.{goesOf, Room, Blank, Fits, Declares, Enters, Takes, conditionIn, markOf, ReadsRecord};
+ghost use Rattle.record.specs.Reads.{Room, Blank, Fits, Declares, Enters, Takes, conditionIn, markOf, ReadsRecord};
 use fields::row_of;
 use forms::is_one;
 use forms::is_three;
@@ -52,32 +52,30 @@ pub struct Counts {
     pub marks: usize,
 }
 
-// What the reader answers: that the record is read, or a refusal with its line.
-pub enum RecordAnswer {
-    Read,
+// Why a record is refused: by its reader, with the line, or by a rule of processes, with the lowest place or event. The answers of
+// all operations that take a record hold it.
+pub enum RecordRefusal {
     Malformed(usize),
     LimitPassed(usize),
     Undeclared(usize),
     MarkedAlready(usize),
+    WrongInitial(usize),
+    WrongArcs(usize),
+    WrongMarks(usize),
+    WrongKind(usize),
+    BeforeItself(usize),
+}
+
+// What the reader answers: that the record is read, or a refusal.
+pub enum RecordAnswer {
+    Read,
+    Refused(RecordRefusal),
 }
 
 // The answer to the lines so far, and the counts after them.
 pub struct RecordRead {
     pub answer: RecordAnswer,
     pub counts: Counts,
-}
-
-// Whether the reading goes on.
-fn goes(a: RecordAnswer) -> bool
-    ensures { λ r. ⌜ r ≡ goesOf a ⌝ }
-{
-    match a {
-        RecordAnswer::Read => true,
-        RecordAnswer::Malformed(_) => false,
-        RecordAnswer::LimitPassed(_) => false,
-        RecordAnswer::Undeclared(_) => false,
-        RecordAnswer::MarkedAlready(_) => false,
-    }
 }
 
 // Whether a producer or consumer is none, or an event below n.
@@ -129,10 +127,13 @@ fn entered(events: usize, conditions: usize, marks: usize) -> RecordRead
 }
 
 // The line is refused.
-fn refused(answer: RecordAnswer, s: Counts) -> RecordRead
-    ensures { λ r. ⌜ r ≡ record { answer = answer; counts = s } ⌝ }
+fn refused(why: RecordRefusal, s: Counts) -> RecordRead
+    ensures { λ r. ⌜ r ≡ record { answer = RecordAnswer.Refused why; counts = s } ⌝ }
 {
-    RecordRead { answer, counts: s }
+    RecordRead {
+        answer: RecordAnswer::Refused(why),
+        counts: s,
+    }
 }
 
 // One more event.
@@ -148,13 +149,13 @@ fn enter_event(
     ensures { λ r. ⌜ ((N : Net) → N .transitions ≡ transitions → Enters s (now (rec .entry)) (enterEvent lim N k t) r (now (rec .exit))) ⌝ }
 {
     if (s.conditions != 0) | (s.marks != 0) {
-        return refused(RecordAnswer::Malformed(k), s);
+        return refused(RecordRefusal::Malformed(k), s);
     }
     if lim.events <= s.events {
-        return refused(RecordAnswer::LimitPassed(k), s);
+        return refused(RecordRefusal::LimitPassed(k), s);
     }
     if transitions <= t {
-        return refused(RecordAnswer::Undeclared(k), s);
+        return refused(RecordRefusal::Undeclared(k), s);
     }
     let e = s.events;
     rec[e] = t as u8;
@@ -176,14 +177,14 @@ fn enter_condition(
     ensures { λ r. ⌜ ((N : Net) → placesOf N ≡ places → Enters s (now (rec .entry)) (enterCondition lim N k (conditionIn p producer consumer)) r (now (rec .exit))) ⌝ }
 {
     if s.marks != 0 {
-        return refused(RecordAnswer::Malformed(k), s);
+        return refused(RecordRefusal::Malformed(k), s);
     }
     if lim.conditions <= s.conditions {
-        return refused(RecordAnswer::LimitPassed(k), s);
+        return refused(RecordRefusal::LimitPassed(k), s);
     }
     let n = s.events;
     if !((p < places) & event_below(n, producer) & event_below(n, consumer)) {
-        return refused(RecordAnswer::Undeclared(k), s);
+        return refused(RecordRefusal::Undeclared(k), s);
     }
     let c = s.conditions;
     rec[PLACES + c] = p as u8;
@@ -222,19 +223,19 @@ fn enter_mark(
     ensures { λ r. ⌜ Enters s (now (rec .entry)) (enterMark lim k (markOf x c e)) r (now (rec .exit)) ⌝ }
 {
     if lim.marks <= s.marks {
-        return refused(RecordAnswer::LimitPassed(k), s);
+        return refused(RecordRefusal::LimitPassed(k), s);
     }
     if s.conditions <= c {
-        return refused(RecordAnswer::Undeclared(k), s);
+        return refused(RecordRefusal::Undeclared(k), s);
     }
     if s.events <= e {
-        return refused(RecordAnswer::Undeclared(k), s);
+        return refused(RecordRefusal::Undeclared(k), s);
     }
     let at = MARKED + 64 * e + c / 8;
     let i = c % 8;
     let b = rec[at];
     if is_set(b, i) {
-        return refused(RecordAnswer::MarkedAlready(k), s);
+        return refused(RecordRefusal::MarkedAlready(k), s);
     }
     let q = s.marks;
     rec[at] = with_bit(b, i);
@@ -275,7 +276,7 @@ fn enter_row(
     if is_two(Class::LetterA, w) {
         return enter_mark(lim, MarkKind::After, k, a, b, s, rec);
     }
-    refused(RecordAnswer::Malformed(k), s)
+    refused(RecordRefusal::Malformed(k), s)
 }
 
 // A line is entered, if it is ended.
@@ -293,7 +294,7 @@ fn enter_line(
     ensures { λ r. ⌜ ((N : Net) → Declares places transitions N → Enters s (now (rec .entry)) (enterLine lim N k (lineOf (now (l .entry)) ended)) r (now (rec .exit))) ⌝ }
 {
     if !ended {
-        return refused(RecordAnswer::Malformed(k), s);
+        return refused(RecordRefusal::Malformed(k), s);
     }
     enter_row(lim, places, transitions, k, row_of(4, l), s, rec)
 }
@@ -400,8 +401,8 @@ pub fn read_record(
         let step = took.step;
         let answer = step.answer;
         s = step.counts;
-        if !goes(answer) {
-            return refused(answer, s);
+        if let RecordAnswer::Refused(_) = answer {
+            return step;
         }
         k += 1;
         at = took.next;

@@ -32,8 +32,9 @@ build-into-spec = tie.close (tie.spec
       lent-written A (s .args .log .now) (pl .play-log .result .run) _ _ _ E R (i1 .if1 .left),
       λ l w q. lent-noted A (s .args .log .now) (pl .play-log .result .run) _ _ _ E R (omega (arith, pl .play-log .ensures .long, bg .begin .ensures .long)),
     ))
+    (λ c. search needs)
     (λ c κs. tt)
     (λ c κs. tt)
-    (λ c. let on = c .before in let k = on .before in let ri = k .before in let i1 = ri .before .before .before in
+    (λ c. let on = c .before in let k = on .before .before in let ri = k .before in let i1 = ri .before .before .before in
     let F = net-refused (ri .read-into .result) (ri .read-into .ensures) (refused-case (ri .read-into .result) (k .match .keys2)) in
     both (on .of-net .result) (c .unnoted3 .ensures) (build-net _ _ _ (i1 .if1 .left) (F .is)) (refuses-net (ri .read-into .result) (i1 .if1 .left) F (on .of-net .ensures))))
