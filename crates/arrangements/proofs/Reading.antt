@@ -7,17 +7,19 @@ use mathlib.Core.Logic.{inl, inr}
 use native.Mathlib.Decide.{decLe}
 use native.Mathlib.Omega.{arith}
 use lib.Dec.{leb, ltb}
-use lib.ListN.{length, getD, take, drop, replicate, length-append, length-map}
+use lib.ListN.{length, getD, take, drop, replicate, length-append}
 use lib.Seq.{getD-take}
-use borrow.Author.Tests.{leb-true, le-leb, lt-leb, lt-ltb}
-use Rattle.spec.specs.Lists.{In, any, every, flat, isIn}
+use borrow.Author.Tests.{le-leb, lt-leb, lt-ltb}
+use Rattle.spec.specs.Lists.{In, any, flat, isIn}
 use Rattle.spec.specs.Answer.{Answer, gives, refuses, _>>_, refuse_at_when_}
-use Rattle.spec.specs.Text.{Line, linesOf, byLines, alike, isA, classOf, named, inDigits, letterIn, fieldsOf, mostDigits}
-use Rattle.spec.specs.Forms.{aNumber, isList, numbersOf, valueOf}
+use Rattle.spec.specs.Text.{Line, linesOf, byLines, isA, classOf, named, inDigits, mostDigits}
+use Rattle.forms.specs.Rows.{isList, valuesOf}
+use Rattle.forms.proofs.Ties.{list-line, list-some, numbers-are}
+use Rattle.spec.specs.Classes.{alike}
 use Rattle.spec.specs.Record.{RunRecord}
 use Rattle.spec.specs.Replaying.{isGroupLine, repeats, breaks, groupsLine}
 use Rattle.spec.specs.declared.Class.the-variants.{LetterG}
-use Rattle.lists.specs.Laws.{at-in, and-true, and-three, all-below, flat-snoc}
+use Rattle.lists.specs.Laws.{at-in, all-below, flat-snoc}
 use Rattle.lines.specs.Agree.{giving, refusing}
 use Rattle.lines.specs.Lines.{lineOf, LineAt}
 use Rattle.lines.specs.declared.Span.{Span}
@@ -26,6 +28,7 @@ use Rattle.plain.specs.Plain.{Opens}
 use Rattle.number_lines.specs.Numbers.{Begins, Listing, ListAt}
 use Rattle.number_lines.specs.declared.Listed.{Listed}
 use Rattle.number_lines.proofs.Lines.{few-known}
+use Rattle.number_lines.proofs.Listing.{list-to}
 use Rattle.arrangements.specs.Lined.{Stands, Lined, Ordered, Taken, Entered, EntersFrom, AddsLine, brokenFrom}
 use Rattle.arrangements.specs.Arrangement.{answerOf, goesOf, KnownBy, malformed, unknown, known, KnownLine, KnownAt, unlessBroken, ReadsLines}
 use Rattle.arrangements.specs.declared.Known.{Known}
@@ -38,8 +41,8 @@ use Rattle.arrangements.proofs.Ordering.{from-is, ordered-none, ordered
 -- ---- a line by 41 and 42
 
 pub group-line : (l : List ℕ) (ended : Bool) → (ended && isList mostDigits LetterG l) ≡ isGroupLine (lineOf l ended)
-unfolding isGroupLine
-group-line l ended = refl
+unfolding isGroupLine alike classOf named inDigits
+group-line l ended = sym (list-line "G" refl (lineOf l ended))
 
 pub opens-group : Opens 71
 unfolding isA alike classOf named inDigits
@@ -56,29 +59,16 @@ module _ {text : List ℕ} {i : ℕ} {f : Listed} {xs : List ℕ} (r : ListAt (c
   formed : isGroupLine (lineOf (listing .bytes) true) ≡ true
   formed = sym (group-line (listing .bytes) true) ∙ rw (← g-class) (listing .list)
 
-  plain-known : {n k : ℕ} (a : Known) → a .next ≡ f .next → KnownBy n k (lineOf (listing .bytes) true) a xs → KnownAt n k text i a xs
-  plain-known a e b = record {
-    long = r .long;
-    line = lineOf (listing .bytes) true;
-    lines = rw e (listing .lines);
-    on = omega arith;
-    within = omega (arith, listing .within);
-    by = b;
-  }
-
   pub plain-unknown : (n k : ℕ) → n ≤ f .high → KnownAt n k text i (record { answer = Unknown k; count = 0; next = f .next }) xs
-  plain-unknown n k u = plain-known _ refl (unknown refl formed (sym (listing .high n) ∙ le-leb n (f .high) u))
+  plain-unknown n k u = record { long = r .long; found = list-to listing h; by = unknown refl formed (sym (listing .high n) ∙ le-leb n (f .high) u) }
 
   pub plain-kept : (n k : ℕ) → f .high < n → KnownAt n k text i (record { answer = Keeps k; count = f .count; next = f .next }) xs
-  plain-kept n k u = plain-known _ refl (known refl formed (sym (listing .high n) ∙ lt-leb n (f .high) u) (listing .count) (listing .numbers))
+  plain-kept n k u = record { long = r .long; found = list-to listing h; by = known refl formed (sym (listing .high n) ∙ lt-leb n (f .high) u) (listing .count) (listing .numbers) }
 
 pub line-known-at : {n k : ℕ} {text : List ℕ} {i : ℕ} {s : Span} {a : Known} {xs : List ℕ} → LineAt text i s → KnownLine n k (lineOf (take (s .end - i) (drop i text)) (s .ended)) (s .next) a xs → KnownAt n k text i a xs
 line-known-at {text = text} {i} {s} w r = record {
   long = r .long;
-  line = lineOf (take (s .end - i) (drop i text)) (s .ended);
-  lines = rw (r .on) (w .lines);
-  on = omega (arith, r .on, w .start, w .on);
-  within = omega (arith, r .on, w .next);
+  found = record { line = lineOf (take (s .end - i) (drop i text)) (s .ended); lines = rw (r .on) (w .lines); on = omega (arith, r .on, w .start, w .on); within = omega (arith, r .on, w .next) };
   by = r .by;
 }
 
@@ -86,7 +76,7 @@ line-known-at {text = text} {i} {s} w r = record {
 
 module _ (R : RunRecord) (k : ℕ) (l : Line) (gs : List (List ℕ)) where
   abbrev es : List ℕ
-  es = numbersOf mostDigits (l .bytes)
+  es = valuesOf mostDigits (l .bytes)
 
   malformed-line : isGroupLine l ≡ false → groupsLine R k l gs ≡ refuses 41 k
   unfolding groupsLine _>>_ refuse_at_when_
@@ -95,27 +85,25 @@ module _ (R : RunRecord) (k : ℕ) (l : Line) (gs : List (List ℕ)) where
   module _ (a : isGroupLine l ≡ true) where
     unknown-line : any (leb (length (R .events))) es ≡ true → groupsLine R k l gs ≡ refuses 42 k
     unfolding groupsLine _>>_ refuse_at_when_
-    unknown-line b = rw (a, b)
+    unknown-line b = rw (a, numbers-are l, b)
 
     module _ (b : any (leb (length (R .events))) es ≡ false) where
       repeated-line : repeats (flat gs ++ es) ≡ true → groupsLine R k l gs ≡ refuses 43 k
       unfolding groupsLine _>>_ refuse_at_when_
-      repeated-line c = rw (a, b, c)
+      repeated-line c = rw (a, numbers-are l, b, c)
 
       broken-line : repeats (flat gs ++ es) ≡ false → breaks R (flat gs) es ≡ true → groupsLine R k l gs ≡ refuses 44 k
       unfolding groupsLine _>>_ refuse_at_when_
-      broken-line c d = rw (a, b, c, d)
+      broken-line c d = rw (a, numbers-are l, b, c, d)
 
       kept-line : repeats (flat gs ++ es) ≡ false → breaks R (flat gs) es ≡ false → groupsLine R k l gs ≡ gives (gs ++ es ∷ [])
       unfolding groupsLine _>>_ refuse_at_when_
-      kept-line c d = rw (a, b, c, d)
+      kept-line c d = rw (a, numbers-are l, b, c, d)
 
 -- a line of the form has a number
-has-number : (l : Line) → isGroupLine l ≡ true → 0 < length (numbersOf mostDigits (l .bytes))
-unfolding isGroupLine isList numbersOf
-has-number l h =
-    let z = and-three (alike (letterIn (l .bytes)) LetterG) (leb 1 (length (fieldsOf mostDigits (l .bytes)))) (every aNumber (fieldsOf mostDigits (l .bytes))) (and-true (l .ended) (isList mostDigits LetterG (l .bytes)) h .1) in
-    omega (arith, leb-true 1 (length (fieldsOf mostDigits (l .bytes))) (z .1), length-map (fieldsOf mostDigits (l .bytes)) valueOf)
+has-number : (l : Line) → isGroupLine l ≡ true → 0 < length (valuesOf mostDigits (l .bytes))
+unfolding isGroupLine
+has-number l h = list-some l "G" h
 
 -- ---- the first line that breaks the order, with one line more
 
@@ -194,14 +182,14 @@ begun text few e q = rw (e, q) (record {
 -- a line by 41 and 42 that goes on
 record Kept (n : ℕ) (l : Line) (count : ℕ) (events : List ℕ) : Type 0 where
   formed : isGroupLine l ≡ true
-  low : any (leb n) (numbersOf mostDigits (l .bytes)) ≡ false
-  counted : count ≡ length (numbersOf mostDigits (l .bytes))
-  begins : count ≤ 128 → Begins events (numbersOf mostDigits (l .bytes))
+  low : any (leb n) (valuesOf mostDigits (l .bytes)) ≡ false
+  counted : count ≡ length (valuesOf mostDigits (l .bytes))
+  begins : count ≤ 128 → Begins events (valuesOf mostDigits (l .bytes))
 
 kept-of : {n k : ℕ} {l : Line} {a : Known} {events : List ℕ} → n ≤ 128 → KnownBy n k l a events → goesOf (a .answer) ≡ true → Kept n l (a .count) events
 kept-of few (malformed e p) f = absurd (false≢true (sym (ap goesOf e) ∙ f))
 kept-of few (unknown e p q) f = absurd (false≢true (sym (ap goesOf e) ∙ f))
-kept-of {n} {l = l} few (known e p q c b) f = record { formed = p; low = q; counted = c; begins = λ h. b (few-known 256 n (numbersOf mostDigits (l .bytes)) (omega arith) q (omega arith)) }
+kept-of {n} {l = l} few (known e p q c b) f = record { formed = p; low = q; counted = c; begins = λ h. b (few-known 256 n (valuesOf mostDigits (l .bytes)) (omega arith) q (omega arith)) }
 
 module _ {n : ℕ} {text : List ℕ} {k i : ℕ} {xs lined : List ℕ} (g : Reading n text k i xs lined) where
   -- the lines before, and an array in which events of this line may be entered
@@ -216,14 +204,14 @@ module _ {n : ℕ} {text : List ℕ} {k i : ℕ} {xs lined : List ℕ} (g : Read
   }
 
   refused : (a : ArrangementAnswer) (q : ℕ) {xs′ : List ℕ} → goesOf a ≡ false → answerOf a ≡ refuses q k → Taken n (k - 1) xs′ lined (g .groups)
-      → ((R : RunRecord) → n ≡ length (R .events) → refuses q k ≡ byLines (groupsLine R) k (linesOf (drop i text)) (g .groups)) → ReadsLines n text (record { answer = a; lines = k - 1 }) xs′ lined
+      → ((R : RunRecord) → n ≡ length (R .events) → byLines (groupsLine R) k (linesOf (drop i text)) (g .groups) ≡ refuses q k) → ReadsLines n text (record { answer = a; lines = k - 1 }) xs′ lined
   refused a q f e t h = record {
     groups = g .groups;
     taken = t;
     stood = λ z. absurd (true≢false (sym z ∙ f));
     last = refuses q k;
     answer = refusing q k refl e;
-    whole = λ R o. g .whole R o ∙ ap (unlessBroken (brokenFrom R 1 [] (g .groups))) (sym (h R o));
+    whole = λ R o. g .whole R o ∙ ap (unlessBroken (brokenFrom R 1 [] (g .groups))) (h R o);
   }
 
   pub done : length text ≤ i → ReadsLines n text (record { answer = Keeps (k - 1); lines = k - 1 }) xs lined
@@ -233,12 +221,12 @@ module _ {n : ℕ} {text : List ℕ} {k i : ℕ} {xs lined : List ℕ} (g : Read
     stood = λ _. let z : k - 1 + 1 ≡ k = omega (arith, g .stood .lines) in rw z (g .stood);
     last = gives (g .groups);
     answer = let z : k - 1 ≡ length (g .groups) = omega (arith, g .stood .lines) in giving (g .groups) refl (ap (λ (j : ℕ). gives (j, 0, 0)) z) refl;
-    whole = λ R o. g .whole R o ∙ ap (unlessBroken (brokenFrom R 1 [] (g .groups))) (sym (lines-done (groupsLine R) k (g .groups) text i h));
+    whole = λ R o. g .whole R o ∙ ap (unlessBroken (brokenFrom R 1 [] (g .groups))) (lines-done (groupsLine R) k (g .groups) text i h);
   }
 
   module _ {a : Known} {events : List ℕ} (K : KnownAt n k text i a events) where
     abbrev now : List ℕ
-    now = numbersOf mostDigits (K .line .bytes)
+    now = valuesOf mostDigits (K .found .line .bytes)
 
     stranger : (R : RunRecord) → n ≡ length (R .events) → {b : Bool} → any (leb n) now ≡ b → any (leb (length (R .events))) now ≡ b
     stranger R o h = ap (λ (j : ℕ). any (leb j) now) (sym o) ∙ h
@@ -246,13 +234,13 @@ module _ {n : ℕ} {text : List ℕ} {k i : ℕ} {xs lined : List ℕ} (g : Read
     pub stop : goesOf (a .answer) ≡ false → ReadsLines n text (record { answer = a .answer; lines = k - 1 }) xs lined
     stop f = go (K .by)
       where
-        go : KnownBy n k (K .line) a events → ReadsLines n text (record { answer = a .answer; lines = k - 1 }) xs lined
-        go (malformed e p) = rw e (refused (Malformed k) 41 refl refl (taken-of (g .stood .stands .earlier)) (λ R o. line-refused (groupsLine R) k (g .groups) (K .lines) (malformed-line R k (K .line) (g .groups) p)))
-        go (unknown e p q) = rw e (refused (Unknown k) 42 refl refl (taken-of (g .stood .stands .earlier)) (λ R o. line-refused (groupsLine R) k (g .groups) (K .lines) (unknown-line R k (K .line) (g .groups) p (stranger R o q))))
+        go : KnownBy n k (K .found .line) a events → ReadsLines n text (record { answer = a .answer; lines = k - 1 }) xs lined
+        go (malformed e p) = rw e (refused (Malformed k) 41 refl refl (taken-of (g .stood .stands .earlier)) (λ R o. line-refused (groupsLine R) k (g .groups) (K .found) (malformed-line R k (K .found .line) (g .groups) p)))
+        go (unknown e p q) = rw e (refused (Unknown k) 42 refl refl (taken-of (g .stood .stands .earlier)) (λ R o. line-refused (groupsLine R) k (g .groups) (K .found) (unknown-line R k (K .found .line) (g .groups) p (stranger R o q))))
         go (known e p q c b) = absurd (true≢false (sym (ap goesOf e) ∙ f))
 
     module _ (f : goesOf (a .answer) ≡ true) where
-      kept : Kept n (K .line) (a .count) events
+      kept : Kept n (K .found .line) (a .count) events
       kept = kept-of (g .few) (K .by) f
 
       low : (e : ℕ) → In e now → e < n
@@ -284,7 +272,7 @@ module _ {n : ℕ} {text : List ℕ} {k i : ℕ} {xs lined : List ℕ} (g : Read
         ]
           where
             stopped : repeats (flat (g .groups) ++ now) ≡ true → ((e : ℕ) → e < 128 → isIn e (flat (g .groups)) ≡ (ltb 0 (getD xs′ e 0) && ltb (getD xs′ e 0) k)) → ReadsLines n text (record { answer = Repeated k; lines = k - 1 }) xs′ lined
-            stopped c t = refused (Repeated k) 43 refl refl (taken-of t) (λ R o. line-refused (groupsLine R) k (g .groups) (K .lines) (repeated-line R k (K .line) (g .groups) (kept .formed) (stranger R o (kept .low)) c))
+            stopped c t = refused (Repeated k) 43 refl refl (taken-of t) (λ R o. line-refused (groupsLine R) k (g .groups) (K .found) (repeated-line R k (K .found .line) (g .groups) (kept .formed) (stranger R o (kept .low)) c))
 
         module _ (q : again ≡ false) where
           short : a .count ≤ 128
@@ -294,7 +282,7 @@ module _ {n : ℕ} {text : List ℕ} {k i : ℕ} {xs lined : List ℕ} (g : Read
           once = sym (entered short .repeated) ∙ q
 
           stood-more : Lined n (k + 1) xs′ (g .groups ++ now ∷ [])
-          stood-more = lined-more (g .stood) low once (has-number (K .line) (kept .formed)) (entered short .stands q)
+          stood-more = lined-more (g .stood) low once (has-number (K .found .line) (kept .formed)) (entered short .stands q)
 
           -- what putting the events behind those before relies on
           pub add-room : (length lined ≡ 257) × (length events ≡ 128) × (0 < k) × (k ≤ 128) × (getD lined (127 + k) 0 + a .count ≤ 128)
@@ -324,5 +312,5 @@ module _ {n : ℕ} {text : List ℕ} {k i : ℕ} {xs lined : List ℕ} (g : Read
               go : (R : RunRecord) → n ≡ length (R .events) → (b : Bool) → breaks R (flat (g .groups)) now ≡ b
                   → unlessBroken (brokenFrom R 1 [] (g .groups)) (byLines (groupsLine R) k (linesOf (drop i text)) (g .groups))
                   ≡ unlessBroken (brokenFrom R 1 [] (g .groups ++ now ∷ [])) (byLines (groupsLine R) (k + 1) (linesOf (drop (a .next) text)) (g .groups ++ now ∷ []))
-              go R o true e = rw (snoc R e, ← line-refused (groupsLine R) k (g .groups) (K .lines) (broken-line R k (K .line) (g .groups) (kept .formed) (stranger R o (kept .low)) once e)) (still-broken (brokenFrom R 1 [] (g .groups)) k _ (omega (arith, g .stood .lines)))
-              go R o false e = rw (snoc R e, ← line-taken (groupsLine R) k (g .groups) (K .lines) (kept-line R k (K .line) (g .groups) (kept .formed) (stranger R o (kept .low)) once e)) (still-kept (brokenFrom R 1 [] (g .groups)) _)
+              go R o true e = rw (snoc R e, line-refused (groupsLine R) k (g .groups) (K .found) (broken-line R k (K .found .line) (g .groups) (kept .formed) (stranger R o (kept .low)) once e)) (still-broken (brokenFrom R 1 [] (g .groups)) k _ (omega (arith, g .stood .lines)))
+              go R o false e = rw (snoc R e, line-taken (groupsLine R) k (g .groups) (K .found) (kept-line R k (K .found .line) (g .groups) (kept .formed) (stranger R o (kept .low)) once e)) (still-kept (brokenFrom R 1 [] (g .groups)) _)

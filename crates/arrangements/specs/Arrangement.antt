@@ -1,15 +1,16 @@
 -- What judging the lines of an arrangement promises.
-use Prim.Native.Nat.{ℕ, _+_, _≤_, _<_}
+use Prim.Native.Nat.{ℕ, _+_}
 use mathlib.Core.Path.{_≡_}
 use mathlib.Core.Bool.{Bool, true, false, not, cond}
-use mathlib.Core.List.{List, [], _∷_}
+use mathlib.Core.List.{List, []}
 use lib.Dec.{ltb, leb}
-use lib.ListN.{length, getD, drop}
+use lib.ListN.{length, getD}
 use Rattle.spec.specs.Answer.{Answer, gives, refuses, _>>_, refuse_at?_}
 use Rattle.spec.specs.Lists.{any, lowest}
 use Rattle.spec.specs.Text.{Line, linesOf, byLines, mostDigits}
-use Rattle.spec.specs.Forms.{numbersOf}
+use Rattle.forms.specs.Rows.{valuesOf}
 use Rattle.lines.specs.Agree.{Agrees}
+use Rattle.lines.specs.Lines.{LineTo}
 use Rattle.spec.specs.Record.{RunRecord}
 use Rattle.spec.specs.Replaying.{isGroupLine, groupsLine}
 use Rattle.arrangements.specs.Lined.{Lined, Taken, brokenFrom}
@@ -54,9 +55,9 @@ linesPlayed gs = (length gs, 0, 0)
 -- line k, by 41 and 42: the answer to it, and where it is known its numbers in an array
 pub data KnownBy (n k : ℕ) (l : Line) (a : Known) (xs : List ℕ) : Type 0 where
   malformed : a .answer ≡ Malformed k → isGroupLine l ≡ false → KnownBy n k l a xs
-  unknown : a .answer ≡ Unknown k → isGroupLine l ≡ true → any (leb n) (numbersOf mostDigits (l .bytes)) ≡ true → KnownBy n k l a xs
-  known : a .answer ≡ Keeps k → isGroupLine l ≡ true → any (leb n) (numbersOf mostDigits (l .bytes)) ≡ false
-      → a .count ≡ length (numbersOf mostDigits (l .bytes)) → (Few 128 256 (numbersOf mostDigits (l .bytes)) → Begins xs (numbersOf mostDigits (l .bytes))) → KnownBy n k l a xs
+  unknown : a .answer ≡ Unknown k → isGroupLine l ≡ true → any (leb n) (valuesOf mostDigits (l .bytes)) ≡ true → KnownBy n k l a xs
+  known : a .answer ≡ Keeps k → isGroupLine l ≡ true → any (leb n) (valuesOf mostDigits (l .bytes)) ≡ false
+      → a .count ≡ length (valuesOf mostDigits (l .bytes)) → (Few 128 256 (valuesOf mostDigits (l .bytes)) → Begins xs (valuesOf mostDigits (l .bytes))) → KnownBy n k l a xs
 
 pub record KnownLine (n k : ℕ) (l : Line) (next : ℕ) (a : Known) (xs : List ℕ) : Type 0 where
   pub long : length xs ≡ 128
@@ -66,11 +67,8 @@ pub record KnownLine (n k : ℕ) (l : Line) (next : ℕ) (a : Known) (xs : List 
 -- the line that starts at a position
 pub record KnownAt (n k : ℕ) (text : List ℕ) (at : ℕ) (a : Known) (xs : List ℕ) : Type 0 where
   pub long : length xs ≡ 128
-  pub line : Line
-  pub lines : linesOf (drop at text) ≡ line ∷ linesOf (drop (a .next) text)
-  pub on : at < a .next
-  pub within : a .next ≤ length text + 1
-  pub by : KnownBy n k line a xs
+  pub found : LineTo text at (a .next)
+  pub by : KnownBy n k (found .line) a xs
 
 -- ---- all lines
 

@@ -11,7 +11,8 @@ use Rattle.spec.specs.Lists.{every}
 use Rattle.spec.specs.declared.Class.{Class}
 use Rattle.spec.specs.declared.Class.the-variants.{Digit, LineEnd, Foreign}
 use Rattle.spec.specs.declared.ByteClass.{ByteClass}
-use Rattle.spec.specs.Text.{named, classNames, inDigits, classOf, digitOf, classAndDigit, alike, isA}
+use Rattle.spec.specs.Text.{named, classNames, inDigits, classOf, digitOf, classAndDigit, isA}
+use Rattle.spec.specs.Classes.{alike}
 use Rattle.lists.specs.Laws.{and-true}
 use Rattle.classes.specs.Scan.{plainByte}
 

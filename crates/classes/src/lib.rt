@@ -2,7 +2,8 @@
 ghost use mathlib.Core.Path.{_≡_};
 ghost use Prim.Native.Nat.{_+_, _≤_};
 ghost use lib.ListN.{length, drop};
-ghost use Rattle.spec.specs.Text.{classAndDigit, classCode, digitOf, isA, alike};
+ghost use Rattle.spec.specs.Text.{classAndDigit, digitOf, isA};
+ghost use Rattle.spec.specs.Classes.{classCode, alike};
 ghost use Rattle.classes.specs.Scan.{plainByte, before};
 use spec::ByteClass;
 use spec::Class;

@@ -1,53 +1,68 @@
-// Lines of a fixed form: a letter, and so many numbers or dashes.
+// Lines of a fixed form, as rows: a letter, and so many numbers or dashes.
 ghost use mathlib.Core.Path.{_≡_};
-ghost use Rattle.spec.specs.Forms.{aNumber, aNumberOrDash, absent, valueOf, isAlone, isOne, isTwo, isThree};
+ghost use Rattle.forms.specs.Rows.{aNumber, aNumberOrDash, absent, valueOf, isAlone, isOne, isTwo, isThree};
 use classes::alike;
 use spec::Class;
-use spec::Field;
-use spec::Row;
 
-pub fn a_number(f: Field) -> bool
+// What stands in a field of a line. Wrong is neither a number nor a dash; Absent stands beyond the last field.
+pub enum Slot {
+    Number(usize),
+    Dash,
+    Wrong,
+    Absent,
+}
+
+// A line's letter and its first four fields; no line of a fixed form has more than three.
+pub struct Row {
+    pub letter: Class,
+    pub first: Slot,
+    pub second: Slot,
+    pub third: Slot,
+    pub fourth: Slot,
+}
+
+pub fn a_number(f: Slot) -> bool
     ensures { λ r. ⌜ r ≡ aNumber f ⌝ }
 {
     match f {
-        Field::Number(_) => true,
-        Field::Dash => false,
-        Field::Wrong => false,
-        Field::Absent => false,
+        Slot::Number(_) => true,
+        Slot::Dash => false,
+        Slot::Wrong => false,
+        Slot::Absent => false,
     }
 }
 
-fn a_number_or_dash(f: Field) -> bool
+fn a_number_or_dash(f: Slot) -> bool
     ensures { λ r. ⌜ r ≡ aNumberOrDash f ⌝ }
 {
     match f {
-        Field::Number(_) => true,
-        Field::Dash => true,
-        Field::Wrong => false,
-        Field::Absent => false,
+        Slot::Number(_) => true,
+        Slot::Dash => true,
+        Slot::Wrong => false,
+        Slot::Absent => false,
     }
 }
 
-fn absent(f: Field) -> bool
+fn absent(f: Slot) -> bool
     ensures { λ r. ⌜ r ≡ absent f ⌝ }
 {
     match f {
-        Field::Number(_) => false,
-        Field::Dash => false,
-        Field::Wrong => false,
-        Field::Absent => true,
+        Slot::Number(_) => false,
+        Slot::Dash => false,
+        Slot::Wrong => false,
+        Slot::Absent => true,
     }
 }
 
-// The number of a field, and 0 where it is none.
-pub fn number_in(f: Field) -> usize
+// The number in a slot, and 0 where there is none.
+pub fn number_in(f: Slot) -> usize
     ensures { λ r. ⌜ r ≡ valueOf f ⌝ }
 {
     match f {
-        Field::Number(n) => n,
-        Field::Dash => 0,
-        Field::Wrong => 0,
-        Field::Absent => 0,
+        Slot::Number(n) => n,
+        Slot::Dash => 0,
+        Slot::Wrong => 0,
+        Slot::Absent => 0,
     }
 }
 

@@ -13,7 +13,8 @@ use Rattle.spec.specs.Text.{isA, Line, onFirst, linesOf}
 use Rattle.spec.specs.declared.Class.the-variants.{LineEnd}
 use Rattle.classes.specs.Scan.{before}
 use Rattle.classes.proofs.Scans.{before-zero, before-suc, within, beyond, width}
-use Rattle.lines.specs.Lines.{endFrom, spanTo, LineAt}
+use Rattle.lines.specs.Lines.{endFrom, spanTo, lineOf, LineTo, LineAt}
+use Rattle.lines.specs.declared.Span.{Span}
 
 abbrev firstLine : List ℕ → ℕ → Line
 firstLine bs n = record { bytes = take n bs; ended = ltb n (length bs) }
@@ -56,3 +57,7 @@ line-found s at e h q m = record {
   next = omega arith;
   lines = line-here s at e h q;
 }
+
+-- the line that was found, and the next one
+abbrev pub line-to : {s : List ℕ} {at : ℕ} {r : Span} → LineAt s at r → LineTo s at (r .next)
+line-to {s} {at} {r} h = record { line = lineOf (take (r .end - at) (drop at s)) (r .ended); lines = h .lines; on = omega (arith, h .start, h .on); within = h .next }

@@ -22,7 +22,14 @@ spanTo s end next = record { end = end; next = next; ended = ltb end (length s) 
 abbrev pub lineOf : List ℕ → Bool → Line
 lineOf l e = record { bytes = l; ended = e }
 
--- the line that starts at a position, and where the next one starts
+-- the line that starts at a position, where the next one starts further on
+pub record LineTo (s : List ℕ) (at next : ℕ) : Type 0 where
+  pub line : Line
+  pub lines : linesOf (drop at s) ≡ line ∷ linesOf (drop next s)
+  pub on : at < next
+  pub within : next ≤ length s + 1
+
+-- the same by its end, which is found
 pub record LineAt (s : List ℕ) (at : ℕ) (r : Span) : Type 0 where
   pub start : at ≤ r .end
   pub end : r .end ≤ length s

@@ -1,61 +1,47 @@
 -- The lines of a log, one after the other.
 use Prim.Native.Nat.{ℕ, _+_, _≤_}
-use mathlib.Core.Path.{_≡_, refl, sym, ap, _∙_}
-use mathlib.Core.Bool.{true, false, true≢false, false≢true}
-use mathlib.Core.List.{List, _∷_}
+use mathlib.Core.Path.{_≡_, refl, _∙_}
+use mathlib.Core.Bool.{true, false}
+use mathlib.Core.List.{List}
 use native.Mathlib.Omega.{arith}
-use lib.ListN.{length, drop}
-use Rattle.spec.specs.Text.{Line, linesOf, byLines}
+use lib.ListN.{length}
 use Rattle.spec.specs.Net.{Net}
 use Rattle.spec.specs.Record.{bench}
-use Rattle.spec.specs.Building.{Run as RunD, start, logLine, playLog}
-use Rattle.lines.specs.Agree.{Agrees, giving, refusing}
-use Rattle.lines.proofs.ByLines.{line-taken, line-refused, lines-done}
+use Rattle.spec.specs.Building.{start, logLine, playLog}
+use Rattle.lines.specs.Lines.{LineTo}
+use Rattle.lines.proofs.ByLines.{Running, begun, turn, stop, done}
 use Rattle.steps.specs.Holds.{ArcsAt}
 use Rattle.steps.specs.declared.Extent.{Extent}
-use Rattle.judging.specs.Holds.{Run, runAt, HoldsRun, Reached, Steppable, SteppedOn, logAnswer, nothing, given}
+use Rattle.judging.specs.Holds.{Run, runAt, HoldsRun, Reached, Steppable, SteppedOn, logAnswer, given}
 use Rattle.judging.specs.declared.Played.{Played}
 use Rattle.judging.specs.declared.LogAnswer.{LogAnswer}
-use Rattle.logs.specs.Holds.{HoldsAny, Readable, StepAt, Begun, LinesOn, PlaysLog, PlayedLog}
+use Rattle.logs.specs.Holds.{Readable, StepAt, Begun, LinesOn, PlaysLog, PlayedLog}
 use Rattle.logs.specs.declared.StepLine.{StepLine}
 use Rattle.logs.proofs.Lines.{refused-on, stepped-on}
 use Rattle.judging.specs.declared.LogAnswer.the-variants.{Goes}
 
 -- ---- the lines so far
 
--- a run is held, from which the lines left answer what the whole log answers
-pub record Running (N : Net) (log : List ℕ) (k at : ℕ) (x : Run) : Type 0 where
-  pub run : RunD
-  pub holds : HoldsRun N k x run
-  pub lines : byLines (logLine bench N) k (linesOf (drop at log)) run ≡ playLog bench N (linesOf log)
-
--- so it is for every net that is held
+-- a run is held, for every net that is held
 abbrev pub Runs : List ℕ → ℕ → ℕ → List ℕ → ℕ → ℕ → Run → Run → Type 0
-Runs arcs m ts log k at x₀ x = (N : Net) → ArcsAt N arcs m → ts ≡ N .transitions → HoldsRun N 1 x₀ (start N) → Running N log k at x
+Runs arcs m ts log k at x₀ x = (N : Net) → ArcsAt N arcs m → ts ≡ N .transitions → HoldsRun N 1 x₀ (start N) → Running (logLine bench N) log (start N) k at (HoldsRun N k x)
 
 module _ (arcs : List ℕ) {log : List ℕ} {m ts : ℕ} {x₀ : Run} where
   pub runs-none : {k : ℕ} → k ≡ 1 → Runs arcs m ts log k 0 x₀ x₀
-  runs-none e N A q H = record { run = start N; holds = rw e H; lines = unfold playLog in (rw e) }
+  runs-none e N A q H = rw e (begun (logLine bench N) log H)
 
   module _ {k at : ℕ} {x : Run} (R : Runs arcs m ts log k at x₀ x) where
     pub runs-end : length log ≤ at → PlaysLog arcs m ts log x₀ Goes x
-    runs-end h N A q H = let r = R N A q H in giving (r .run) (sym (r .lines) ∙ sym (lines-done (logLine bench N) k (r .run) log at h)) refl (k, r .holds)
+    unfolding playLog
+    runs-end h N A q H = let r = R N A q H in done r h refl (k, r .holds)
 
-    module _ (next : ℕ) {l : Line} (ls : linesOf (drop at log) ≡ l ∷ linesOf (drop next log)) (a : LogAnswer) {y : Run} (L : LinesOn arcs m ts k l x a y) where
+    module _ {next : ℕ} (l : LineTo log at next) (a : LogAnswer) {y : Run} (L : LinesOn arcs m ts k (l .line) x a y) where
       pub runs-next : {j : ℕ} → j ≡ k + 1 → given (logAnswer a) ≡ true → Runs arcs m ts log j next x₀ y
-      runs-next j t N A q H = let r = R N A q H in rw j (go r (L N (r .run) A q (r .holds)))
-        where
-          go : (r : Running N log k at x) → Agrees nothing (logAnswer a) (HoldsRun N (k + 1) y) (logLine bench N k l (r .run)) → Running N log (k + 1) next y
-          go r (giving m e y h) = record { run = m; holds = h; lines = line-taken (logLine bench N) k (r .run) ls e ∙ r .lines }
-          go r (refusing p n e y) = absurd (true≢false (sym t ∙ ap given y))
+      runs-next j t N A q H = let r = R N A q H in rw j (turn r l (L N (r .state) A q (r .holds)) t)
 
       pub runs-stop : given (logAnswer a) ≡ false → PlaysLog arcs m ts log x₀ a y
-      runs-stop t N A q H = let r = R N A q H in go r (L N (r .run) A q (r .holds))
-        where
-          go : (r : Running N log k at x) → Agrees nothing (logAnswer a) (HoldsRun N (k + 1) y) (logLine bench N k l (r .run))
-              → Agrees nothing (logAnswer a) (HoldsAny N y) (playLog bench N (linesOf log))
-          go r (giving m e y h) = absurd (false≢true (sym t ∙ ap given y))
-          go r (refusing p n e y) = refusing p n (sym (line-refused (logLine bench N) k (r .run) ls e ∙ r .lines)) y
+      unfolding playLog
+      runs-stop t N A q H = let r = R N A q H in stop r l (L N (r .state) A q (r .holds)) t
 
 -- ---- by the lent arrays
 
@@ -72,7 +58,7 @@ module _ {log arcs : List ℕ} {x : Extent} {rec steps counts step : List ℕ} {
     (B : Begun arcs x rec steps counts) (G : Going log arcs x rec steps counts step run at rec′ steps′ counts′) where
   -- the run before the next line
   pub reached : Reached arcs (run .places) (run .line) (runAt run rec′ steps′ counts′)
-  reached = let r = G .runs (B .net) (B .arcs) (B .transitions) (B .holds) in record { net = B .net; run = r .run; arcs = rw (G .places) (B .arcs); holds = r .holds }
+  reached = let r = G .runs (B .net) (B .arcs) (B .transitions) (B .holds) in record { net = B .net; run = r .state; arcs = rw (G .places) (B .arcs); holds = r .holds }
 
   pub readable : Readable run step
   readable = record { known = omega (arith, G .transitions, B .few); events = reached .holds .whole .events; long = G .step }
@@ -80,7 +66,7 @@ module _ {log arcs : List ℕ} {x : Extent} {rec steps counts step : List ℕ} {
   module _ {r : StepLine} {step′ : List ℕ} (S : StepAt log at run r step′) where
     pub refused-line : given (logAnswer (r .answer)) ≡ false → PlayedLog log arcs x rec steps counts (record { answer = r .answer; run = run }) rec′ steps′ counts′
     refused-line t = record {
-      answers = runs-stop arcs (G .runs) (r .next) (S .lines) (r .answer) (refused-on arcs run (G .places) (G .transitions) refl (r .answer) (S .read .refused t)) t;
+      answers = runs-stop arcs (G .runs) (S .found) (r .answer) (refused-on arcs run (G .places) (G .transitions) refl (r .answer) (S .read .refused t)) t;
       long = G .long;
     }
 
@@ -95,11 +81,11 @@ module _ {log arcs : List ℕ} {x : Extent} {rec steps counts step : List ℕ} {
     }
 
     module _ (t : given (logAnswer (r .answer)) ≡ true) {s : Played} {rec″ steps″ counts″ : List ℕ} (P : SteppedOn step′ (r .count) arcs run rec′ steps′ counts′ s rec″ steps″ counts″) where
-      on : LinesOn arcs (x .places) (x .transitions) (run .line) (S .line) (runAt run rec′ steps′ counts′) (s .answer) (runAt (s .run) rec″ steps″ counts″)
+      on : LinesOn arcs (x .places) (x .transitions) (run .line) (S .found .line) (runAt run rec′ steps′ counts′) (s .answer) (runAt (s .run) rec″ steps″ counts″)
       on = stepped-on arcs run (G .places) (G .transitions) refl (s .answer) (S .read .read t) (P .answers)
 
       pub refused-step : given (logAnswer (s .answer)) ≡ false → PlayedLog log arcs x rec steps counts s rec″ steps″ counts″
-      refused-step u = record { answers = runs-stop arcs (G .runs) (r .next) (S .lines) (s .answer) on u; long = P .long ∙ G .long }
+      refused-step u = record { answers = runs-stop arcs (G .runs) (S .found) (s .answer) on u; long = P .long ∙ G .long }
 
       pub goes-on : given (logAnswer (s .answer)) ≡ true → Going log arcs x rec steps counts step′ (s .run) (r .next) rec″ steps″ counts″
       goes-on u = record {
@@ -108,5 +94,5 @@ module _ {log arcs : List ℕ} {x : Extent} {rec steps counts step : List ℕ} {
         wide = P .wide ∙ G .wide;
         places = P .passes .places ∙ G .places;
         transitions = P .passes .transitions ∙ G .transitions;
-        runs = runs-next arcs (G .runs) (r .next) (S .lines) (s .answer) on (P .passes .line u) u;
+        runs = runs-next arcs (G .runs) (S .found) (s .answer) on (P .passes .line u) u;
       }

@@ -2,17 +2,18 @@
 use Prim.Native.Nat.{ℕ, _+_, _≤_, _<_}
 use mathlib.Core.Path.{_≡_}
 use mathlib.Core.Bool.{true, false}
-use mathlib.Core.List.{List, _∷_}
+use mathlib.Core.List.{List}
 use lib.Dec.{leb}
-use lib.ListN.{length, getD, take, drop}
+use lib.ListN.{length, getD, take}
 use Rattle.spec.specs.Answer.{Answer, gives, refuses}
 use Rattle.spec.specs.Lists.{sum, any}
 use Rattle.spec.specs.Text.{Line, linesOf, mostDigits}
-use Rattle.spec.specs.Forms.{numbersOf}
+use Rattle.forms.specs.Rows.{valuesOf}
 use Rattle.spec.specs.Net.{Net}
 use Rattle.spec.specs.Building.{Run as RunD, start, isStepLine, logLine, playLog}
 use Rattle.spec.specs.Record.{bench}
 use Rattle.lines.specs.Agree.{Agrees}
+use Rattle.lines.specs.Lines.{LineTo}
 use Rattle.steps.specs.Holds.{HoldsStep, HoldsMarking, ArcsAt}
 use Rattle.steps.specs.declared.Extent.{Extent}
 use Rattle.judging.specs.Holds.{Run, runAt, HoldsRun, logAnswer, nothing, given}
@@ -23,7 +24,7 @@ use Rattle.logs.specs.declared.StepLine.{StepLine}
 -- ---- a line as a step
 
 abbrev pub numbersIn : Line → List ℕ
-numbersIn l = numbersOf mostDigits (l .bytes)
+numbersIn l = valuesOf mostDigits (l .bytes)
 
 -- what reading a line relies on
 pub record Readable (x : Extent) (step : List ℕ) : Type 0 where
@@ -52,11 +53,8 @@ pub record LineRead (l : Line) (x : Extent) (a : LogAnswer) (count : ℕ) (step 
 
 -- the line that starts at a position is read so
 pub record StepAt (log : List ℕ) (at : ℕ) (x : Extent) (r : StepLine) (step : List ℕ) : Type 0 where
-  pub line : Line
-  pub lines : linesOf (drop at log) ≡ line ∷ linesOf (drop (r .next) log)
-  pub on : at < r .next
-  pub within : r .next ≤ length log + 1
-  pub read : LineRead line x (r .answer) (r .count) step
+  pub found : LineTo log at (r .next)
+  pub read : LineRead (found .line) x (r .answer) (r .count) step
 
 -- what a line answers
 abbrev pub LinesOn : List ℕ → ℕ → ℕ → ℕ → Line → Run → LogAnswer → Run → Type 0

@@ -11,22 +11,25 @@ use lib.ListN.{length, getD, take, set, length-append, length-set}
 use lib.Seq.{take-suc-set}
 use borrow.Author.Tests.{le-leb, lt-leb, eq-eqb}
 use Rattle.spec.specs.Lists.{any, every}
-use Rattle.spec.specs.Text.{classCode, classOf, alike}
-use Rattle.spec.specs.Forms.{aNumber, valueOf, isList, numbersOf}
+use Rattle.spec.specs.Text.{classOf}
+use Rattle.forms.specs.Rows.{aNumber, valueOf, isList, valuesOf}
+use Rattle.spec.specs.Classes.{classCode, alike}
 use Rattle.spec.specs.declared.Class.{Class}
-use Rattle.spec.specs.declared.Field.{Field}
-use Rattle.spec.specs.declared.Field.the-variants.{Number}
+use Rattle.forms.specs.declared.Slot.{Slot}
+use Rattle.forms.specs.declared.Slot.the-variants.{Number}
 use Rattle.lists.specs.Laws.{here, leb-max}
+use Rattle.lines.specs.Lines.{lineOf, LineTo}
 use Rattle.digits.specs.Digits.{between, Stands, IsField}
 use Rattle.plain.specs.Plain.{Opens, PlainLine}
 use Rattle.plain.proofs.Plain.{Tail, last-field, more-fields, plain-line}
+use Rattle.number_lines.specs.declared.Listed.{Listed}
 use Rattle.number_lines.specs.Numbers.{Few, Puts, Listing, ListAt}
 
 -- ---- what is read
 
 -- the numbers ns have been read from a line, and the last of them, or the letter, ends before `end`
 pub record Read (s : List ℕ) (at end : ℕ) (ns : List ℕ) : Type 0 where
-  pub more : Stands 44 s end → (next : ℕ) (fs : List Field) → Tail 4 s (end + 1) next fs → PlainLine 4 s at next (map Number ns ++ fs)
+  pub more : Stands 44 s end → (next : ℕ) (fs : List Slot) → Tail 4 s (end + 1) next fs → PlainLine 4 s at next (map Number ns ++ fs)
   pub ends : 0 < length ns → Stands 10 s end → PlainLine 4 s at (end + 1) (map Number ns)
 
 -- they are counted, the greatest of them is known, and the array has them as far as it has room
@@ -36,13 +39,13 @@ pub record Kept (xs : List ℕ) (count high : ℕ) (ns : List ℕ) : Type 0 wher
   pub highest : (known : ℕ) → 0 < known → leb known high ≡ any (leb known) ns
   pub array : Few 128 256 ns → take count xs ≡ ns
 
-map-more : (ns : List ℕ) (v : ℕ) (fs : List Field) → map Number (ns ++ v ∷ []) ++ fs ≡ map Number ns ++ Number v ∷ fs
+map-more : (ns : List ℕ) (v : ℕ) (fs : List Slot) → map Number (ns ++ v ∷ []) ++ fs ≡ map Number ns ++ Number v ∷ fs
 map-more [] v fs = refl
-map-more (n ∷ ns) v fs = ap (λ (z : List Field). Number n ∷ z) (map-more ns v fs)
+map-more (n ∷ ns) v fs = ap (λ (z : List Slot). Number n ∷ z) (map-more ns v fs)
 
 map-last : (ns : List ℕ) (v : ℕ) → map Number (ns ++ v ∷ []) ≡ map Number ns ++ Number v ∷ []
 map-last [] v = refl
-map-last (n ∷ ns) v = ap (λ (z : List Field). Number n ∷ z) (map-last ns v)
+map-last (n ∷ ns) v = ap (λ (z : List Slot). Number n ∷ z) (map-last ns v)
 
 module _ {s : List ℕ} {at : ℕ} where
   pub read-none : {b : ℕ} → Opens b → Stands b s at → Read s at (at + 1) []
@@ -117,8 +120,8 @@ module _ {s : List ℕ} {at next : ℕ} (ns : List ℕ) (l : PlainLine 4 s at ne
   unfolding isList alike
   is-list {b} e = rw (l .letter, l .fields, e, eq-eqb (classCode (classOf b)) (classCode (classOf b)) refl, le-leb 1 (length (map Number ns)) (omega (arith, count-fields ns))) (all-numbers ns)
 
-  numbers-are : numbersOf 4 (l .bytes) ≡ ns
-  unfolding numbersOf
+  numbers-are : valuesOf 4 (l .bytes) ≡ ns
+  unfolding valuesOf
   numbers-are = rw (l .fields) (values ns)
 
 -- what is known of a list line at a comma or a line end
@@ -149,6 +152,9 @@ listing {s} {xs} {at} {b} {count} {high} {end} w o h e =
     highest : (known : ℕ) → 0 < length (w .numbers) → leb known high ≡ any (leb known) (w .numbers)
     highest zero some = rw (any-zero (w .numbers) some) (le-leb 0 high (omega arith))
     highest (suc n) some = w .kept .highest (suc n) (omega arith)
+
+abbrev pub list-to : {k : Class} {s xs : List ℕ} {at : ℕ} {r : Listed} → Listing k s at r xs → at < r .next → LineTo s at (r .next)
+list-to l h = record { line = lineOf (l .bytes) true; lines = l .lines; on = h; within = omega (arith, l .within) }
 
 pub no-list : {k : Class} {s xs : List ℕ} {at : ℕ} → length xs ≡ 128 → ListAt k s at (record { count = 0; high = 0; next = at }) xs
 no-list h = record { long = h; start = omega arith; line = λ z. absurd (omega arith) }

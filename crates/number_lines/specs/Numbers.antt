@@ -7,7 +7,7 @@ use lib.Dec.{leb}
 use lib.ListN.{length, take, set, drop}
 use Rattle.spec.specs.Lists.{In, any}
 use Rattle.spec.specs.Text.{linesOf, mostDigits}
-use Rattle.spec.specs.Forms.{isList, numbersOf}
+use Rattle.forms.specs.Rows.{isList, valuesOf}
 use Rattle.spec.specs.declared.Class.{Class}
 use Rattle.lines.specs.Lines.{lineOf}
 use Rattle.number_lines.specs.declared.Listed.{Listed}
@@ -33,10 +33,10 @@ pub record Listing (k : Class) (s : List ℕ) (at : ℕ) (r : Listed) (xs : List
   pub lines : linesOf (drop at s) ≡ lineOf bytes true ∷ linesOf (drop (r .next) s)
   pub within : r .next ≤ length s
   pub list : isList mostDigits k bytes ≡ true
-  pub count : r .count ≡ length (numbersOf mostDigits bytes)
+  pub count : r .count ≡ length (valuesOf mostDigits bytes)
   pub few : r .count < length s
-  pub high : (known : ℕ) → leb known (r .high) ≡ any (leb known) (numbersOf mostDigits bytes)
-  pub numbers : Few 128 256 (numbersOf mostDigits bytes) → Begins xs (numbersOf mostDigits bytes)
+  pub high : (known : ℕ) → leb known (r .high) ≡ any (leb known) (valuesOf mostDigits bytes)
+  pub numbers : Few 128 256 (valuesOf mostDigits bytes) → Begins xs (valuesOf mostDigits bytes)
 
 -- such a line is read, or the position stays
 pub record ListAt (k : Class) (s : List ℕ) (at : ℕ) (r : Listed) (xs : List ℕ) : Type 0 where

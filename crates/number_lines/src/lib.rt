@@ -6,7 +6,7 @@ ghost use lib.Dec.{leb};
 ghost use lib.ListN.{length};
 ghost use Rattle.spec.specs.Lists.{any};
 ghost use Rattle.spec.specs.Text.{mostDigits, classOf};
-ghost use Rattle.spec.specs.Forms.{isList, numbersOf};
+ghost use Rattle.forms.specs.Rows.{isList, valuesOf};
 ghost use Rattle.spec.specs.Building.{isStepLine};
 ghost use Rattle.lines.specs.Lines.{lineOf};
 ghost use Rattle.plain.specs.Plain.{Opens};
@@ -34,7 +34,7 @@ pub fn is_step_line(l: &[u8], ended: bool) -> bool
 
 // Whether a line names something unknown, where `known` things are numbered from 0.
 pub fn any_unknown(l: &[u8], known: usize) -> bool
-    ensures { λ r. ⌜ r ≡ any (leb known) (numbersOf mostDigits (now (l .entry))) ⌝ }
+    ensures { λ r. ⌜ r ≡ any (leb known) (valuesOf mostDigits (now (l .entry))) ⌝ }
 {
     let a = letter_at(l);
     let mut at = a.next;
@@ -50,7 +50,7 @@ pub fn any_unknown(l: &[u8], known: usize) -> bool
 
 // How many numbers a line has.
 pub fn count_numbers(l: &[u8]) -> usize
-    ensures { λ r. ⌜ (r ≡ length (numbersOf mostDigits (now (l .entry)))) × (r ≤ length (now (l .entry)) + 1) ⌝ }
+    ensures { λ r. ⌜ (r ≡ length (valuesOf mostDigits (now (l .entry)))) × (r ≤ length (now (l .entry)) + 1) ⌝ }
 {
     let a = letter_at(l);
     let mut at = a.next;
@@ -65,8 +65,8 @@ pub fn count_numbers(l: &[u8]) -> usize
 
 // The numbers of a line.
 pub fn numbers(l: &[u8]) -> [u8; 128]
-    requires { ⌜ Few 128 256 (numbersOf mostDigits (now l)) ⌝ }
-    ensures { λ r. ⌜ Begins r (numbersOf mostDigits (now (l .entry))) ⌝ }
+    requires { ⌜ Few 128 256 (valuesOf mostDigits (now l)) ⌝ }
+    ensures { λ r. ⌜ Begins r (valuesOf mostDigits (now (l .entry))) ⌝ }
 {
     let mut xs = [0u8; 128];
     let mut i: usize = 0;

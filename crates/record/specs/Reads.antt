@@ -1,18 +1,23 @@
 -- What the functions of the reader promise.
-use Prim.Native.Nat.{ℕ, _+_, _≤_, _<_}
+use Prim.Native.Nat.{ℕ, _≤_}
 use mathlib.Core.Path.{_≡_}
-use mathlib.Core.Bool.{Bool, true, false}
-use mathlib.Core.List.{List, _∷_}
-use lib.ListN.{length, getD, drop}
-use Rattle.spec.specs.Answer.{Answer, gives}
-use Rattle.spec.specs.Text.{Line, linesOf, byLines}
+use mathlib.Core.Bool.{Bool, true, false, cond}
+use mathlib.Core.List.{List}
+use lib.ListN.{length, getD}
+use Rattle.spec.specs.Answer.{Answer, gives, refuses}
+use Rattle.spec.specs.Text.{linesOf, byLines}
 use Rattle.spec.specs.Net.{Net, places}
 use Rattle.spec.specs.Record.{RunRecord, Condition, Mark}
-use Rattle.spec.specs.Checking.{eventOf, enterLine, emptyRecord}
-use Rattle.spec.specs.declared.Field.{Field}
+use Rattle.spec.specs.Checking.{enterEvent, enterCondition, enterMark, enterLine, emptyRecord}
+use Rattle.forms.specs.Rows.{valueOf, eventOf, isOne, isTwo, isThree}
+use Rattle.forms.specs.declared.Row.{Row}
+use Rattle.forms.specs.declared.Slot.{Slot}
+use Rattle.spec.specs.declared.Class.the-variants.{LetterE, LetterC, LetterB, LetterA}
 use Rattle.spec.specs.declared.MarkKind.{MarkKind}
+use Rattle.spec.specs.declared.MarkKind.the-variants.{Before, After}
 use Rattle.spec.specs.declared.Limits.{Limits}
 use Rattle.lines.specs.Agree.{Agrees, refusedAs}
+use Rattle.lines.specs.Lines.{LineTo}
 use Rattle.record.specs.Holds.{HoldsRecord, HoldsBits}
 use Rattle.record.specs.declared.Counts.{Counts}
 use Rattle.record.specs.declared.RecordRead.{RecordRead}
@@ -80,24 +85,30 @@ pub record Declares (ps ts : ℕ) (N : Net) : Type 0 where
   pub places : places N ≡ ps
   pub transitions : N .transitions ≡ ts
 
+-- the condition and the mark that a line names
+abbrev pub conditionIn : ℕ → Slot → Slot → Condition
+conditionIn p x y = record { place = p; producer = eventOf x; consumer = eventOf y }
+
+abbrev pub markOf : MarkKind → ℕ → ℕ → Mark
+markOf x c e = record { kind = x; condition = c; event = e }
+
+-- what line k enters, by its row
+unfoldable pub enterRow : Limits → Net → ℕ → Row → RunRecord → Answer RunRecord
+enterRow lim n k w r =
+    cond (isOne LetterE w) (enterEvent lim n k (valueOf (w .first)) r)
+    (cond (isThree LetterC w) (enterCondition lim n k (conditionIn (valueOf (w .first)) (w .second) (w .third)) r)
+    (cond (isTwo LetterB w) (enterMark lim k (markOf Before (valueOf (w .first)) (valueOf (w .second))) r)
+    (cond (isTwo LetterA w) (enterMark lim k (markOf After (valueOf (w .first)) (valueOf (w .second))) r)
+    (refuses 31 k))))
+
 -- what a step of the definitions answers, of every record that the bytes hold
 abbrev pub Enters : Counts → List ℕ → (RunRecord → Answer RunRecord) → RecordRead → List ℕ → Type 0
 Enters s b f r b′ = (R : RunRecord) → Holds s b R → Agrees noValues (answerOf (r .answer)) (Holds (r .counts) b′) (f R)
 
 -- the line that starts at a position is entered as the definitions enter line k, and the next one starts at `next`
 pub record Takes (lim : Limits) (ps ts : ℕ) (text : List ℕ) (at k : ℕ) (s : Counts) (b : List ℕ) (r : Took) (b′ : List ℕ) : Type 0 where
-  pub line : Line
-  pub lines : linesOf (drop at text) ≡ line ∷ linesOf (drop (r .next) text)
-  pub on : at < r .next
-  pub next : r .next ≤ length text + 1
-  pub enters : (N : Net) → Declares ps ts N → Enters s b (enterLine lim N k line) (r .step) b′
-
--- the condition and the mark that a line names
-abbrev pub conditionIn : ℕ → Field → Field → Condition
-conditionIn p x y = record { place = p; producer = eventOf x; consumer = eventOf y }
-
-abbrev pub markOf : MarkKind → ℕ → ℕ → Mark
-markOf x c e = record { kind = x; condition = c; event = e }
+  pub found : LineTo text at (r .next)
+  pub enters : (N : Net) → Declares ps ts N → Enters s b (enterLine lim N k (found .line)) (r .step) b′
 
 -- the answer is the paper's, and where it is a record the bytes hold it
 abbrev pub ReadsRecord : Limits → ℕ → ℕ → List ℕ → RecordRead → List ℕ → Type 0

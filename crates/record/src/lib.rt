@@ -4,13 +4,16 @@ ghost use mathlib.Core.Bool.{true, false};
 ghost use Prim.Native.Nat.{_+_, _^_, _≤_, _<_};
 ghost use Rattle.spec.specs.Net.{Net, places as placesOf};
 ghost use Rattle.spec.specs.Process.{isBelow};
-ghost use Rattle.spec.specs.Checking.{eventOf, enterEvent, enterCondition, enterMark, enterRow, enterLine};
+ghost use Rattle.spec.specs.Checking.{enterEvent, enterCondition, enterMark, enterLine};
+ghost use Rattle.forms.specs.Rows.{eventOf};
 ghost use Rattle.lines.specs.Lines.{lineOf};
 ghost use Rattle.plain.specs.Plain.{Opens};
 ghost use Rattle.record.specs.Holds.{eventCode, kindCode, conditionOf, bitOf};
 ghost use lib.ListN.{length};
-ghost use Rattle.record.specs.Reads.{Room, Blank, Fits, Declares, Enters, Takes, conditionIn, markOf, ReadsRecord};
+ghost use Rattle.record.specs.Reads.{Room, Blank, Fits, Declares, Enters, Takes, conditionIn, markOf, enterRow, ReadsRecord};
 use fields::row_of;
+use forms::Row;
+use forms::Slot;
 use forms::is_one;
 use forms::is_three;
 use forms::is_two;
@@ -20,10 +23,8 @@ use plain::one_at;
 use plain::three_at;
 use plain::two_at;
 use spec::Class;
-use spec::Field;
 use spec::Limits;
 use spec::MarkKind;
-use spec::Row;
 
 // Where the bytes of a record stand. Before PLACES stand the transitions of the events; then from each number on the places
 // of the conditions, their producers, their consumers; of the marks, in the order of the text, their kinds, their events, and
@@ -79,26 +80,26 @@ pub struct RecordRead {
 }
 
 // Whether a producer or consumer is none, or an event below n.
-fn event_below(n: usize, f: Field) -> bool
+fn event_below(n: usize, f: Slot) -> bool
     ensures { λ r. ⌜ r ≡ isBelow n (eventOf f) ⌝ }
 {
     match f {
-        Field::Number(e) => e < n,
-        Field::Dash => true,
-        Field::Wrong => true,
-        Field::Absent => true,
+        Slot::Number(e) => e < n,
+        Slot::Dash => true,
+        Slot::Wrong => true,
+        Slot::Absent => true,
     }
 }
 
 // The byte of a producer or consumer.
-fn event_code(f: Field) -> usize
+fn event_code(f: Slot) -> usize
     ensures { λ r. ⌜ r ≡ eventCode (eventOf f) ⌝ }
 {
     match f {
-        Field::Number(e) => e,
-        Field::Dash => 128,
-        Field::Wrong => 128,
-        Field::Absent => 128,
+        Slot::Number(e) => e,
+        Slot::Dash => 128,
+        Slot::Wrong => 128,
+        Slot::Absent => 128,
     }
 }
 
@@ -168,8 +169,8 @@ fn enter_condition(
     places: usize,
     k: usize,
     p: usize,
-    producer: Field,
-    consumer: Field,
+    producer: Slot,
+    consumer: Slot,
     s: Counts,
     rec: &mut [u8],
 ) -> RecordRead

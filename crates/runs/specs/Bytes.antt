@@ -8,9 +8,10 @@ use mathlib.Core.List.{List, [], _∷_}
 use lib.Dec.{eqb, leb}
 use borrow.Author.Tests.{le-leb, leb-true, eqb-true}
 use Rattle.spec.specs.Lists.{every}
-use Rattle.spec.specs.Text.{classNames, named, inDigits, classOf, digitOf, classCode, alike, isA, digitByte}
+use Rattle.spec.specs.Text.{classNames, named, inDigits, classOf, digitOf, isA, digitByte}
+use Rattle.spec.specs.Classes.{classCode, alike}
 use Rattle.spec.specs.declared.Class.{Class}
-use Rattle.spec.specs.declared.Class.the-variants.{Digit, Comma, Dash as DashByte, LineEnd, LetterP, LetterT, LetterI, LetterO, LetterH, LetterS, LetterE, LetterC, LetterB, LetterA, LetterG, Foreign}
+use Rattle.spec.specs.declared.Class.the-variants.{Digit, Comma, Dash as DashByte, LineEnd, Foreign}
 use Rattle.lists.specs.Laws.{clash, and-true, and-three, true-and, not-is-true}
 
 -- a test that Foreign passes at every byte, and each name of a list, the named class passes
@@ -105,59 +106,57 @@ lineEnd-is = one-byte 10 refl
 
 -- ---- letters
 
--- the letter c is in use: class k is that of this byte alone, which parts no fields and ends no line
-pub record Letter (c : Char) (k : Class) : Type 0 where
-  pub class : classOf (code c) ≡ k
-  pub only : (b : ℕ) → isA k b ≡ true → b ≡ code c
-  pub notForeign : alike Foreign k ≡ false
+-- the letter c is in use: its class is that of this byte alone, which parts no fields and ends no line
+pub record Letter (c : Char) : Type 0 where
+  pub only : (b : ℕ) → isA (classOf (code c)) b ≡ true → b ≡ code c
   pub noComma : isA Comma (code c) ≡ false
   pub noEnd : isA LineEnd (code c) ≡ false
 
-letter : (c : Char) → alone (code c) && not (isA Comma (code c)) && not (isA LineEnd (code c)) ≡ true → Letter c (classOf (code c))
+letter : (c : Char) → alone (code c) && not (isA Comma (code c)) && not (isA LineEnd (code c)) ≡ true → Letter c
 letter c h =
     let z = and-three (alone (code c)) (not (isA Comma (code c))) (not (isA LineEnd (code c))) h in
-    record { class = refl; only = one-byte (code c) (z .0); notForeign = alone-parts (code c) (z .0) .1; noComma = not-is-true _ (z .1); noEnd = not-is-true _ (z .2) }
+    record { only = one-byte (code c) (z .0); noComma = not-is-true _ (z .1); noEnd = not-is-true _ (z .2) }
 
-pub P-letter : Letter "P" LetterP
+pub P-letter : Letter "P"
 unfolding alone every isA alike classOf inDigits named
 P-letter = letter "P" refl
 
-pub T-letter : Letter "T" LetterT
+pub T-letter : Letter "T"
 unfolding alone every isA alike classOf inDigits named
 T-letter = letter "T" refl
 
-pub I-letter : Letter "I" LetterI
+pub I-letter : Letter "I"
 unfolding alone every isA alike classOf inDigits named
 I-letter = letter "I" refl
 
-pub O-letter : Letter "O" LetterO
+pub O-letter : Letter "O"
 unfolding alone every isA alike classOf inDigits named
 O-letter = letter "O" refl
 
-pub H-letter : Letter "H" LetterH
+pub H-letter : Letter "H"
 unfolding alone every isA alike classOf inDigits named
 H-letter = letter "H" refl
 
-pub S-letter : Letter "S" LetterS
+pub S-letter : Letter "S"
 unfolding alone every isA alike classOf inDigits named
 S-letter = letter "S" refl
 
-pub E-letter : Letter "E" LetterE
+pub E-letter : Letter "E"
 unfolding alone every isA alike classOf inDigits named
 E-letter = letter "E" refl
 
-pub C-letter : Letter "C" LetterC
+pub C-letter : Letter "C"
 unfolding alone every isA alike classOf inDigits named
 C-letter = letter "C" refl
 
-pub B-letter : Letter "B" LetterB
+pub B-letter : Letter "B"
 unfolding alone every isA alike classOf inDigits named
 B-letter = letter "B" refl
 
-pub A-letter : Letter "A" LetterA
+pub A-letter : Letter "A"
 unfolding alone every isA alike classOf inDigits named
 A-letter = letter "A" refl
 
-pub G-letter : Letter "G" LetterG
+pub G-letter : Letter "G"
 unfolding alone every isA alike classOf inDigits named
 G-letter = letter "G" refl

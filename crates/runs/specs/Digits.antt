@@ -7,14 +7,14 @@ use native.Mathlib.Nat.{pow-suc, one-le-pow, le-refl, zero-add}
 use native.Mathlib.Decide.{decLe}
 use native.Mathlib.Omega.{arith}
 use mathlib.Core.Bool.{Bool, true, false, not, cond, and-false}
+use mathlib.Core.Option.{some}
 use mathlib.Core.List.{List, [], _∷_, _++_, append-nil, append-assoc}
 use lib.ListN.{length, getD, length-append, List·getD-append}
 use lib.Dec.{ltb, leb}
 use borrow.Author.Tests.{le-leb, lt-ltb, le-ltb, leb-true, ltb-true, ltb-false, eqb-false, ne-eqb}
 use Rattle.spec.specs.Lists.{every}
-use Rattle.spec.specs.Text.{digitOf, isA, needlessZero, isNumber, valueFrom, isDash, fieldOf, digitByte, digits}
+use Rattle.spec.specs.Text.{digitOf, isA, needlessZero, isNumber, valueFrom, numberIn, digitByte, digits}
 use Rattle.spec.specs.declared.Class.the-variants.{Digit}
-use Rattle.spec.specs.declared.Field.the-variants.{Number, Dash, Wrong}
 use Rattle.lists.specs.Laws.{true-or-false, and-true, and-four, not-is-true, every-append}
 use Rattle.runs.specs.Bytes.{digit-isA, digit-value, isA-digit}
 
@@ -94,11 +94,15 @@ no-zero n ds w = elim (true-or-false (ltb n 10)) [
   | inr e ↦ rw (ne-eqb (digitOf (getD ds 0 0)) 0 (w .lead (omega (arith, ltb-false n 10 e)))) (and-false (ltb 1 (length ds)))
 ]
 
-pub number-back : (most n : ℕ) → 1 ≤ most → n < 10 ^ most → fieldOf most (digits most n) ≡ Number n
-unfolding fieldOf isNumber
-number-back most n m h =
+pub number-written : (most n : ℕ) → 1 ≤ most → n < 10 ^ most → isNumber most (digits most n) ≡ true
+unfolding isNumber
+number-written most n m h =
     let w = written most n m h in
-    rw (le-leb 1 (length (digits most n)) (w .some), le-leb (length (digits most n)) most (width most most n m h), no-zero n (digits most n) w, digits-all most n, w .value)
+    rw (le-leb 1 (length (digits most n)) (w .some), le-leb (length (digits most n)) most (width most most n m h), no-zero n (digits most n) w, digits-all most n)
+
+pub number-back : (most n : ℕ) → 1 ≤ most → n < 10 ^ most → numberIn most (digits most n) ≡ some n
+unfolding numberIn
+number-back most n m h = rw (number-written most n m h, written most n m h .value)
 
 -- ---- what is read is what is written
 
@@ -159,16 +163,13 @@ number-bytes most (a ∷ bs) t = rw (zero-add (digitOf a)) (go bs t (and-true (i
 pub number-is : (most : ℕ) (bs : List ℕ) → isNumber most bs ≡ true → digits most (valueFrom 0 bs) ≡ bs
 number-is most bs h = number-bytes most bs (tested most bs h)
 
-pub number-read : (most : ℕ) (bs : List ℕ) (m : ℕ) → fieldOf most bs ≡ Number m → digits most m ≡ bs
-unfolding fieldOf
-number-read most bs m h = go (isNumber most bs) (isDash bs) refl h
-  where
-    go : (x y : Bool) → isNumber most bs ≡ x → cond x (Number (valueFrom 0 bs)) (cond y Dash Wrong) ≡ Number m → digits most m ≡ bs
-    go true y e q = let v : valueFrom 0 bs ≡ m = cc in rw v at (number-is most bs e)
-    go false true e q = let z : _≡_ {A = ℕ} 0 1 = cc in absurd (omega arith)
-    go false false e q = let z : _≡_ {A = ℕ} 0 1 = cc in absurd (omega arith)
+-- ---- two numbers with the same digits
 
--- ---- a number that has more digits than are written
+pub same-digits : (most n m : ℕ) → 1 ≤ most → n < 10 ^ most → m < 10 ^ most → digits most n ≡ digits most m → n ≡ m
+same-digits most n m l h k e =
+    let p = number-back most n l h in
+    let q = number-back most m l k in
+    cc
 
 wide : (most n : ℕ) → 10 ^ most ≤ n → suc most ≤ length (digits (suc most) n)
 unfolding digits
@@ -181,9 +182,9 @@ wide (suc most) n h =
     let k = rw (pow-suc 10 most) at h in
     rw (le-ltb n 10 (omega (arith, one-le-pow most 10 (omega arith)))) (omega (arith, length-append (digits (suc most) (n / 10)) (digitByte (n % 10) ∷ []), wide most (n / 10) (omega arith)))
 
--- All the digits that can be written of such a number are, so that one that is read back with fewer is the one that was written.
-pub small-back : (most n m : ℕ) → 1 ≤ most → fieldOf (suc most) (digits (suc most) n) ≡ Number m → m < 10 ^ most → n ≡ m
-small-back most n m l h s = elim (decLe (10 ^ most) n) [
-  | yes w ↦ absurd (omega (arith, wide most n w, width (suc most) most m l s, ap length (number-read (suc most) (digits (suc most) n) m h)))
-  | no w ↦ let q = number-back (suc most) n (omega arith) (omega (arith, pow-suc 10 most)) in cc
+-- Of a number that has more digits than are written, all the digits that can be are: no smaller one has the same.
+pub small-digits : (most n m : ℕ) → 1 ≤ most → m < 10 ^ most → digits (suc most) n ≡ digits (suc most) m → n ≡ m
+small-digits most n m l s e = elim (decLe (10 ^ most) n) [
+  | yes w ↦ absurd (omega (arith, wide most n w, width (suc most) most m l s, ap length e))
+  | no w ↦ same-digits (suc most) n m (omega arith) (omega (arith, pow-suc 10 most)) (omega (arith, pow-suc 10 most)) e
 ]

@@ -1,44 +1,38 @@
--- Two with the same text are the same. A text is read as rows, for each line the class of its letter and its fields, and a row
--- gives back what it was written from, if its fields are read as they were written. They are where each can be written; and where
--- each is read with fewer digits than can be written, since of a longer number all the digits that can be are.
+-- Two with the same text are the same. A text is parted into rows, for each line its letter and its fields, as bytes. Fields with
+-- the same bytes are the same where both can be written; and where one has fewer digits than can be written, since of a longer
+-- number all the digits that can be are. A letter and fields give back what they were written for.
 use mathlib.Core.Path.{_≡_, refl, sym, ap, ap₂, _∙_, subst}
 use mathlib.Core.Logic.{_⊎_, inl, inr}
 use Prim.Native.Nat.{ℕ, _^_, _<_}
-use Prim.Native.Char.{Char}
+use Prim.Native.Char.{Char, code}
 use native.Mathlib.Nat.{le-refl}
+use native.Mathlib.Omega.{arith}
 use mathlib.Core.Bool.{Bool, true, false, cond}
-use mathlib.Core.List.{List, [], _∷_, _++_, map, append-nil, append-assoc, map-map, map-id, Memᴰ·map, Memᴰ·of-map, List·Memᴰ·append-cases, head-eq-of-cons-eq, tail-eq-of-cons-eq}
-use lib.ListN.{getD}
-use Rattle.spec.specs.Lists.{In, flat}
-use Rattle.spec.specs.Text.{linesOf, alike, mostDigits, letterIn, fieldsOf, lineWith}
-use Rattle.spec.specs.Forms.{valueOf}
+use mathlib.Core.List.{List, [], _∷_, _++_, map, append-nil, append-assoc, map-map, map-id, Memᴰ·of-map, List·Memᴰ·append-cases, head-eq-of-cons-eq, tail-eq-of-cons-eq}
+use lib.ListN.{length, getD}
+use lib.Dec.{eqb}
+use Rattle.spec.specs.Lists.{In, every, flat}
+use Rattle.spec.specs.Text.{linesOf, named, inDigits, classOf, isA, mostDigits, pieces, digits, fieldBytes, lineWith}
+use Rattle.spec.specs.Forms.{fieldsOf}
 use Rattle.spec.specs.NetText.{Declaration, newPlace, newTransition, newArc, declarationLine, netBytes}
 use Rattle.spec.specs.Record.{RunRecord, Condition, Mark, eventField, eventLine, conditionLine, markLineOf, markLine, recordBytes}
-use Rattle.spec.specs.Checking.{eventOf}
+use Rattle.spec.specs.Classes.{alike}
 use Rattle.spec.specs.Arranging.{groupLine, arrangementBytes}
 use Rattle.spec.specs.Runs.{stepLine, logBytes}
 use Rattle.spec.specs.Exactness.{LinesBelow, DeclarationBelow, DeclarationsBelow, RecordBelow, OneReading}
 use Rattle.spec.specs.declared.ArcKind.the-variants.{Input, Output, Inhibitor}
-use Rattle.spec.specs.declared.Class.{Class}
-use Rattle.spec.specs.declared.Class.the-variants.{LetterP, LetterT, LetterI, LetterO, LetterE, LetterC, LetterB, LetterA}
 use Rattle.spec.specs.declared.Field.{Field}
-use Rattle.spec.specs.declared.Field.the-variants.{Number, Absent}
+use Rattle.spec.specs.declared.Field.the-variants.{Number, Dash}
 use Rattle.spec.specs.declared.MarkKind.{MarkKind}
 use Rattle.spec.specs.declared.MarkKind.the-variants.{Before, After}
 use Rattle.lists.specs.Laws.{here, there, clash, map-same, flat-in}
 use Rattle.runs.specs.Bytes.{Letter, P-letter, T-letter, I-letter, O-letter, H-letter, S-letter, E-letter, C-letter, B-letter, A-letter, G-letter}
-use Rattle.runs.specs.Fields.{FieldsBelow, AllSmall, again, again-all, smalls-writable, smalls-kept, letter-back, fields-again}
-use Rattle.runs.specs.LineForms.{event-back, event-below, numbers-below, values}
+use Rattle.runs.specs.Fields.{FieldBelow, FieldsBelow, body-pieces}
+use Rattle.runs.specs.Digits.{digits-all, same-digits, small-digits}
+use Rattle.runs.specs.LineForms.{eventOf, valueOf, event-back, event-below, fields-back, numbers-below, values}
 use Rattle.runs.specs.Texts.{line-back}
 
--- ---- texts as rows
-
--- the class of a line's letter, and its fields
-abbrev pub Read : Type 0
-Read = Class × List Field
-
-unfoldable pub rowsIn : List ℕ → List Read
-rowsIn text = map (λ l. (letterIn (l .bytes), fieldsOf mostDigits (l .bytes))) (linesOf text)
+-- ---- fields by their bytes
 
 -- Two that their texts tell apart: the numbers of both can be written, or those of the second have fewer digits than can be.
 -- P b says of one that its numbers are below b.
@@ -49,37 +43,77 @@ apart : {X Y : Type 0} (P : ℕ → X → Type 0) (Q : ℕ → Y → Type 0) (f 
 apart P Q f h x y (inl p) = inl (h _ x (p .0), h _ y (p .1))
 apart P Q f h x y (inr p) = inr (h _ y p)
 
+no-digits : (n : ℕ) → digits mostDigits n ≡ code "-" ∷ [] → ⊥
+no-digits n e = clash (rw e at (digits-all mostDigits n)) (unfold every isA alike classOf named inDigits in refl)
+
+field-same : (f g : Field) → Apart FieldBelow f g → fieldBytes f ≡ fieldBytes g → f ≡ g
+unfolding fieldBytes
+field-same (Number n) (Number m) (inl h) e = ap Number (same-digits mostDigits n m (omega arith) (h .0) (h .1) e)
+field-same (Number n) (Number m) (inr h) e = ap Number (small-digits 3 n m (omega arith) h e)
+field-same (Number n) Dash h e = absurd (no-digits n e)
+field-same Dash (Number m) h e = absurd (no-digits m (sym e))
+field-same Dash Dash h e = refl
+
+fields-same : (fs gs : List Field) → Apart FieldsBelow fs gs → map fieldBytes fs ≡ map fieldBytes gs → fs ≡ gs
+fields-same [] [] h e = refl
+fields-same [] (g ∷ gs) h e = absurd (omega (arith, ap length e))
+fields-same (f ∷ fs) [] h e = absurd (omega (arith, ap length e))
+fields-same (f ∷ fs) (g ∷ gs) h e = ap₂ (λ (x : Field) (xs : List Field). x ∷ xs) (field-same f g (heads h) (head-eq-of-cons-eq e)) (fields-same fs gs (tails h) (tail-eq-of-cons-eq e))
+  where
+    heads : Apart FieldsBelow (f ∷ fs) (g ∷ gs) → Apart FieldBelow f g
+    heads (inl h) = inl (h .0 .0, h .1 .0)
+    heads (inr h) = inr (h .0)
+
+    tails : Apart FieldsBelow (f ∷ fs) (g ∷ gs) → Apart FieldsBelow fs gs
+    tails (inl h) = inl (h .0 .1, h .1 .1)
+    tails (inr h) = inr (h .1)
+
+-- ---- texts as rows
+
+-- the byte of a line's letter, and those of its fields
+abbrev pub Row : Type 0
+Row = ℕ × List (List ℕ)
+
+unfoldable pub rowsIn : List ℕ → List Row
+rowsIn text = map (λ l. (getD (getD (pieces (l .bytes)) 0 []) 0 0, fieldsOf l)) (linesOf text)
+
 -- a line in the making: its letter, and its fields
 pub record Form : Type 0 where
   pub letter : Char
-  pub class : Class
-  pub used : Letter letter class
+  pub used : Letter letter
   pub fields : List Field
 
-abbrev formed : {c : Char} {k : Class} → Letter c k → List Field → Form
-formed {c} {k} L fs = record { letter = c; class = k; used = L; fields = fs }
+abbrev formed : {c : Char} → Letter c → List Field → Form
+formed {c} L fs = record { letter = c; used = L; fields = fs }
 
--- how the elements of a type are written, each as one line, and what is made of such a line's row
+-- the byte of a letter, and fields
+abbrev pub Said : Type 0
+Said = ℕ × List Field
+
+-- how the elements of a type are written, each as one line, and what is made of such a line's letter and fields
 pub record Format {A : Type 0} (print : A → List ℕ) : Type 0 where
   pub form : A → Form
   pub written : (x : A) → print x ≡ lineWith (form x .letter) (form x .fields)
-  pub back : Read → A
-  pub kept : (x : A) → back (form x .class, form x .fields) ≡ x
+  pub back : Said → A
+  pub kept : (x : A) → back (code (form x .letter), form x .fields) ≡ x
 
 module _ {A : Type 0} {print : A → List ℕ} (F : Format print) where
   abbrev pub fieldsFor : A → List Field
   fieldsFor x = F .form x .fields
 
-  -- the row of an element's line, as it is read
-  abbrev pub row : A → Read
-  row x = (F .form x .class, map again (fieldsFor x))
+  abbrev said : A → Said
+  said x = (code (F .form x .letter), fieldsFor x)
+
+  -- the row of an element's line
+  abbrev pub row : A → Row
+  row x = (code (F .form x .letter), map fieldBytes (fieldsFor x))
 
   row-back : (x : A) (rest : List ℕ) → rowsIn (print x ++ rest) ≡ row x ∷ rowsIn rest
   unfolding rowsIn
   row-back x rest =
       let L = F .form x .used in
       let fs = fieldsFor x in
-      rw (F .written x, line-back L fs rest, letter-back L fs, fields-again L fs)
+      rw (F .written x, line-back L fs rest, fields-back L fs, body-pieces L fs)
 
   pub rows-back : (xs : List A) (rest : List ℕ) → rowsIn (flat (map print xs) ++ rest) ≡ map row xs ++ rowsIn rest
   unfolding flat
@@ -93,35 +127,35 @@ module _ {A : Type 0} {print : A → List ℕ} (F : Format print) where
   pub rows-same : (xs ys : List A) → flat (map print xs) ≡ flat (map print ys) → map row xs ≡ map row ys
   rows-same xs ys e = sym (rows xs) ∙ ap rowsIn e ∙ rows ys
 
-  -- the fields of an element are read as they were written
-  abbrev Legible : A → Type 0
-  Legible x = map again (fieldsFor x) ≡ fieldsFor x
-
-  unread : (xs : List A) → ((x : A) → In x xs → Legible x) → map (F .back) (map row xs) ≡ xs
-  unread xs h = map-map (F .back) row xs ∙ map-same _ (λ x. x) xs (λ x m. ap (λ fs. F .back (F .form x .class, fs)) (h x m) ∙ F .kept x) ∙ map-id xs
-
-  legible-same : (xs ys : List A) → ((x : A) → In x xs → Legible x) → ((y : A) → In y ys → Legible y) → map row xs ≡ map row ys → xs ≡ ys
-  legible-same xs ys h k e = sym (unread xs h) ∙ ap (map (F .back)) e ∙ unread ys k
-
   abbrev ElementsBelow : ℕ → List A → Type 0
   ElementsBelow b xs = (x : A) → In x xs → FieldsBelow b (fieldsFor x)
 
-  -- where only the fields of ys are known to be small, each row of xs is one of ys, and what is read small was written so
-  pub same : (xs ys : List A) → Apart ElementsBelow xs ys → map row xs ≡ map row ys → xs ≡ ys
-  same xs ys (inl h) e = legible-same xs ys (λ x m. again-all (fieldsFor x) (h .0 x m)) (λ y m. again-all (fieldsFor y) (h .1 y m)) e
-  same xs ys (inr s) e = legible-same xs ys written-small read-small e
+  said-same : (xs ys : List A) → Apart ElementsBelow xs ys → map row xs ≡ map row ys → map said xs ≡ map said ys
+  said-same [] [] h e = refl
+  said-same [] (y ∷ ys) h e = absurd (omega (arith, ap length e))
+  said-same (x ∷ xs) [] h e = absurd (omega (arith, ap length e))
+  said-same (x ∷ xs) (y ∷ ys) h e =
+      let q = head-eq-of-cons-eq e in
+      let fs = fields-same (fieldsFor x) (fieldsFor y) (heads h) (ap (λ (r : Row). r .1) q) in
+      ap₂ (λ (s : Said) (ss : List Said). s ∷ ss) (ap₂ (λ (c : ℕ) (fs : List Field). (c, fs)) (ap (λ (r : Row). r .0) q) fs) (said-same xs ys (tails h) (tail-eq-of-cons-eq e))
     where
-      read-small : (y : A) → In y ys → Legible y
-      read-small y m = again-all (fieldsFor y) (smalls-writable (fieldsFor y) (s y m))
+      heads : Apart ElementsBelow (x ∷ xs) (y ∷ ys) → Apart FieldsBelow (fieldsFor x) (fieldsFor y)
+      heads (inl h) = inl (h .0 x here, h .1 y here)
+      heads (inr h) = inr (h y here)
 
-      written-small : (x : A) → In x xs → Legible x
-      written-small x m =
-          let z = Memᴰ·of-map row ys (subst (λ rs. In (row x) rs) e (Memᴰ·map row m)) in
-          smalls-kept (fieldsFor x) (subst AllSmall (sym (read-small (z .0) (z .1)) ∙ ap (λ r. r .1) (z .2)) (s (z .0) (z .1)))
+      tails : Apart ElementsBelow (x ∷ xs) (y ∷ ys) → Apart ElementsBelow xs ys
+      tails (inl h) = inl (λ z m. h .0 z (there m), λ z m. h .1 z (there m))
+      tails (inr h) = inr (λ z m. h z (there m))
+
+  unsaid : (xs : List A) → map (F .back) (map said xs) ≡ xs
+  unsaid xs = map-map (F .back) said xs ∙ map-same _ (λ x. x) xs (λ x m. F .kept x) ∙ map-id xs
+
+  pub same : (xs ys : List A) → Apart ElementsBelow xs ys → map row xs ≡ map row ys → xs ≡ ys
+  same xs ys h e = sym (unsaid xs) ∙ ap (map (F .back)) (said-same xs ys h e) ∙ unsaid ys
 
 -- ---- lists of numbers: steps and arrangements' lines
 
-abbrev numbers : {print : List ℕ → List ℕ} {c : Char} {k : Class} → Letter c k → ((ns : List ℕ) → print ns ≡ lineWith c (map Number ns)) → Format print
+abbrev numbers : {print : List ℕ → List ℕ} {c : Char} → Letter c → ((ns : List ℕ) → print ns ≡ lineWith c (map Number ns)) → Format print
 numbers L w = record { form = λ ns. formed L (map Number ns); written = w; back = λ r. map valueOf (r .1); kept = values }
 
 -- ---- declarations
@@ -135,17 +169,17 @@ declaration-form (newArc Inhibitor p t) = formed H-letter (Number p ∷ Number t
 
 -- the number of a field, from 0
 abbrev numberAt : List Field → ℕ → ℕ
-numberAt fs i = valueOf (getD fs i Absent)
+numberAt fs i = valueOf (getD fs i Dash)
 
-unfoldable declaration-back : Read → Declaration
+unfoldable declaration-back : Said → Declaration
 declaration-back r =
     let u = numberAt (r .1) 0 in
     let v = numberAt (r .1) 1 in
-    cond (alike (r .0) LetterP) (newPlace u) (cond (alike (r .0) LetterT) newTransition
-    (cond (alike (r .0) LetterI) (newArc Input u v) (cond (alike (r .0) LetterO) (newArc Output v u) (newArc Inhibitor u v))))
+    cond (eqb (r .0) (code "P")) (newPlace u) (cond (eqb (r .0) (code "T")) newTransition
+    (cond (eqb (r .0) (code "I")) (newArc Input u v) (cond (eqb (r .0) (code "O")) (newArc Output v u) (newArc Inhibitor u v))))
 
 declarations : Format declarationLine
-unfolding declarationLine declaration-back alike
+unfolding declarationLine declaration-back
 declarations = record { form = declaration-form; written = written; back = declaration-back; kept = kept }
   where
     written : (d : Declaration) → declarationLine d ≡ lineWith (declaration-form d .letter) (declaration-form d .fields)
@@ -155,7 +189,7 @@ declarations = record { form = declaration-form; written = written; back = decla
     written (newArc Output p t) = refl
     written (newArc Inhibitor p t) = refl
 
-    kept : (d : Declaration) → declaration-back (declaration-form d .class, declaration-form d .fields) ≡ d
+    kept : (d : Declaration) → declaration-back (code (declaration-form d .letter), declaration-form d .fields) ≡ d
     kept (newPlace v) = refl
     kept newTransition = refl
     kept (newArc Input p t) = refl
@@ -168,8 +202,8 @@ events : Format eventLine
 unfolding eventLine
 events = record { form = λ t. formed E-letter (Number t ∷ []); written = λ t. refl; back = λ r. numberAt (r .1) 0; kept = λ t. refl }
 
-unfoldable condition-back : Read → Condition
-condition-back r = record { place = numberAt (r .1) 0; producer = eventOf (getD (r .1) 1 Absent); consumer = eventOf (getD (r .1) 2 Absent) }
+unfoldable condition-back : Said → Condition
+condition-back r = record { place = numberAt (r .1) 0; producer = eventOf (getD (r .1) 1 Dash); consumer = eventOf (getD (r .1) 2 Dash) }
 
 conditions : Format conditionLine
 unfolding conditionLine condition-back
@@ -184,18 +218,18 @@ abbrev mark-form : MarkKind → ℕ → ℕ → Form
 mark-form Before c e = formed B-letter (Number c ∷ Number e ∷ [])
 mark-form After c e = formed A-letter (Number c ∷ Number e ∷ [])
 
-unfoldable mark-back : Read → Mark
-mark-back r = record { kind = cond (alike (r .0) LetterB) Before After; condition = numberAt (r .1) 0; event = numberAt (r .1) 1 }
+unfoldable mark-back : Said → Mark
+mark-back r = record { kind = cond (eqb (r .0) (code "B")) Before After; condition = numberAt (r .1) 0; event = numberAt (r .1) 1 }
 
 marks : Format markLine
-unfolding markLine markLineOf mark-back alike
+unfolding markLine markLineOf mark-back
 marks = record { form = λ m. mark-form (m .kind) (m .condition) (m .event); written = λ m. written (m .kind) _ _; back = mark-back; kept = λ m. kept (m .kind) _ _ }
   where
     written : (x : MarkKind) (c e : ℕ) → markLineOf x c e ≡ lineWith (mark-form x c e .letter) (mark-form x c e .fields)
     written Before c e = refl
     written After c e = refl
 
-    kept : (x : MarkKind) (c e : ℕ) → mark-back (mark-form x c e .class, mark-form x c e .fields) ≡ record { kind = x; condition = c; event = e }
+    kept : (x : MarkKind) (c e : ℕ) → mark-back (code (mark-form x c e .letter), mark-form x c e .fields) ≡ record { kind = x; condition = c; event = e }
     kept Before c e = refl
     kept After c e = refl
 
@@ -210,15 +244,15 @@ parts-same p (x ∷ xs) ys (v ∷ vs) ws a b c d e =
     (ap₂ (λ u us. u ∷ us) (head-eq-of-cons-eq e) (z .0), z .1)
 
 -- rows of one letter or another
-lettered : {A : Type 0} {print : A → List ℕ} (F : Format print) (k : Class) (b : Bool) → ((x : A) → alike (F .form x .class) k ≡ b) → (xs : List A) (r : Read) → In r (map (row F) xs)
-    → alike (r .0) k ≡ b
-lettered F k b h xs r m = let z = Memᴰ·of-map (row F) xs m in subst (λ r. alike (r .0) k ≡ b) (z .2) (h (z .0))
+lettered : {A : Type 0} {print : A → List ℕ} (F : Format print) (k : ℕ) (b : Bool) → ((x : A) → eqb (code (F .form x .letter)) k ≡ b) → (xs : List A) (r : Row) → In r (map (row F) xs)
+    → eqb (r .0) k ≡ b
+lettered F k b h xs r m = let z = Memᴰ·of-map (row F) xs m in subst (λ r. eqb (r .0) k ≡ b) (z .2) (h (z .0))
 
-marks-lettered : (k : Class) → alike LetterB k ≡ false → alike LetterA k ≡ false → (ms : List Mark) (r : Read) → In r (map (row marks) ms) → alike (r .0) k ≡ false
+marks-lettered : (k : ℕ) → eqb (code "B") k ≡ false → eqb (code "A") k ≡ false → (ms : List Mark) (r : Row) → In r (map (row marks) ms) → eqb (r .0) k ≡ false
 unfolding marks
 marks-lettered k b a = lettered marks k false (λ m. go (m .kind) (m .condition) (m .event))
   where
-    go : (x : MarkKind) (c e : ℕ) → alike (mark-form x c e .class) k ≡ false
+    go : (x : MarkKind) (c e : ℕ) → eqb (code (mark-form x c e .letter)) k ≡ false
     go Before c e = b
     go After c e = a
 
@@ -235,30 +269,30 @@ groups-same : (R S : RunRecord) → recordBytes R ≡ recordBytes S
     → (map (row events) (R .events) ≡ map (row events) (S .events))
     × (map (row conditions) (R .conditions) ≡ map (row conditions) (S .conditions))
     × (map (row marks) (R .marks) ≡ map (row marks) (S .marks))
-unfolding events conditions alike
+unfolding events conditions
 groups-same R S e =
-    let z = parts-same (λ r. alike (r .0) LetterE) _ _ _ _ (first R) (others R) (first S) (others S) (sym (record-rows R) ∙ ap rowsIn e ∙ record-rows S) in
-    let y = parts-same (λ r. alike (r .0) LetterC) _ _ _ _ (second R) (third R) (second S) (third S) (z .1) in
+    let z = parts-same (λ r. eqb (r .0) (code "E")) _ _ _ _ (first R) (others R) (first S) (others S) (sym (record-rows R) ∙ ap rowsIn e ∙ record-rows S) in
+    let y = parts-same (λ r. eqb (r .0) (code "C")) _ _ _ _ (second R) (third R) (second S) (third S) (z .1) in
     (z .0, y .0, y .1)
   where
-    first : (R : RunRecord) (r : Read) → In r (map (row events) (R .events)) → alike (r .0) LetterE ≡ true
-    first R = lettered events LetterE true (λ t. refl) (R .events)
+    first : (R : RunRecord) (r : Row) → In r (map (row events) (R .events)) → eqb (r .0) (code "E") ≡ true
+    first R = lettered events (code "E") true (λ t. refl) (R .events)
 
-    others : (R : RunRecord) (r : Read) → In r (map (row conditions) (R .conditions) ++ map (row marks) (R .marks)) → alike (r .0) LetterE ≡ false
+    others : (R : RunRecord) (r : Row) → In r (map (row conditions) (R .conditions) ++ map (row marks) (R .marks)) → eqb (r .0) (code "E") ≡ false
     others R r m = elim (List·Memᴰ·append-cases (map (row conditions) (R .conditions)) m) [
-      | inl i ↦ lettered conditions LetterE false (λ c. refl) (R .conditions) r i
-      | inr i ↦ marks-lettered LetterE refl refl (R .marks) r i
+      | inl i ↦ lettered conditions (code "E") false (λ c. refl) (R .conditions) r i
+      | inr i ↦ marks-lettered (code "E") refl refl (R .marks) r i
     ]
 
-    second : (R : RunRecord) (r : Read) → In r (map (row conditions) (R .conditions)) → alike (r .0) LetterC ≡ true
-    second R = lettered conditions LetterC true (λ c. refl) (R .conditions)
+    second : (R : RunRecord) (r : Row) → In r (map (row conditions) (R .conditions)) → eqb (r .0) (code "C") ≡ true
+    second R = lettered conditions (code "C") true (λ c. refl) (R .conditions)
 
-    third : (R : RunRecord) (r : Read) → In r (map (row marks) (R .marks)) → alike (r .0) LetterC ≡ false
-    third R = marks-lettered LetterC refl refl (R .marks)
+    third : (R : RunRecord) (r : Row) → In r (map (row marks) (R .marks)) → eqb (r .0) (code "C") ≡ false
+    third R = marks-lettered (code "C") refl refl (R .marks)
 
 -- ---- the four kinds of texts
 
-lists-same : {print : List ℕ → List ℕ} {c : Char} {k : Class} (L : Letter c k) (w : (ns : List ℕ) → print ns ≡ lineWith c (map Number ns)) (s t : List (List ℕ)) → Apart LinesBelow s t
+lists-same : {print : List ℕ → List ℕ} {c : Char} (L : Letter c) (w : (ns : List ℕ) → print ns ≡ lineWith c (map Number ns)) (s t : List (List ℕ)) → Apart LinesBelow s t
     → flat (map print s) ≡ flat (map print t) → s ≡ t
 lists-same L w s t h e =
     same (numbers L w) s t (apart LinesBelow (ElementsBelow (numbers L w)) (λ s. s) (λ b s h ns m. numbers-below b ns (λ n i. h n (flat-in s m i))) s t h) (rows-same (numbers L w) s t e)

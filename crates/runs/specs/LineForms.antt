@@ -1,49 +1,49 @@
 -- The forms of lines: a line that is written has its form and its values, and a line of a form is what is written for
 -- its values.
-use mathlib.Core.Path.{_≡_, refl, ap, ap₂, _∙_}
-use Prim.Native.Nat.{ℕ, suc, _^_, _≤_, _<_}
-use Prim.Native.Char.{Char}
+use mathlib.Core.Path.{_≡_, refl, sym, ap, ap₂}
+use Prim.Native.Nat.{ℕ, zero, suc, _^_, _≤_, _<_}
+use Prim.Native.Char.{Char, code}
 use native.Mathlib.Nat.{le-trans}
-use native.Mathlib.Decide.{decLe}
 use native.Mathlib.Omega.{arith}
-use mathlib.Core.Bool.{Bool, true, false, cond}
+use mathlib.Core.Bool.{Bool, true, false, _&&_, _||_, cond}
 use mathlib.Core.Option.{Option, none, some}
-use mathlib.Core.List.{List, [], _∷_, map, Memᴰ·of-map}
-use lib.ListN.{length, getD, drop, length-map, List·getD-eq-default}
+use mathlib.Core.List.{List, [], _∷_, map}
+use lib.ListN.{length, getD, length-map}
 use lib.Dec.{leb}
 use borrow.Author.Tests.{ltb-true, leb-true, le-leb, eq-eqb}
-use Rattle.spec.specs.Lists.{In, from, upTo, every}
-use Rattle.spec.specs.Text.{alike, classCode, mostDigits, pieces, isNumber, isDash, valueFrom, fieldOf, letterIn, fieldsOf, rowOf}
-use Rattle.spec.specs.Forms.{aNumber, aNumberOrDash, absent, valueOf, isAlone, isOne, isTwo, isThree, isList, numbersOf}
+use Rattle.spec.specs.Lists.{In, every}
+use Rattle.spec.specs.Classes.{classCode, alike}
+use Rattle.spec.specs.Text.{Line, named, inDigits, classOf, digitOf, isA, isOnly, isDash, mostDigits, needlessZero, isNumber, valueFrom, numberIn, fieldBytes}
+use Rattle.spec.specs.Forms.{FieldForm, number, numberOrDash, hasLetter, fieldsOf, isOf, areOf, isLine, isListLine, eventAt, orZero, numberAt, numbersOf}
 use Rattle.spec.specs.Record.{eventField}
 use Rattle.spec.specs.Process.{isBelow}
-use Rattle.spec.specs.Checking.{eventOf}
-use Rattle.spec.specs.declared.Class.{Class}
 use Rattle.spec.specs.declared.Field.{Field}
-use Rattle.spec.specs.declared.Field.the-variants.{Number, Dash, Wrong, Absent}
-use Rattle.lists.specs.Laws.{here, there, clash, and-true, and-three, and-four, and-five, every-in, in-every, at-in, tabled}
+use Rattle.spec.specs.declared.Field.the-variants.{Number, Dash}
+use Rattle.lists.specs.Laws.{here, there, clash, and-true, and-three, and-four}
 use Rattle.runs.specs.Bytes.{Letter}
-use Rattle.runs.specs.Fields.{FieldBelow, FieldsBelow, AllWritable, body, letter-back, fields-back, body-is}
+use Rattle.runs.specs.Digits.{number-written, number-back, number-is}
+use Rattle.runs.specs.Fields.{FieldBelow, Writable, FieldsBelow, AllWritable, dash-bytes, body, ended, body-pieces, body-is}
 
--- ---- fields
+-- ---- fields that are written
 
-is-number : (f : Field) → aNumber f ≡ true → (f ≡ Number (valueOf f)) × (aNumberOrDash f ≡ true)
-is-number (Number n) h = (refl, refl)
-is-number Dash h = clash h refl
-is-number Wrong h = clash h refl
-is-number Absent h = clash h refl
+-- what a field that is written is read as
+abbrev pub eventOf : Field → Option ℕ
+eventOf (Number n) = some n
+eventOf Dash = none
 
-is-event : (f : Field) → aNumberOrDash f ≡ true → f ≡ eventField (eventOf f)
-unfolding eventField
-is-event (Number n) h = refl
-is-event Dash h = refl
-is-event Wrong h = clash h refl
-is-event Absent h = clash h refl
+abbrev pub valueOf : Field → ℕ
+valueOf f = orZero (eventOf f)
 
-pub event-field : (o : Option ℕ) → aNumberOrDash (eventField o) ≡ true
-unfolding eventField
-event-field none = refl
-event-field (some e) = refl
+abbrev fits : FieldForm → Field → Bool
+fits number (Number n) = true
+fits number Dash = false
+fits numberOrDash f = true
+
+abbrev pub allFit : List FieldForm → List Field → Bool
+allFit [] [] = true
+allFit [] (f ∷ fs) = false
+allFit (x ∷ xs) [] = false
+allFit (x ∷ xs) (f ∷ fs) = fits x f && allFit xs fs
 
 pub event-back : (o : Option ℕ) → eventOf (eventField o) ≡ o
 unfolding eventField
@@ -55,90 +55,87 @@ unfolding isBelow eventField
 event-below n b none l h = tt
 event-below n b (some e) l h = le-trans (ltb-true e n h) l
 
-present : (f : Field) → aNumberOrDash f ≡ true → absent f ≡ false
-present (Number n) h = refl
-present Dash h = refl
-present Wrong h = refl
-present Absent h = clash h refl
+field-number : (f : Field) → Writable f → numberIn mostDigits (fieldBytes f) ≡ eventOf f
+unfolding fieldBytes
+field-number (Number n) w = number-back mostDigits n (omega arith) w
+field-number Dash w = unfold numberIn isNumber needlessZero digitOf every isA alike classOf named inDigits in refl
 
--- no piece is read as Absent
-never-absent : (most : ℕ) (p : List ℕ) → absent (fieldOf most p) ≡ false
-unfolding fieldOf
-never-absent most p = go (isNumber most p) (isDash p)
+field-fits : (x : FieldForm) (f : Field) → Writable f → isOf x (fieldBytes f) ≡ fits x f
+unfolding isOf fieldBytes
+field-fits number (Number n) w = number-written mostDigits n (omega arith) w
+field-fits number Dash w = unfold isNumber needlessZero digitOf every isA alike classOf named inDigits in refl
+field-fits numberOrDash (Number n) w = rw (number-written mostDigits n (omega arith) w)
+field-fits numberOrDash Dash w = unfold isNumber needlessZero digitOf every isDash isOnly isA alike classOf named inDigits in refl
+
+fields-fit : (xs : List FieldForm) (fs : List Field) → AllWritable fs → areOf xs (map fieldBytes fs) ≡ allFit xs fs
+unfolding areOf
+fields-fit [] [] w = refl
+fields-fit [] (f ∷ fs) w = refl
+fields-fit (x ∷ xs) [] w = refl
+fields-fit (x ∷ xs) (f ∷ fs) w = ap₂ _&&_ (field-fits x f (w .0)) (fields-fit xs fs (w .1))
+
+number-in : (fs : List Field) → AllWritable fs → (i : ℕ) → numberIn mostDigits (getD (map fieldBytes fs) i []) ≡ eventOf (getD fs i Dash)
+number-in [] w i = unfold numberIn isNumber in refl
+number-in (f ∷ fs) w zero = field-number f (w .0)
+number-in (f ∷ fs) w (suc i) = number-in fs (w .1) i
+
+-- ---- a line that is written, whatever form is asked for
+
+module _ {c : Char} (L : Letter c) (fs : List Field) where
+  pub fields-back : fieldsOf (ended (body c fs)) ≡ map fieldBytes fs
+  unfolding fieldsOf
+  fields-back = rw (body-pieces L fs)
+
+  letter-is : (d : Char) → hasLetter d (ended (body c fs)) ≡ isOnly (classOf (code d)) (code c ∷ [])
+  unfolding hasLetter
+  letter-is d = rw (body-pieces L fs)
+
+  module _ (w : AllWritable fs) where
+    pub form-back : (d : Char) (xs : List FieldForm) → isLine d xs (ended (body c fs)) ≡ (isOnly (classOf (code d)) (code c ∷ []) && allFit xs fs)
+    unfolding isLine
+    form-back d xs = rw (letter-is d, fields-back, fields-fit xs fs w)
+
+    pub event-at : (i : ℕ) → eventAt (ended (body c fs)) i ≡ eventOf (getD fs i Dash)
+    unfolding eventAt
+    event-at i = rw fields-back (number-in fs w i)
+
+    pub number-at : (i : ℕ) → numberAt (ended (body c fs)) i ≡ valueOf (getD fs i Dash)
+    unfolding numberAt
+    number-at i = ap orZero (event-at i)
+
+-- ---- a line of a form
+
+-- what is written for the fields of a line of these forms; p is its fields
+abbrev pub asked : List FieldForm → (ℕ → List ℕ) → List Field
+asked [] p = []
+asked (number ∷ xs) p = Number (orZero (numberIn mostDigits (p 0))) ∷ asked xs (λ i. p (suc i))
+asked (numberOrDash ∷ xs) p = eventField (numberIn mostDigits (p 0)) ∷ asked xs (λ i. p (suc i))
+
+number-bytes : (p : List ℕ) → isNumber mostDigits p ≡ true → fieldBytes (Number (orZero (numberIn mostDigits p))) ≡ p
+unfolding numberIn fieldBytes
+number-bytes p h = rw h (number-is mostDigits p h)
+
+event-bytes : (p : List ℕ) → (isNumber mostDigits p || isDash p) ≡ true → fieldBytes (eventField (numberIn mostDigits p)) ≡ p
+unfolding numberIn eventField fieldBytes
+event-bytes p h = go (isNumber mostDigits p) refl h
   where
-    go : (x y : Bool) → absent (cond x (Number (valueFrom 0 p)) (cond y Dash Wrong)) ≡ false
-    go true y = refl
-    go false true = refl
-    go false false = refl
+    go : (t : Bool) → isNumber mostDigits p ≡ t → (t || isDash p) ≡ true → fieldBytes (eventField (cond t (some (valueFrom 0 p)) none)) ≡ p
+    go true e h = number-is mostDigits p e
+    go false e h = sym (dash-bytes p h)
 
--- the fields of a line, and Absent beyond them
-abbrev fieldAt : List ℕ → ℕ → Field
-fieldAt l i = getD (fieldsOf mostDigits l) i Absent
+asked-bytes : (xs : List FieldForm) (ps : List (List ℕ)) → areOf xs ps ≡ true → map fieldBytes (asked xs (λ i. getD ps i [])) ≡ ps
+unfolding areOf isOf
+asked-bytes [] [] h = refl
+asked-bytes [] (p ∷ ps) h = clash h refl
+asked-bytes (x ∷ xs) [] h = clash h refl
+asked-bytes (number ∷ xs) (p ∷ ps) h = let z = and-true (isNumber mostDigits p) (areOf xs ps) h in ap₂ (λ q qs. q ∷ qs) (number-bytes p (z .0)) (asked-bytes xs ps (z .1))
+asked-bytes (numberOrDash ∷ xs) (p ∷ ps) h = let z = and-true (isNumber mostDigits p || isDash p) (areOf xs ps) h in ap₂ (λ q qs. q ∷ qs) (event-bytes p (z .0)) (asked-bytes xs ps (z .1))
 
-read-present : (l : List ℕ) (f : Field) → In f (fieldsOf mostDigits l) → absent f ≡ false
-unfolding fieldsOf
-read-present l f m = let z = Memᴰ·of-map (fieldOf mostDigits) (drop 1 (pieces l)) m in rw (← z .2) (never-absent mostDigits (z .0))
-
-field-count : (l : List ℕ) (n : ℕ) → absent (fieldAt l n) ≡ false → absent (fieldAt l (suc n)) ≡ true → length (fieldsOf mostDigits l) ≡ suc n
-field-count l n h e = elim (decLe (length (fieldsOf mostDigits l)) n) [
-  | yes a ↦ clash (ap absent (List·getD-eq-default (fieldsOf mostDigits l) Absent a)) h
-  | no a ↦ elim (decLe (suc (suc n)) (length (fieldsOf mostDigits l))) [
-    | yes b ↦ clash e (read-present l _ (at-in Absent (fieldsOf mostDigits l) (suc n) b))
-    | no b ↦ omega arith
-  ]
-]
-
--- where the last field is the one at n, these are the fields
-fields-are : (l : List ℕ) (n : ℕ) → aNumberOrDash (fieldAt l n) ≡ true → absent (fieldAt l (suc n)) ≡ true → fieldsOf mostDigits l ≡ map (fieldAt l) (upTo (suc n))
-fields-are l n h e = tabled Absent (fieldsOf mostDigits l) ∙ ap (λ (m : ℕ). map (fieldAt l) (upTo m)) (field-count l n (present (fieldAt l n) h) e)
-
--- where the first field is beyond them, there is none
-no-fields : (l : List ℕ) → absent (fieldAt l 0) ≡ true → fieldsOf mostDigits l ≡ []
-no-fields l e = go (fieldsOf mostDigits l) refl e
-  where
-    go : (fs : List Field) → fieldsOf mostDigits l ≡ fs → absent (getD fs 0 Absent) ≡ true → fs ≡ []
-    go [] q e = refl
-    go (f ∷ fs) q e = clash e (read-present l f (rw q here))
-
--- ---- a letter and no, one, two or three fields
-
-module _ {c : Char} {k : Class} (L : Letter c k) where
-  pub row-back : (fs : List Field) → AllWritable fs
-      → rowOf mostDigits (body c fs) ≡ record { letter = k; first = getD fs 0 Absent; second = getD fs 1 Absent; third = getD fs 2 Absent; fourth = getD fs 3 Absent }
-  unfolding rowOf
-  row-back fs w = rw (letter-back L fs, fields-back L fs w)
-
-  form-is : (l : List ℕ) (fs : List Field) → alike (letterIn l) k ≡ true → fieldsOf mostDigits l ≡ fs → every aNumberOrDash fs ≡ true → l ≡ body c fs
-  form-is l fs h e a = body-is L l h (rw e a) ∙ ap (body c) e
-
-  pub alone-is : (l : List ℕ) → isAlone k (rowOf mostDigits l) ≡ true → l ≡ body c []
-  unfolding isAlone rowOf every
-  alone-is l h = let z = and-true (alike (letterIn l) k) (absent (fieldAt l 0)) h in form-is l [] (z .0) (no-fields l (z .1)) refl
-
-  pub one-is : (l : List ℕ) → isOne k (rowOf mostDigits l) ≡ true → l ≡ body c (Number (valueOf (rowOf mostDigits l .first)) ∷ [])
-  unfolding isOne rowOf every upTo from
-  one-is l h =
-      let z = and-three (alike (letterIn l) k) (aNumber (fieldAt l 0)) (absent (fieldAt l 1)) h in
-      let p = is-number (fieldAt l 0) (z .1) in
-      form-is l _ (z .0) (fields-are l 0 (p .1) (z .2) ∙ ap (λ (f : Field). f ∷ []) (p .0)) refl
-
-  pub two-is : (l : List ℕ) → isTwo k (rowOf mostDigits l) ≡ true → l ≡ body c (Number (valueOf (rowOf mostDigits l .first)) ∷ Number (valueOf (rowOf mostDigits l .second)) ∷ [])
-  unfolding isTwo rowOf every upTo from
-  two-is l h =
-      let z = and-four (alike (letterIn l) k) (aNumber (fieldAt l 0)) (aNumber (fieldAt l 1)) (absent (fieldAt l 2)) h in
-      let p = is-number (fieldAt l 0) (z .1) in
-      let q = is-number (fieldAt l 1) (z .2) in
-      form-is l _ (z .0) (fields-are l 1 (q .1) (z .3) ∙ ap₂ (λ (f g : Field). f ∷ g ∷ []) (p .0) (q .0)) refl
-
-  pub three-is : (l : List ℕ) → isThree k (rowOf mostDigits l) ≡ true
-      → l ≡ body c (Number (valueOf (rowOf mostDigits l .first)) ∷ eventField (eventOf (rowOf mostDigits l .second)) ∷ eventField (eventOf (rowOf mostDigits l .third)) ∷ [])
-  unfolding isThree rowOf every upTo from
-  three-is l h =
-      let z = and-five (alike (letterIn l) k) (aNumber (fieldAt l 0)) (aNumberOrDash (fieldAt l 1)) (aNumberOrDash (fieldAt l 2)) (absent (fieldAt l 3)) h in
-      let p = is-number (fieldAt l 0) (z .1) .0 in
-      let q = ap₂ (λ (f g : Field). f ∷ g ∷ []) (is-event (fieldAt l 1) (z .2)) (is-event (fieldAt l 2) (z .3)) in
-      form-is l _ (z .0) (fields-are l 2 (z .3) (z .4) ∙ ap₂ (λ (f : Field) (fs : List Field). f ∷ fs) p q)
-      (rw (event-field (eventOf (fieldAt l 1)), event-field (eventOf (fieldAt l 2))))
+pub form-is : {c : Char} → Letter c → (xs : List FieldForm) (l : Line) → isLine c xs l ≡ true → (l .ended ≡ true) × (l .bytes ≡ body c (asked xs (λ i. getD (fieldsOf l) i [])))
+unfolding isLine
+form-is {c} L xs l h =
+    let z = and-three (l .ended) (hasLetter c l) (areOf xs (fieldsOf l)) h in
+    (z .0, body-is L l _ (z .1) (asked-bytes xs (fieldsOf l) (z .2)))
 
 -- ---- a letter and a list of numbers
 
@@ -146,35 +143,44 @@ pub numbers-below : (b : ℕ) (ns : List ℕ) → ((n : ℕ) → In n ns → n <
 numbers-below b [] h = tt
 numbers-below b (n ∷ ns) h = (h n here, numbers-below b ns (λ m i. h m (there i)))
 
-all-numbers : (ns : List ℕ) → every aNumber (map Number ns) ≡ true
-unfolding every
-all-numbers [] = refl
-all-numbers (n ∷ ns) = all-numbers ns
-
 pub values : (ns : List ℕ) → map valueOf (map Number ns) ≡ ns
 values [] = refl
 values (n ∷ ns) = ap (λ (l : List ℕ). n ∷ l) (values ns)
 
-numbers-are : (fs : List Field) → every aNumber fs ≡ true → fs ≡ map Number (map valueOf fs)
+all-numbers : (ns : List ℕ) → AllWritable (map Number ns) → every (isOf number) (map fieldBytes (map Number ns)) ≡ true
 unfolding every
-numbers-are [] h = refl
-numbers-are (f ∷ fs) h = let z = and-true (aNumber f) (every aNumber fs) h in ap₂ (λ (g : Field) (gs : List Field). g ∷ gs) (is-number f (z .0) .0) (numbers-are fs (z .1))
+all-numbers [] w = refl
+all-numbers (n ∷ ns) w = rw (field-fits number (Number n) (w .0)) (all-numbers ns (w .1))
 
-module _ {c : Char} {k : Class} (L : Letter c k) where
+numbers-read : (ns : List ℕ) → AllWritable (map Number ns) → map (λ p. orZero (numberIn mostDigits p)) (map fieldBytes (map Number ns)) ≡ ns
+numbers-read [] w = refl
+numbers-read (n ∷ ns) w = ap₂ (λ (m : ℕ) (ms : List ℕ). m ∷ ms) (ap orZero (field-number (Number n) (w .0))) (numbers-read ns (w .1))
+
+number-fields : (ps : List (List ℕ)) → every (isOf number) ps ≡ true → map fieldBytes (map Number (map (λ p. orZero (numberIn mostDigits p)) ps)) ≡ ps
+unfolding every isOf
+number-fields [] h = refl
+number-fields (p ∷ ps) h = let z = and-true (isNumber mostDigits p) (every (isOf number) ps) h in ap₂ (λ q qs. q ∷ qs) (number-bytes p (z .0)) (number-fields ps (z .1))
+
+module _ {c : Char} (L : Letter c) where
+  letter-same : isOnly (classOf (code c)) (code c ∷ []) ≡ true
+  unfolding isOnly isA alike
+  letter-same = eq-eqb (classCode (classOf (code c))) (classCode (classOf (code c))) refl
+
   pub list-back : (ns : List ℕ) → 0 < length ns → ((n : ℕ) → In n ns → n < 10 ^ mostDigits)
-      → (isList mostDigits k (body c (map Number ns)) ≡ true) × (numbersOf mostDigits (body c (map Number ns)) ≡ ns)
-  unfolding isList numbersOf alike
+      → (isListLine c (ended (body c (map Number ns))) ≡ true) × (numbersOf (ended (body c (map Number ns))) ≡ ns)
+  unfolding isListLine numbersOf
   list-back ns l h =
       let w = numbers-below (10 ^ mostDigits) ns h in
-      let n = le-leb 1 (length (map Number ns)) (omega (arith, length-map ns Number)) in (
-        rw (letter-back L (map Number ns), fields-back L (map Number ns) w, eq-eqb (classCode k) (classCode k) refl, n) (all-numbers ns),
-        rw (fields-back L (map Number ns) w) (values ns),
+      let n = le-leb 1 (length (map fieldBytes (map Number ns))) (omega (arith, length-map (map Number ns) fieldBytes, length-map ns Number)) in (
+        rw (letter-is L (map Number ns) c, fields-back L (map Number ns), letter-same, n) (all-numbers ns w),
+        rw (fields-back L (map Number ns)) (numbers-read ns w),
       )
 
-  pub list-is : (l : List ℕ) → isList mostDigits k l ≡ true → (l ≡ body c (map Number (numbersOf mostDigits l))) × (0 < length (numbersOf mostDigits l))
-  unfolding isList numbersOf
+  pub list-is : (l : Line) → isListLine c l ≡ true → (l .ended ≡ true) × (l .bytes ≡ body c (map Number (numbersOf l))) × (0 < length (numbersOf l))
+  unfolding isListLine numbersOf
   list-is l h =
-      let fs = fieldsOf mostDigits l in
-      let z = and-three (alike (letterIn l) k) (leb 1 (length fs)) (every aNumber fs) h in
-      let d = in-every aNumberOrDash fs (λ f m. is-number f (every-in aNumber fs (z .2) f m) .1) in
-      (body-is L l (z .0) d ∙ ap (body c) (numbers-are fs (z .2)), omega (arith, length-map fs valueOf, leb-true 1 (length fs) (z .1)))
+      let z = and-four (l .ended) (hasLetter c l) (leb 1 (length (fieldsOf l))) (every (isOf number) (fieldsOf l)) h in (
+        z .0,
+        body-is L l _ (z .1) (number-fields (fieldsOf l) (z .3)),
+        omega (arith, length-map (fieldsOf l) (λ p. orZero (numberIn mostDigits p)), leb-true 1 (length (fieldsOf l)) (z .2)),
+      )

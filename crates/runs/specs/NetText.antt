@@ -12,19 +12,17 @@ use lib.Dec.{ltb, leb}
 use borrow.Author.Tests.{ltb-true, ltb-false, leb-false}
 use Rattle.spec.specs.Lists.{any, upTo, sum, lowest, asCount, flat}
 use Rattle.spec.specs.Answer.{gives}
-use Rattle.spec.specs.Text.{Line, linesOf, byLines, rowOf, mostDigits}
-use Rattle.spec.specs.Forms.{isAlone, isOne, isTwo, valueOf}
-use Rattle.spec.specs.Net.{Net, places, joined, takes, makes, addPlace, addTransition, addArc, addRow, addLine, emptyNet, lacking, whole, netOf, readNet}
+use Rattle.spec.specs.Text.{Line, linesOf, byLines}
+use Rattle.spec.specs.Forms.{number, isLine, eventAt, numberAt}
+use Rattle.spec.specs.Net.{Net, places, joined, takes, makes, addPlace, addTransition, addArc, addLine, emptyNet, lacking, whole, netOf, readNet}
 use Rattle.spec.specs.NetText.{Declaration, newPlace, newTransition, newArc, declarationLine, netBytes, declare, declareAll, declared, Allowed, Complete}
 use Rattle.spec.specs.Exactness.{IsNet}
 use Rattle.spec.specs.declared.ArcKind.{ArcKind}
 use Rattle.spec.specs.declared.ArcKind.the-variants.{Input, Output, Inhibitor}
-use Rattle.spec.specs.declared.Class.the-variants.{LetterP, LetterT, LetterI, LetterO, LetterH}
 use Rattle.lists.specs.Laws.{and-true, or-false, false-or, not-is-false, count-pos, any-in, any-found, in-upTo, upTo-in, lowest-none, none-lowest, flat-map-snoc}
 use Rattle.runs.specs.Bytes.{P-letter, T-letter, I-letter, O-letter, H-letter}
-use Rattle.runs.specs.LineForms.{alone-is, one-is, two-is}
 use Rattle.runs.specs.Answers.{of-gives, not-refused, of-bind, of-when, of-lowest, of-cond}
-use Rattle.runs.specs.Texts.{lineBytes, text-is, ended-line}
+use Rattle.runs.specs.Texts.{lineBytes, text-is, form-line}
 use Rattle.runs.specs.Readers.{lines-keep}
 
 -- ---- one declaration more
@@ -88,18 +86,16 @@ module _ (k : ℕ) (n m : Net) where
       ((ltb-true p (places n) (b .0), ltb-true t (n .transitions) (b .1), y .0), of-gives (y .1))
 
   line-added : (l : Line) → addLine k l n ≡ gives m → Declares (lineBytes l) n m
-  unfolding addLine addRow declarationLine
+  unfolding addLine declarationLine numberAt eventAt
   line-added l h =
-      let w = rowOf mostDigits (l .bytes) in
-      let a = of-when 11 k (not (l .ended)) (addRow k w n) h in
-      let ends = not-is-false (l .ended) (a .0) in
-      let u = valueOf (w .first) in
-      let v = valueOf (w .second) in
-      of-cond (isOne LetterP w) _ _ (a .1) (λ t q. declares (newPlace u) (ended-line "P" _ l ends (one-is P-letter (l .bytes) t)) (place-added u q)) λ h.
-      of-cond (isAlone LetterT w) _ _ h (λ t q. declares newTransition (ended-line "T" _ l ends (alone-is T-letter (l .bytes) t)) (transition-added q)) λ h.
-      of-cond (isTwo LetterI w) _ _ h (λ t q. declares (newArc Input u v) (ended-line "I" _ l ends (two-is I-letter (l .bytes) t)) (arc-added Input u v q)) λ h.
-      of-cond (isTwo LetterO w) _ _ h (λ t q. declares (newArc Output v u) (ended-line "O" _ l ends (two-is O-letter (l .bytes) t)) (arc-added Output v u q)) λ h.
-      of-cond (isTwo LetterH w) _ _ h (λ t q. declares (newArc Inhibitor u v) (ended-line "H" _ l ends (two-is H-letter (l .bytes) t)) (arc-added Inhibitor u v q)) not-refused
+      let two = number ∷ number ∷ [] in
+      let u = numberAt l 0 in
+      let v = numberAt l 1 in
+      of-cond (isLine "P" (number ∷ []) l) _ _ h (λ t q. declares (newPlace u) (form-line P-letter (number ∷ []) l t) (place-added u q)) λ h.
+      of-cond (isLine "T" [] l) _ _ h (λ t q. declares newTransition (form-line T-letter [] l t) (transition-added q)) λ h.
+      of-cond (isLine "I" two l) _ _ h (λ t q. declares (newArc Input u v) (form-line I-letter two l t) (arc-added Input u v q)) λ h.
+      of-cond (isLine "O" two l) _ _ h (λ t q. declares (newArc Output v u) (form-line O-letter two l t) (arc-added Output v u q)) λ h.
+      of-cond (isLine "H" two l) _ _ h (λ t q. declares (newArc Inhibitor u v) (form-line H-letter two l t) (arc-added Inhibitor u v q)) not-refused
 
 -- ---- a text
 

@@ -28,7 +28,7 @@ use Rattle.lists.specs.Laws.{or-false, not-is-false, true-or-false, any-none, m
 use Rattle.runs.specs.Bytes.{G-letter}
 use Rattle.runs.specs.LineForms.{list-back}
 use Rattle.runs.specs.Answers.{of-gives, of-bind, of-when, of-lowest}
-use Rattle.runs.specs.Texts.{lineBytes, ended-list}
+use Rattle.runs.specs.Texts.{lineBytes, list-line}
 use Rattle.runs.specs.Readers.{Takes, takes-line, takes-end, takes-all, text-keeps}
 use Rattle.runs.specs.Lines.{first-inside}
 use Rattle.runs.specs.Unbroken.{keeps-unbroken, unbroken-keeps}
@@ -146,12 +146,12 @@ group-lined : (R : RunRecord) (k : ℕ) (l : Line) (lines more : List (List ℕ)
     → IsLined R (done ++ lineBytes l) more
 unfolding groupsLine isGroupLine arrangementBytes groupLine
 group-lined R k l lines more done h I =
-    let es : List ℕ = numbersOf mostDigits (l .bytes) in
+    let es : List ℕ = numbersOf l in
     let a = of-when 41 k _ _ h in
     let b = of-when 42 k _ _ (a .1) in
     let c = of-when 43 k _ _ (b .1) in
     let d = of-when 44 k _ _ (c .1) in
-    let y = ended-list G-letter l (not-is-false _ (a .0)) in
+    let y = list-line G-letter l (not-is-false _ (a .0)) in
     subst (IsLined R (done ++ lineBytes l)) (of-gives (d .1)) (record {
       written = ap₂ _++_ (I .written) (y .0) ∙ sym (flat-map-snoc groupLine lines es);
       lined = lined-snoc R lines es (I .lined) (y .1) (b .0) (c .0) (d .0);

@@ -20,10 +20,10 @@ use Rattle.spec.specs.declared.Field.the-variants.{Number}
 use Rattle.spec.specs.declared.Limits.{Limits}
 use Rattle.lists.specs.Laws.{not-is-false, all-below, flat-map-snoc, index-snoc}
 use Rattle.runs.specs.Bytes.{S-letter}
-use Rattle.runs.specs.Fields.{body}
+use Rattle.runs.specs.Fields.{body, ended}
 use Rattle.runs.specs.LineForms.{list-back}
 use Rattle.runs.specs.Answers.{of-gives, of-when}
-use Rattle.runs.specs.Texts.{lineBytes, text-is, ended, ended-list}
+use Rattle.runs.specs.Texts.{lineBytes, text-is, list-line}
 use Rattle.runs.specs.Readers.{Takes, takes-line, takes-end, takes-all, lines-keep}
 use Rattle.runs.specs.ReadRecord.{Fits}
 use Rattle.runs.specs.Steps.{enabled-tests}
@@ -118,7 +118,7 @@ module _ (lim : Limits) (N : Net) where
   line-logged : (k : ℕ) (l : Line) (r s : Run) (done : List ℕ) → logLine lim N k l r ≡ gives s → IsLog lim N k r done → IsLog lim N (suc k) s (done ++ lineBytes l)
   unfolding logLine isStepLine stepLine recordOf
   line-logged k l r s done h I =
-      let ts : List ℕ = numbersOf mostDigits (l .bytes) in
+      let ts : List ℕ = numbersOf l in
       let a = of-when 21 k _ _ h in
       let b = of-when 22 k _ _ (a .1) in
       let c = of-when 23 k _ _ (b .1) in
@@ -126,7 +126,7 @@ module _ (lim : Limits) (N : Net) where
       let e = of-when 25 k _ _ (d .1) in
       let f = of-when 26 k _ _ (e .1) in
       let g = of-when 27 k _ _ (f .1) in
-      let y = ended-list S-letter l (not-is-false _ (a .0)) in
+      let y = list-line S-letter l (not-is-false _ (a .0)) in
       subst (λ s. IsLog lim N (suc k) s (done ++ lineBytes l)) (of-gives (g .1)) (rw (y .0)
       (step-logged k r done ts I (y .1) (all-below (N .transitions) ts .0 (b .0)) (enabled-tests N (r .marking) ts .0 (d .0, e .0)) (record {
         events = le-trans (le-of-eq (step-events N k ts r)) (ltb-false (lim .events) _ (c .0));

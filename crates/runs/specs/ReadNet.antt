@@ -6,9 +6,9 @@ use mathlib.Core.List.{List, [], _∷_, _++_, append-assoc}
 use borrow.Author.Tests.{lt-ltb, le-ltb, lt-leb}
 use Rattle.spec.specs.Lists.{sum}
 use Rattle.spec.specs.Answer.{gives, _>>=_, _>>_, refuse_at_when_, refuse_at?_}
-use Rattle.spec.specs.Text.{linesOf, byLines, alike, mostDigits}
-use Rattle.spec.specs.Forms.{isAlone, isOne, isTwo}
-use Rattle.spec.specs.Net.{Net, places, withArc, addPlace, addTransition, addArc, addRow, addLine, emptyNet, whole, netOf, readNet}
+use Rattle.spec.specs.Classes.{alike}
+use Rattle.spec.specs.Text.{linesOf, byLines, named, inDigits, classOf, isA, isOnly, mostDigits}
+use Rattle.spec.specs.Net.{Net, places, withArc, addPlace, addTransition, addArc, addLine, emptyNet, whole, netOf, readNet}
 use Rattle.spec.specs.NetText.{Declaration, newPlace, newTransition, newArc, declarationLine, netBytes, declare, declareAll, declared, Allowed}
 use Rattle.spec.specs.Exactness.{IsNet}
 use Rattle.spec.specs.declared.ArcKind.{ArcKind}
@@ -16,7 +16,7 @@ use Rattle.spec.specs.declared.ArcKind.the-variants.{Input, Output, Inhibitor}
 use Rattle.spec.specs.declared.Field.the-variants.{Number}
 use Rattle.runs.specs.Bytes.{P-letter, T-letter, I-letter, O-letter, H-letter}
 use Rattle.runs.specs.Fields.{AllWritable}
-use Rattle.runs.specs.LineForms.{row-back}
+use Rattle.runs.specs.LineForms.{form-back, number-at}
 use Rattle.runs.specs.Readers.{Takes, takes-line, takes-end, takes-all}
 use Rattle.runs.specs.NetText.{declare-snoc, Sound, complete-is}
 use Rattle.runs.specs.NetLimits.{NetLimits, sound-limits}
@@ -31,27 +31,27 @@ module _ (k : ℕ) (n : Net) (L : NetLimits n) where
   arc-added x p t a = rw (lt-ltb p (places n) (a .0), lt-ltb t (n .transitions) (a .1), a .2)
 
   line-taken : (d : Declaration) → Allowed n d → Takes addLine k n (declarationLine d) (suc k) (declare n d)
-  unfolding declarationLine declare addLine addRow isOne isAlone isTwo alike addPlace addTransition _>>_ refuse_at_when_
+  unfolding declarationLine declare addLine isOnly isA alike classOf named inDigits addPlace addTransition _>>_ refuse_at_when_
   line-taken (newPlace v) a =
       let fs = Number v ∷ [] in
       let w : AllWritable fs = (omega (arith, a .1), tt) in
-      takes-line P-letter fs (rw (row-back P-letter fs w, lt-leb 32 (places n) (a .0), le-ltb 512 (sum (n .tokens) + v) (a .1)))
-  line-taken newTransition a = takes-line T-letter [] (rw (row-back T-letter [] tt, lt-leb 32 (n .transitions) a))
+      takes-line P-letter fs (simp (form-back P-letter fs w, number-at P-letter fs w) (rw (lt-leb 32 (places n) (a .0), le-ltb 512 (sum (n .tokens) + v) (a .1))))
+  line-taken newTransition a = takes-line T-letter [] (simp (form-back T-letter [] tt) (rw (lt-leb 32 (n .transitions) a)))
   line-taken (newArc Input p t) a =
       let fs = Number p ∷ Number t ∷ [] in
       let e = ends p t (a .0) (a .1) in
       let w : AllWritable fs = (e .0, (e .1, tt)) in
-      takes-line I-letter fs (rw (row-back I-letter fs w) (arc-added Input p t a))
+      takes-line I-letter fs (simp (form-back I-letter fs w, number-at I-letter fs w) (arc-added Input p t a))
   line-taken (newArc Output p t) a =
       let fs = Number t ∷ Number p ∷ [] in
       let e = ends p t (a .0) (a .1) in
       let w : AllWritable fs = (e .1, (e .0, tt)) in
-      takes-line O-letter fs (rw (row-back O-letter fs w) (arc-added Output p t a))
+      takes-line O-letter fs (simp (form-back O-letter fs w, number-at O-letter fs w) (arc-added Output p t a))
   line-taken (newArc Inhibitor p t) a =
       let fs = Number p ∷ Number t ∷ [] in
       let e = ends p t (a .0) (a .1) in
       let w : AllWritable fs = (e .0, (e .1, tt)) in
-      takes-line H-letter fs (rw (row-back H-letter fs w) (arc-added Inhibitor p t a))
+      takes-line H-letter fs (simp (form-back H-letter fs w, number-at H-letter fs w) (arc-added Inhibitor p t a))
 
 -- what stands above a line is sound too
 above-sound : (ds above below : List Declaration) (d : Declaration) → Sound emptyNet ds → ds ≡ above ++ d ∷ below → Sound emptyNet above

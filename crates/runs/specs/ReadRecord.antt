@@ -9,12 +9,12 @@ use lib.ListN.{length}
 use borrow.Author.Tests.{lt-ltb, le-ltb, lt-leb, eq-eqb}
 use Rattle.spec.specs.Lists.{any, count, flat}
 use Rattle.spec.specs.Answer.{gives, _>>_, refuse_at_when_}
-use Rattle.spec.specs.Text.{linesOf, byLines, alike, mostDigits}
-use Rattle.spec.specs.Forms.{isOne, isTwo, isThree}
+use Rattle.spec.specs.Classes.{alike}
+use Rattle.spec.specs.Text.{linesOf, byLines, named, inDigits, classOf, isA, isOnly, mostDigits}
 use Rattle.spec.specs.Net.{Net, places}
 use Rattle.spec.specs.Record.{RunRecord, Condition, Mark, isAt, marked, eventField, eventLine, conditionLine, markLineOf, markLine, recordBytes}
 use Rattle.spec.specs.Process.{WellFormed, isBelow}
-use Rattle.spec.specs.Checking.{isEmpty, withEvent, withCondition, withMark, enterEvent, enterCondition, enterMark, conditionOf, markIn, enterRow, enterLine, emptyRecord}
+use Rattle.spec.specs.Checking.{isEmpty, withEvent, withCondition, withMark, enterEvent, enterCondition, enterMark, conditionOf, markIn, enterLine, emptyRecord}
 use Rattle.spec.specs.declared.Field.the-variants.{Number}
 use Rattle.spec.specs.declared.Limits.{Limits}
 use Rattle.spec.specs.declared.MarkKind.{MarkKind}
@@ -22,7 +22,7 @@ use Rattle.spec.specs.declared.MarkKind.the-variants.{Before, After}
 use Rattle.lists.specs.Laws.{any-count, count-append, count-cons, count-true, true-and}
 use Rattle.runs.specs.Bytes.{E-letter, C-letter, B-letter, A-letter}
 use Rattle.runs.specs.Fields.{AllWritable}
-use Rattle.runs.specs.LineForms.{event-field, event-back, event-below, row-back}
+use Rattle.runs.specs.LineForms.{event-back, event-below, form-back, event-at, number-at}
 use Rattle.runs.specs.Readers.{Takes, takes-line, takes-append, takes-end, takes-all}
 
 -- the record is within the limits
@@ -49,30 +49,21 @@ parts es cs ms = record { events = es; conditions = cs; marks = ms }
 
 module _ (lim : Limits) (N : Net) (S : Printed lim N) (k : ℕ) where
   event-taken : (t : ℕ) (es : List ℕ) → length es < lim .events → t < N .transitions → Takes (enterLine lim N) k (parts es [] []) (eventLine t) (suc k) (parts (es ++ t ∷ []) [] [])
-  unfolding eventLine enterLine enterRow isOne alike enterEvent isEmpty withEvent _>>_ refuse_at_when_
+  unfolding eventLine enterLine isOnly isA alike classOf named inDigits enterEvent isEmpty withEvent _>>_ refuse_at_when_
   event-taken t es l h =
       let w : AllWritable (Number t ∷ []) = (le-trans h (S .transitions), tt) in
-      takes-line E-letter (Number t ∷ []) (rw (row-back E-letter (Number t ∷ []) w, lt-leb (lim .events) (length es) l, lt-leb (N .transitions) t h))
+      takes-line E-letter (Number t ∷ []) (simp (form-back E-letter (Number t ∷ []) w, number-at E-letter (Number t ∷ []) w) (rw (lt-leb (lim .events) (length es) l, lt-leb (N .transitions) t h)))
 
   condition-taken : (c : Condition) (es : List ℕ) (cs : List Condition) → length es ≤ lim .events → length cs < lim .conditions
       → c .place < places N → isBelow (length es) (c .producer) ≡ true → isBelow (length es) (c .consumer) ≡ true
       → Takes (enterLine lim N) k (parts es cs []) (conditionLine c) (suc k) (parts es (cs ++ c ∷ []) [])
-  unfolding conditionLine enterLine enterRow isOne isThree alike conditionOf enterCondition isEmpty withCondition _>>_ refuse_at_when_
+  unfolding conditionLine enterLine isOnly isA alike classOf named inDigits conditionOf enterCondition isEmpty withCondition _>>_ refuse_at_when_
   condition-taken c es cs b l p x y =
       let fs = Number (c .place) ∷ eventField (c .producer) ∷ eventField (c .consumer) ∷ [] in
       let few = le-trans b (S .events) in
       let w : AllWritable fs = (le-trans p (S .places), (event-below (length es) (10 ^ mostDigits) (c .producer) few x, (event-below (length es) (10 ^ mostDigits) (c .consumer) few y, tt))) in
-      takes-line C-letter fs (rw (
-        row-back C-letter fs w,
-        event-field (c .producer),
-        event-field (c .consumer),
-        event-back (c .producer),
-        event-back (c .consumer),
-        lt-leb (lim .conditions) (length cs) l,
-        lt-ltb (c .place) (places N) p,
-        x,
-        y,
-      ))
+      takes-line C-letter fs (simp (form-back C-letter fs w, number-at C-letter fs w, event-at C-letter fs w)
+      (rw (event-back (c .producer), event-back (c .consumer), lt-leb (lim .conditions) (length cs) l, lt-ltb (c .place) (places N) p, x, y)))
 
   mark-entered : (m : Mark) (es : List ℕ) (cs : List Condition) (ms : List Mark) → length ms < lim .marks → m .condition < length cs → m .event < length es
       → any (isAt (m .condition) (m .event)) ms ≡ false
@@ -82,9 +73,9 @@ module _ (lim : Limits) (N : Net) (S : Printed lim N) (k : ℕ) where
 
   mark-taken : (x : MarkKind) (c e : ℕ) (r s : RunRecord) → c < 10 ^ mostDigits → e < 10 ^ mostDigits → enterMark lim k (record { kind = x; condition = c; event = e }) r ≡ gives s
       → Takes (enterLine lim N) k r (markLineOf x c e) (suc k) s
-  unfolding markLineOf enterLine enterRow isOne isThree isTwo alike markIn _>>_ refuse_at_when_
-  mark-taken Before c e r s l h q = takes-line B-letter (Number c ∷ Number e ∷ []) (rw (row-back B-letter (Number c ∷ Number e ∷ []) (l, (h, tt))) q)
-  mark-taken After c e r s l h q = takes-line A-letter (Number c ∷ Number e ∷ []) (rw (row-back A-letter (Number c ∷ Number e ∷ []) (l, (h, tt))) q)
+  unfolding markLineOf enterLine isOnly isA alike classOf named inDigits markIn _>>_ refuse_at_when_
+  mark-taken Before c e r s l h q = takes-line B-letter (Number c ∷ Number e ∷ []) (simp (form-back B-letter (Number c ∷ Number e ∷ []) (l, (h, tt)), number-at B-letter (Number c ∷ Number e ∷ []) (l, (h, tt))) q)
+  mark-taken After c e r s l h q = takes-line A-letter (Number c ∷ Number e ∷ []) (simp (form-back A-letter (Number c ∷ Number e ∷ []) (l, (h, tt)), number-at A-letter (Number c ∷ Number e ∷ []) (l, (h, tt))) q)
 
 -- ---- the whole record
 

@@ -14,23 +14,21 @@ use lib.Dec.{eqb, ltb, leb}
 use borrow.Author.Tests.{eq-eqb, eqb-true, eqb-false, ltb-true, ltb-false, leb-true, leb-false}
 use Rattle.spec.specs.Lists.{In, upTo, any, count, first, flat, isIn}
 use Rattle.spec.specs.Order.{hasPath, isStrictlyBefore, isNotLater}
-use Rattle.spec.specs.Text.{Line, linesOf, byLines, rowOf, mostDigits}
-use Rattle.spec.specs.Forms.{isAlone, isOne, isTwo, isThree, valueOf, numbersOf}
-use Rattle.spec.specs.Net.{Net, Arc, places, arcKindCode, isArc, joined, withPlace, withTransition, withArc, addPlace, addTransition, addArc, addRow, addLine, emptyNet, lacking, whole, netOf}
+use Rattle.spec.specs.Text.{Line, linesOf, byLines}
+use Rattle.spec.specs.Forms.{number, numberOrDash, isLine, numberAt, numbersOf}
+use Rattle.spec.specs.Net.{Net, Arc, places, arcKindCode, isArc, joined, withPlace, withTransition, withArc, addPlace, addTransition, addArc, addLine, emptyNet, lacking, whole, netOf}
 use Rattle.spec.specs.Record.{RunRecord, Condition, Mark, isAt, marked, bench}
 use Rattle.spec.specs.Building.{Run, start, inStep, playStep, isStepLine, logLine, playLog, built}
-use Rattle.spec.specs.Checking.{withEvent, withCondition, withMark, enterEvent, enterCondition, enterMark, conditionOf, markIn, enterRow, enterLine, emptyRecord, obeys, readRecord}
+use Rattle.spec.specs.Checking.{withEvent, withCondition, withMark, enterEvent, enterCondition, enterMark, conditionOf, markIn, enterLine, emptyRecord, obeys, readRecord}
 use Rattle.spec.specs.Replaying.{isGroupLine, repeats, late, breaks, groupsLine, missing, readArrangement}
 use Rattle.spec.specs.Exactness.{IsProcess}
-use Rattle.spec.specs.Refusals.{netRefusals, logRefusals, recordRefusals, arrangementRefusals, IsAmong}
+use Rattle.spec.specs.Refusals.{netRefusals, logRefusals, recordRefusals, arrangementRefusals}
 use Rattle.spec.specs.declared.ArcKind.{ArcKind}
 use Rattle.spec.specs.declared.ArcKind.the-variants.{Input, Output, Inhibitor}
-use Rattle.spec.specs.declared.Class.the-variants.{LetterP, LetterT, LetterI, LetterO, LetterH, LetterE, LetterC, LetterB, LetterA}
 use Rattle.spec.specs.declared.MarkKind.the-variants.{Before, After}
-use Rattle.spec.specs.declared.Row.{Row}
 use Rattle.lists.specs.Laws.{true-or-false, clash, and-true, true-and, or-true, or-false, not-is-true, not-is-false, one-le, count-cons, count-append, count-none, count-in, count-same, count-true, count-false, eqb-sym, neqb-count, any-none, any-found, all-below, in-upTo, flat-long}
 use Rattle.runs.specs.Bytes.{S-letter, G-letter}
-use Rattle.runs.specs.Texts.{ended-list}
+use Rattle.runs.specs.Texts.{list-line}
 use Rattle.runs.specs.Closure.{strict-is}
 use Rattle.runs.specs.ReadArrangement.{once-each, Lined, lined-snoc, no-lines}
 use Rattle.runs.specs.Within.{listed, Within, given-within, refused-within, when-within, cond-within, seq-within, lowest-within, bind-within, lines-within, has-some, few}
@@ -124,16 +122,14 @@ module _ {k : ℕ} {n : Net} (D : Drafted k n) where
       })
 
   line-within : (l : Line) → Within (Drafted (suc k)) netRefusals (addLine k l n)
-  unfolding addLine addRow first
+  unfolding addLine first
   line-within l =
-      let r : Row = rowOf mostDigits (l .bytes) in
-      let a : ℕ = valueOf (r .first) in
-      let b : ℕ = valueOf (r .second) in
-      let bad : IsAmong netRefusals 11 k = listed netRefusals 11 refl spot-few in
-      when-within 11 k _ _ (λ e. bad) λ e.
-      cond-within (isOne LetterP r) _ _ (place-within a) (cond-within (isAlone LetterT r) _ _ transition-within
-      (cond-within (isTwo LetterI r) _ _ (arc-within Input a b) (cond-within (isTwo LetterO r) _ _ (arc-within Output b a)
-      (cond-within (isTwo LetterH r) _ _ (arc-within Inhibitor a b) (refused-within bad)))))
+      let two = number ∷ number ∷ [] in
+      let a : ℕ = numberAt l 0 in
+      let b : ℕ = numberAt l 1 in
+      cond-within (isLine "P" (number ∷ []) l) _ _ (place-within a) (cond-within (isLine "T" [] l) _ _ transition-within
+      (cond-within (isLine "I" two l) _ _ (arc-within Input a b) (cond-within (isLine "O" two l) _ _ (arc-within Output b a)
+      (cond-within (isLine "H" two l) _ _ (arc-within Inhibitor a b) (refused-within (listed netRefusals 11 refl spot-few))))))
 
   whole-within : Within (λ m. Unit) netRefusals (whole n)
   unfolding whole first
@@ -156,11 +152,11 @@ module _ (N : Net) where
   unfolding logLine isStepLine playStep bench first
   step-within k l r D =
       let spot : (1 ≤ k) × (k ≤ 129) = (D .some, omega (arith, D .next, D .events)) in
-      let ts : List ℕ = numbersOf mostDigits (l .bytes) in
+      let ts : List ℕ = numbersOf l in
       when-within 21 k _ _ (λ t. listed logRefusals 21 refl spot) λ a. when-within 22 k _ _ (λ t. listed logRefusals 22 refl spot) λ b.
       when-within 23 k _ _ (λ t. listed logRefusals 23 refl spot) λ c.
       let more : length (r .events ++ map (inStep k) ts) ≡ length (r .events) + length ts = omega (arith, length-append (r .events) (map (inStep k) ts), length-map ts (inStep k)) in
-      let full = ended-list S-letter l (not-is-false _ a) .1 in
+      let full = list-line S-letter l (not-is-false _ a) .1 in
       let room = ltb-false 128 (length (r .events) + length ts) c in
       let here : (1 ≤ k) × (k ≤ 128) = (D .some, omega (arith, D .next)) in
       when-within 24 k _ _ (λ t. listed logRefusals 24 refl here) λ d. when-within 25 k _ _ (λ t. listed logRefusals 25 refl here) λ e.
@@ -221,13 +217,13 @@ module _ (N : Net) {k : ℕ} {r : RunRecord} (D : Entered k r) where
       given-within (record { next = omega (arith, D .next); events = D .events; conditions = D .conditions; marks = omega arith })
 
   row-within : (l : Line) → Within (Entered (suc k)) recordRefusals (enterLine bench N k l r)
-  unfolding enterLine enterRow first
+  unfolding enterLine first
   row-within l =
-      let w : Row = rowOf mostDigits (l .bytes) in
-      let bad : IsAmong recordRefusals 31 k = listed recordRefusals 31 refl record-spot in
-      when-within 31 k _ _ (λ e. bad) λ e.
-      cond-within (isOne LetterE w) _ _ (event-within (valueOf (w .first))) (cond-within (isThree LetterC w) _ _ (condition-within (conditionOf w))
-      (cond-within (isTwo LetterB w) _ _ (mark-within (markIn Before w)) (cond-within (isTwo LetterA w) _ _ (mark-within (markIn After w)) (refused-within bad))))
+      let two = number ∷ number ∷ [] in
+      let three = number ∷ numberOrDash ∷ numberOrDash ∷ [] in
+      cond-within (isLine "E" (number ∷ []) l) _ _ (event-within (numberAt l 0)) (cond-within (isLine "C" three l) _ _ (condition-within (conditionOf l))
+      (cond-within (isLine "B" two l) _ _ (mark-within (markIn Before l)) (cond-within (isLine "A" two l) _ _ (mark-within (markIn After l))
+      (refused-within (listed recordRefusals 31 refl record-spot)))))
 
 -- the rules that are judged after all lines
 rules-within : (N : Net) (r : RunRecord) → places N ≤ 32 → length (r .events) ≤ 128 → Within (λ u. Unit) recordRefusals (obeys N r)
@@ -314,13 +310,13 @@ module _ (N : Net) (R : RunRecord) (I : IsProcess N R) where
   group-within : (k : ℕ) (l : Line) (gs : List (List ℕ)) → Grouped k gs → Within (Grouped (suc k)) arrangementRefusals (groupsLine R k l gs)
   unfolding groupsLine isGroupLine first
   group-within k l gs D =
-      let es : List ℕ = numbersOf mostDigits (l .bytes) in
+      let es : List ℕ = numbersOf l in
       let long = flat-long gs (D .lined .full) in
       let spot : (1 ≤ k) × (k ≤ 129) = (omega (arith, D .next), omega (arith, D .next, numbers-few n (flat gs) (D .lined .known) (D .lined .once), I .events)) in
       when-within 41 k _ _ (λ t. listed arrangementRefusals 41 refl spot) λ a. when-within 42 k _ _ (λ t. listed arrangementRefusals 42 refl spot) λ b.
       when-within 43 k _ _ (λ t. listed arrangementRefusals 43 refl spot) λ c.
       when-within 44 k _ _ (λ t. listed arrangementRefusals 44 refl (spot .0, omega (arith, D .next, broken-early gs es (D .lined) b c t, I .events))) λ d.
-      given-within (record { next = omega (arith, D .next, length-append gs (es ∷ [])); lined = lined-snoc R gs es (D .lined) (ended-list G-letter l (not-is-false _ a) .1) b c d })
+      given-within (record { next = omega (arith, D .next, length-append gs (es ∷ [])); lined = lined-snoc R gs es (D .lined) (list-line G-letter l (not-is-false _ a) .1) b c d })
 
   pub arrangement-within : (text : List ℕ) → Within (λ gs. Unit) arrangementRefusals (readArrangement R text)
   unfolding readArrangement first

@@ -8,13 +8,12 @@ use lib.ListN.{length, length-append}
 use Rattle.spec.specs.Lists.{In, flat}
 use Rattle.spec.specs.Answer.{Answer, gives, _>>=_}
 use Rattle.spec.specs.Text.{Line, linesOf, byLines, lineWith}
-use Rattle.spec.specs.declared.Class.{Class}
 use Rattle.spec.specs.declared.Field.{Field}
 use Rattle.lists.specs.Laws.{here}
 use Rattle.runs.specs.Bytes.{Letter}
-use Rattle.runs.specs.Fields.{body}
+use Rattle.runs.specs.Fields.{body, ended}
 use Rattle.runs.specs.Answers.{of-gives, of-bind}
-use Rattle.runs.specs.Texts.{ended, line-back, lineBytes, text-is}
+use Rattle.runs.specs.Texts.{line-back, lineBytes, text-is}
 
 -- ---- what is written is read
 
@@ -23,7 +22,7 @@ pub record Takes {S : Type 0} (f : ℕ → Line → S → Answer S) (k : ℕ) (s
   pub reads : (rest : List ℕ) → byLines f k (linesOf (text ++ rest)) s ≡ byLines f j (linesOf rest) t
 
 module _ {S : Type 0} {f : ℕ → Line → S → Answer S} where
-  pub takes-line : {c : Char} {K : Class} → Letter c K → (fs : List Field)
+  pub takes-line : {c : Char} → Letter c → (fs : List Field)
       → {k : ℕ} {s t : S} → f k (ended (body c fs)) s ≡ gives t → Takes f k s (lineWith c fs) (suc k) t
   unfolding byLines _>>=_
   takes-line L fs h = record { reads = λ rest. rw (line-back L fs rest, h) }

@@ -4,27 +4,25 @@ use mathlib.Core.Path.{_≡_, refl, sym, ap, _∙_, subst}
 use mathlib.Core.Logic.{inl, inr}
 use Prim.Native.Nat.{ℕ, _<_, zero-le}
 use native.Mathlib.Omega.{arith}
-use mathlib.Core.Bool.{true, false, not}
+use mathlib.Core.Bool.{true, false}
 use mathlib.Core.List.{List, [], _∷_, _++_, map, append-nil, append-assoc, List·Memᴰ·not-nil}
 use lib.ListN.{length, length-append}
 use lib.Dec.{eqb, ltb}
 use borrow.Author.Tests.{ltb-true, leb-false, eqb-true}
 use Rattle.spec.specs.Lists.{In, any, count, flat}
 use Rattle.spec.specs.Answer.{gives}
-use Rattle.spec.specs.Text.{Line, linesOf, byLines, rowOf, mostDigits}
-use Rattle.spec.specs.Forms.{isOne, isTwo, isThree, valueOf}
+use Rattle.spec.specs.Text.{Line, linesOf, byLines}
+use Rattle.spec.specs.Forms.{number, numberOrDash, isLine, eventAt, numberAt}
 use Rattle.spec.specs.Net.{Net, places}
 use Rattle.spec.specs.Record.{RunRecord, Condition, Mark, isAt, marked, eventLine, conditionLine, markLineOf, markLine, recordBytes}
 use Rattle.spec.specs.Process.{WellFormed, isBelow}
-use Rattle.spec.specs.Checking.{isEmpty, withEvent, withCondition, withMark, enterEvent, enterCondition, enterMark, conditionOf, markIn, enterRow, enterLine, emptyRecord}
-use Rattle.spec.specs.declared.Class.the-variants.{LetterE, LetterC, LetterB, LetterA}
+use Rattle.spec.specs.Checking.{isEmpty, withEvent, withCondition, withMark, enterEvent, enterCondition, enterMark, conditionOf, markIn, enterLine, emptyRecord}
 use Rattle.spec.specs.declared.Limits.{Limits}
 use Rattle.spec.specs.declared.MarkKind.the-variants.{Before, After}
 use Rattle.lists.specs.Laws.{clash, true-or-false, and-true, and-three, not-is-false, all-snoc, any-none, count-none, count-append, count-cons, count-false, one-le, flat-map-snoc}
 use Rattle.runs.specs.Bytes.{E-letter, C-letter, B-letter, A-letter}
-use Rattle.runs.specs.LineForms.{one-is, two-is, three-is}
 use Rattle.runs.specs.Answers.{of-gives, not-refused, of-when, of-cond}
-use Rattle.runs.specs.Texts.{lineBytes, ended-line}
+use Rattle.runs.specs.Texts.{lineBytes, form-line}
 use Rattle.runs.specs.Readers.{text-keeps}
 use Rattle.runs.specs.ReadRecord.{Fits, MarksOnce}
 
@@ -166,15 +164,14 @@ module _ (lim : Limits) (N : Net) (k : ℕ) (r s : RunRecord) (done : List ℕ) 
       })
 
   line-entered : (l : Line) → enterLine lim N k l r ≡ gives s → IsRecord lim N (done ++ lineBytes l) s
-  unfolding enterLine enterRow eventLine conditionLine markLine markLineOf conditionOf markIn
+  unfolding enterLine eventLine conditionLine markLine markLineOf conditionOf markIn numberAt eventAt
   line-entered l h =
-      let w = rowOf mostDigits (l .bytes) in
-      let a = of-when 31 k (not (l .ended)) (enterRow lim N k w r) h in
-      let ends = not-is-false (l .ended) (a .0) in
-      of-cond (isOne LetterE w) _ _ (a .1) (λ t q. rw (ended-line "E" _ l ends (one-is E-letter (l .bytes) t)) (event-entered (valueOf (w .first)) q)) λ h.
-      of-cond (isThree LetterC w) _ _ h (λ t q. rw (ended-line "C" _ l ends (three-is C-letter (l .bytes) t)) (condition-entered (conditionOf w) q)) λ h.
-      of-cond (isTwo LetterB w) _ _ h (λ t q. rw (ended-line "B" _ l ends (two-is B-letter (l .bytes) t)) (mark-entered (markIn Before w) q)) λ h.
-      of-cond (isTwo LetterA w) _ _ h (λ t q. rw (ended-line "A" _ l ends (two-is A-letter (l .bytes) t)) (mark-entered (markIn After w) q)) not-refused
+      let two = number ∷ number ∷ [] in
+      let three = number ∷ numberOrDash ∷ numberOrDash ∷ [] in
+      of-cond (isLine "E" (number ∷ []) l) _ _ h (λ t q. rw (form-line E-letter (number ∷ []) l t) (event-entered (numberAt l 0) q)) λ h.
+      of-cond (isLine "C" three l) _ _ h (λ t q. rw (form-line C-letter three l t) (condition-entered (conditionOf l) q)) λ h.
+      of-cond (isLine "B" two l) _ _ h (λ t q. rw (form-line B-letter two l t) (mark-entered (markIn Before l) q)) λ h.
+      of-cond (isLine "A" two l) _ _ h (λ t q. rw (form-line A-letter two l t) (mark-entered (markIn After l) q)) not-refused
 
 -- ---- a text
 

@@ -5,12 +5,13 @@ use Prim.Native.Nat.{ℕ, _≤_, _<_, zero-le}
 use native.Mathlib.Nat.{le-refl}
 use native.Mathlib.Omega.{arith}
 use mathlib.Core.Bool.{_&&_}
+use mathlib.Core.Option.{some}
 use mathlib.Core.List.{List, [], _∷_, _++_, Memᴰ·append-left, Memᴰ·append-right}
 use lib.Dec.{ltb, leb}
 use borrow.Author.Tests.{ltb-true, leb-true}
 use Rattle.spec.specs.Lists.{In, every, first}
 use Rattle.spec.specs.Answer.{Answer, gives, refuses, _>>=_, found}
-use Rattle.spec.specs.Text.{linesOf, mostDigits, fieldOf, digits, lineWith}
+use Rattle.spec.specs.Text.{linesOf, mostDigits, numberIn, digits, lineWith}
 use Rattle.spec.specs.Net.{places, netOf, readNet}
 use Rattle.spec.specs.Record.{RunRecord, bench}
 use Rattle.spec.specs.Building.{built, build}
@@ -123,7 +124,7 @@ program-spot input n s h =
 
 -- So the line that the program prints shows the whole number and the whole spot: both fields are read back.
 pub refusal-back : (input : List ℕ) (n s : ℕ) → answerTo input ≡ refuses n s
-    → (program input ≡ lineWith "X" (Number n ∷ Number s ∷ [])) × (fieldOf mostDigits (digits mostDigits n) ≡ Number n) × (fieldOf mostDigits (digits mostDigits s) ≡ Number s)
+    → (program input ≡ lineWith "X" (Number n ∷ Number s ∷ [])) × (numberIn mostDigits (digits mostDigits n) ≡ some n) × (numberIn mostDigits (digits mostDigits s) ≡ some s)
 unfolding printed
 refusal-back input n s h =
     let z = program-spot input n s h in

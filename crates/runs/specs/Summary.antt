@@ -4,11 +4,12 @@ use mathlib.Core.Path.{_≡_, sym, ap, _∙_, subst}
 use Prim.Native.Nat.{ℕ, zero, suc, _+_, _*_, _^_, _≤_, _<_, zero-le}
 use native.Mathlib.Nat.{mul-le-mul-right}
 use native.Mathlib.Omega.{arith}
+use mathlib.Core.Option.{some}
 use mathlib.Core.List.{List, [], _∷_, _++_, map, map-append}
 use lib.ListN.{length}
 use Rattle.spec.specs.Lists.{from, upTo, count, sum}
 use Rattle.spec.specs.Answer.{gives}
-use Rattle.spec.specs.Text.{Line, mostDigits, fieldOf, digits, lineWith}
+use Rattle.spec.specs.Text.{Line, mostDigits, numberIn, digits, lineWith}
 use Rattle.spec.specs.Net.{Net, netOf}
 use Rattle.spec.specs.Record.{RunRecord, bench, recordBytes}
 use Rattle.spec.specs.Building.{playLog, recordOf, recordFor, built}
@@ -31,7 +32,7 @@ use Rattle.runs.specs.Spots.{answerTo, program-prints}
 
 -- a number of at most m, whose digits are all written
 abbrev pub Shown : ℕ → ℕ → Type 0
-Shown m n = (n ≤ m) × (fieldOf mostDigits (digits mostDigits n) ≡ Number n)
+Shown m n = (n ≤ m) × (numberIn mostDigits (digits mostDigits n) ≡ some n)
 
 shown : (m n : ℕ) → m < 10 ^ mostDigits → n ≤ m → Shown m n
 shown m n l h = (h, number-back mostDigits n (omega arith) (omega arith))

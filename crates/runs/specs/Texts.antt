@@ -3,25 +3,22 @@ use mathlib.Core.Path.{_≡_, refl, sym, ap, ap₂, _∙_}
 use mathlib.Core.Logic.{inl, inr}
 use Prim.Native.Nat.{ℕ, _<_}
 use Prim.Native.Char.{Char}
-use mathlib.Core.Bool.{Bool, true, false, _&&_, cond}
+use mathlib.Core.Bool.{Bool, true, false, cond}
 use mathlib.Core.List.{List, [], _∷_, _++_, map, append-assoc, List·Memᴰ·head, List·Memᴰ·tail, List·Memᴰ·not-nil, List·Memᴰ·append-cases}
-use lib.ListN.{length}
+use lib.ListN.{length, getD}
 use Rattle.spec.specs.Lists.{flat}
-use Rattle.spec.specs.Text.{named, inDigits, classOf, alike, isA, Line, onFirst, linesOf, fieldBytes, fieldsBytes, lineWith, mostDigits}
-use Rattle.spec.specs.Forms.{isList, numbersOf}
-use Rattle.spec.specs.declared.Class.{Class}
+use Rattle.spec.specs.Text.{named, inDigits, classOf, isA, Line, onFirst, linesOf, fieldBytes, fieldsBytes, lineWith}
+use Rattle.spec.specs.Forms.{FieldForm, fieldsOf, isLine, isListLine, numbersOf}
+use Rattle.spec.specs.Classes.{alike}
 use Rattle.spec.specs.declared.Class.the-variants.{LineEnd}
 use Rattle.spec.specs.declared.Field.{Field}
 use Rattle.spec.specs.declared.Field.the-variants.{Number}
-use Rattle.lists.specs.Laws.{here, there, and-true}
+use Rattle.lists.specs.Laws.{here, there}
 use Rattle.runs.specs.Bytes.{lineEnd-is, Letter}
-use Rattle.runs.specs.Fields.{Lacks, field-lacks, body}
-use Rattle.runs.specs.LineForms.{list-is}
+use Rattle.runs.specs.Fields.{Lacks, field-lacks, body, ended}
+use Rattle.runs.specs.LineForms.{asked, form-is, list-is}
 
 -- ---- the lines of a text
-
-abbrev pub ended : List ℕ → Line
-ended bs = record { bytes = bs; ended = true }
 
 line-ends : isA LineEnd 10 ≡ true
 unfolding isA alike classOf named inDigits
@@ -41,12 +38,12 @@ fields-lack (f ∷ fs) b (List·Memᴰ·tail m) = elim (List·Memᴰ·append-cas
   | inr i ↦ fields-lack fs b i
 ]
 
-body-lacks : {c : Char} {k : Class} → Letter c k → (fs : List Field) → Lacks LineEnd (body c fs)
+body-lacks : {c : Char} → Letter c → (fs : List Field) → Lacks LineEnd (body c fs)
 unfolding body
 body-lacks L fs b (List·Memᴰ·head e) = rw e (L .noEnd)
 body-lacks L fs b (List·Memᴰ·tail m) = fields-lack fs b m
 
-pub line-back : {c : Char} {k : Class} → Letter c k → (fs : List Field) (rest : List ℕ) → linesOf (lineWith c fs ++ rest) ≡ ended (body c fs) ∷ linesOf rest
+pub line-back : {c : Char} → Letter c → (fs : List Field) (rest : List ℕ) → linesOf (lineWith c fs ++ rest) ≡ ended (body c fs) ∷ linesOf rest
 unfolding lineWith body
 line-back {c} L fs rest = ap linesOf (append-assoc (body c fs) (10 ∷ []) rest) ∙ first-line (body c fs) rest (body-lacks L fs)
 
@@ -69,13 +66,12 @@ text-is (b ∷ bs) = go (isA LineEnd b) refl (text-is bs)
     go false e h = lines-grow b (linesOf bs) ∙ ap (λ (l : List ℕ). b ∷ l) h
 
 -- a line of a form is what is written for its values
-pub ended-line : (c : Char) (fs : List Field) (l : Line) → l .ended ≡ true → l .bytes ≡ body c fs → lineBytes l ≡ lineWith c fs
+ended-line : (c : Char) (fs : List Field) (l : Line) → l .ended ≡ true → l .bytes ≡ body c fs → lineBytes l ≡ lineWith c fs
 unfolding lineBytes lineWith body
 ended-line c fs l e h = rw (e, h)
 
-pub ended-list : {c : Char} {k : Class} → Letter c k → (l : Line) → (l .ended && isList mostDigits k (l .bytes)) ≡ true
-    → (lineBytes l ≡ lineWith c (map Number (numbersOf mostDigits (l .bytes)))) × (0 < length (numbersOf mostDigits (l .bytes)))
-ended-list {c} {k} L l h =
-    let z = and-true (l .ended) (isList mostDigits k (l .bytes)) h in
-    let y = list-is L (l .bytes) (z .1) in
-    (ended-line c _ l (z .0) (y .0), y .1)
+pub form-line : {c : Char} → Letter c → (xs : List FieldForm) (l : Line) → isLine c xs l ≡ true → lineBytes l ≡ lineWith c (asked xs (λ i. getD (fieldsOf l) i []))
+form-line {c} L xs l h = let z = form-is L xs l h in ended-line c _ l (z .0) (z .1)
+
+pub list-line : {c : Char} → Letter c → (l : Line) → isListLine c l ≡ true → (lineBytes l ≡ lineWith c (map Number (numbersOf l))) × (0 < length (numbersOf l))
+list-line {c} L l h = let z = list-is L l h in (ended-line c _ l (z .0) (z .1), z .2)

@@ -7,12 +7,11 @@ use lib.ListN.{length, getD, replicate}
 use lib.Dec.{eqb, ltb, leb}
 use Rattle.spec.specs.Lists.{any, upTo, keep, flat}
 use Rattle.spec.specs.Answer.{Answer, gives, refuses, _>>=_, _>>_, refuse_at_when_}
-use Rattle.spec.specs.Text.{Line, linesOf, byLines, mostDigits}
-use Rattle.spec.specs.Forms.{isList, numbersOf}
+use Rattle.spec.specs.Text.{Line, linesOf, byLines}
+use Rattle.spec.specs.Forms.{isListLine, numbersOf}
 use Rattle.spec.specs.Net.{Net, places, takes, makes, readNet}
 use Rattle.spec.specs.Step.{short, inhibited, play}
 use Rattle.spec.specs.Record.{RunRecord, Condition, Mark, bench, isNone, conditionAt, due, recordBytes}
-use Rattle.spec.specs.declared.Class.the-variants.{LetterS}
 use Rattle.spec.specs.declared.Limits.{Limits}
 use Rattle.spec.specs.declared.MarkKind.the-variants.{Before, After}
 
@@ -144,12 +143,12 @@ recordFor n steps = recordOf n (runOf n steps)
 
 -- "A log line is `S` and one or more transitions, repeats allowed."
 unfoldable pub isStepLine : Line → Bool
-isStepLine l = l .ended && isList mostDigits LetterS (l .bytes)
+isStepLine l = isListLine "S" l
 
 unfoldable pub logLine : Limits → Net → ℕ → Line → Run → Answer Run
 logLine lim n k l r = do
   refuse 21 at k when not (isStepLine l)
-  let ts : List ℕ = numbersOf mostDigits (l .bytes)
+  let ts : List ℕ = numbersOf l
   refuse 22 at k when any (leb (n .transitions)) ts
   refuse 23 at k when ltb (lim .events) (length (r .events) + length ts)
   refuse 24 at k when short n (r .marking) ts

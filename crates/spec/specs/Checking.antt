@@ -2,23 +2,19 @@
 -- 39).
 use Prim.Native.Nat.{ℕ, zero, suc, _+_}
 use mathlib.Core.Bool.{Bool, true, false, not, _&&_, _||_, cond}
-use mathlib.Core.Option.{Option, none, some}
+use mathlib.Core.Option.{Option}
 use mathlib.Core.List.{List, [], _∷_, _++_, map}
 use lib.ListN.{length}
 use lib.Dec.{eqb, ltb, leb}
 use Rattle.spec.specs.Lists.{any, count, upTo, lowest, sum, flat, asCount}
 use Rattle.spec.specs.Answer.{Answer, gives, refuses, _>>=_, _>>_, refuse_at_when_, refuse_at?_}
-use Rattle.spec.specs.Text.{Line, linesOf, byLines, rowOf, mostDigits}
-use Rattle.spec.specs.Forms.{isOne, isTwo, isThree, valueOf}
+use Rattle.spec.specs.Text.{Line, linesOf, byLines}
+use Rattle.spec.specs.Forms.{number, numberOrDash, isLine, numberAt, eventAt}
 use Rattle.spec.specs.Net.{Net, places, takes, makes, readNet}
 use Rattle.spec.specs.Step.{tokensAt}
 use Rattle.spec.specs.Record.{RunRecord, Condition, Mark, bench, marked, due, transitionOf, conditionAt}
 use Rattle.spec.specs.Order.{isStrictlyBefore, isNotLater}
 use Rattle.spec.specs.Process.{initialIn, consumedIn, producedIn, wrongEnd, isBelow}
-use Rattle.spec.specs.declared.Class.the-variants.{LetterE, LetterC, LetterB, LetterA}
-use Rattle.spec.specs.declared.Field.{Field}
-use Rattle.spec.specs.declared.Field.the-variants.{Number, Dash, Wrong, Absent}
-use Rattle.spec.specs.declared.Row.{Row}
 use Rattle.spec.specs.declared.Limits.{Limits}
 use Rattle.spec.specs.declared.MarkKind.{MarkKind}
 use Rattle.spec.specs.declared.MarkKind.the-variants.{Before, After}
@@ -63,32 +59,20 @@ enterMark lim k m r = do
   refuse 34 at k when marked r (m .condition) (m .event)
   gives (withMark m r)
 
--- a dash is no event
-abbrev pub eventOf : Field → Option ℕ
-eventOf (Number e) = some e
-eventOf Dash = none
-eventOf Wrong = none
-eventOf Absent = none
+unfoldable pub conditionOf : Line → Condition
+conditionOf l = record { place = numberAt l 0; producer = eventAt l 1; consumer = eventAt l 2 }
 
-unfoldable pub conditionOf : Row → Condition
-conditionOf w = record { place = valueOf (w .first); producer = eventOf (w .second); consumer = eventOf (w .third) }
-
-unfoldable pub markIn : MarkKind → Row → Mark
-markIn x w = record { kind = x; condition = valueOf (w .first); event = valueOf (w .second) }
+unfoldable pub markIn : MarkKind → Line → Mark
+markIn x l = record { kind = x; condition = numberAt l 0; event = numberAt l 1 }
 
 -- "`E,transition`", "`C,place,producer,consumer`", "`B,condition,event` or `A,condition,event`"
-unfoldable pub enterRow : Limits → Net → ℕ → Row → RunRecord → Answer RunRecord
-enterRow lim n k w r =
-    cond (isOne LetterE w) (enterEvent lim n k (valueOf (w .first)) r)
-    (cond (isThree LetterC w) (enterCondition lim n k (conditionOf w) r)
-    (cond (isTwo LetterB w) (enterMark lim k (markIn Before w) r)
-    (cond (isTwo LetterA w) (enterMark lim k (markIn After w) r)
-    (refuses 31 k))))
-
 unfoldable pub enterLine : Limits → Net → ℕ → Line → RunRecord → Answer RunRecord
-enterLine lim n k l r = do
-  refuse 31 at k when not (l .ended)
-  enterRow lim n k (rowOf mostDigits (l .bytes)) r
+enterLine lim n k l r =
+    cond (isLine "E" (number ∷ []) l) (enterEvent lim n k (numberAt l 0) r)
+    (cond (isLine "C" (number ∷ numberOrDash ∷ numberOrDash ∷ []) l) (enterCondition lim n k (conditionOf l) r)
+    (cond (isLine "B" (number ∷ number ∷ []) l) (enterMark lim k (markIn Before l) r)
+    (cond (isLine "A" (number ∷ number ∷ []) l) (enterMark lim k (markIn After l) r)
+    (refuses 31 k))))
 
 unfoldable pub emptyRecord : RunRecord
 emptyRecord = record { events = []; conditions = []; marks = [] }

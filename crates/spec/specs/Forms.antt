@@ -1,62 +1,63 @@
--- The forms of lines, where n is a number and x a number or a dash (01, "Net", "Steps", "Record").
+-- The forms of lines, and what stands in their fields (01, "Text"; "Net", "Steps", "Record").
 use Prim.Native.Nat.{ℕ}
-use mathlib.Core.Bool.{Bool, true, false, _&&_}
+use Prim.Native.Char.{Char, code}
+use mathlib.Core.Bool.{Bool, true, false, _&&_, _||_}
 use mathlib.Core.Option.{Option, none, some}
 use mathlib.Core.List.{List, [], _∷_, map}
-use lib.ListN.{length}
+use lib.ListN.{length, getD, drop}
 use lib.Dec.{leb}
 use Rattle.spec.specs.Lists.{every}
-use Rattle.spec.specs.Text.{alike, letterIn, fieldsOf}
-use Rattle.spec.specs.declared.Class.{Class}
-use Rattle.spec.specs.declared.Row.{Row}
-use Rattle.spec.specs.declared.Field.{Field}
-use Rattle.spec.specs.declared.Field.the-variants.{Number, Dash, Wrong, Absent}
+use Rattle.spec.specs.Text.{Line, classOf, pieces, isOnly, isDash, mostDigits, isNumber, numberIn}
 
-abbrev pub aNumber : Field → Bool
-aNumber (Number n) = true
-aNumber Dash = false
-aNumber Wrong = false
-aNumber Absent = false
+-- ---- "A line is one capital letter and its fields in fixed order, parted by commas, no quoting, ended by byte 10; a last
+-- piece without it is malformed."
 
-abbrev pub aNumberOrDash : Field → Bool
-aNumberOrDash (Number n) = true
-aNumberOrDash Dash = true
-aNumberOrDash Wrong = false
-aNumberOrDash Absent = false
+-- its first piece is the letter c
+unfoldable pub hasLetter : Char → Line → Bool
+hasLetter c l = isOnly (classOf (code c)) (getD (pieces (l .bytes)) 0 [])
 
-abbrev pub absent : Field → Bool
-absent (Number n) = false
-absent Dash = false
-absent Wrong = false
-absent Absent = true
+-- its other pieces are its fields
+unfoldable pub fieldsOf : Line → List (List ℕ)
+fieldsOf l = drop 1 (pieces (l .bytes))
 
--- the number of a field, and 0 where it is none
-abbrev pub valueOf : Field → ℕ
-valueOf (Number n) = n
-valueOf Dash = 0
-valueOf Wrong = 0
-valueOf Absent = 0
+-- what a field has to be
+pub data FieldForm : Type 0 where
+  number : FieldForm
+  numberOrDash : FieldForm
 
--- the letter alone: `T`
-unfoldable pub isAlone : Class → Row → Bool
-isAlone k r = alike (r .letter) k && absent (r .first)
+unfoldable pub isOf : FieldForm → List ℕ → Bool
+isOf number p = isNumber mostDigits p
+isOf numberOrDash p = isNumber mostDigits p || isDash p
 
--- the letter and a number: `P,n` `E,n`
-unfoldable pub isOne : Class → Row → Bool
-isOne k r = alike (r .letter) k && aNumber (r .first) && absent (r .second)
+-- the fields are what they have to be, one for one
+unfoldable pub areOf : List FieldForm → List (List ℕ) → Bool
+areOf [] [] = true
+areOf [] (p ∷ ps) = false
+areOf (f ∷ fs) [] = false
+areOf (f ∷ fs) (p ∷ ps) = isOf f p && areOf fs ps
 
--- the letter and two numbers: `I,n,n` `O,n,n` `H,n,n` `B,n,n` `A,n,n`
-unfoldable pub isTwo : Class → Row → Bool
-isTwo k r = alike (r .letter) k && aNumber (r .first) && aNumber (r .second) && absent (r .third)
+-- the line is ended, and is the letter c and fields of these forms
+unfoldable pub isLine : Char → List FieldForm → Line → Bool
+isLine c fs l = l .ended && hasLetter c l && areOf fs (fieldsOf l)
 
--- the letter, a number, and two that can be dashes: `C,n,x,x`
-unfoldable pub isThree : Class → Row → Bool
-isThree k r = alike (r .letter) k && aNumber (r .first) && aNumberOrDash (r .second) && aNumberOrDash (r .third) && absent (r .fourth)
+-- the line is ended, and is the letter c and one number or more
+unfoldable pub isListLine : Char → Line → Bool
+isListLine c l = l .ended && hasLetter c l && leb 1 (length (fieldsOf l)) && every (isOf number) (fieldsOf l)
 
--- the letter and one number or more: `S,n,..` `G,n,..`
-unfoldable pub isList : ℕ → Class → List ℕ → Bool
-isList most k line = alike (letterIn line) k && leb 1 (length (fieldsOf most line)) && every aNumber (fieldsOf most line)
+-- ---- what stands in the fields, counted from 0
 
--- the numbers of such a line
-unfoldable pub numbersOf : ℕ → List ℕ → List ℕ
-numbersOf most line = map valueOf (fieldsOf most line)
+-- the number in field i, and none where it is a dash
+unfoldable pub eventAt : Line → ℕ → Option ℕ
+eventAt l i = numberIn mostDigits (getD (fieldsOf l) i [])
+
+abbrev pub orZero : Option ℕ → ℕ
+orZero none = 0
+orZero (some n) = n
+
+-- the number in field i
+unfoldable pub numberAt : Line → ℕ → ℕ
+numberAt l i = orZero (eventAt l i)
+
+-- the numbers in all fields
+unfoldable pub numbersOf : Line → List ℕ
+numbersOf l = map (λ p. orZero (numberIn mostDigits p)) (fieldsOf l)

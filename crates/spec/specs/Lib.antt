@@ -1,5 +1,6 @@
 pub mod Lists
 pub mod Answer
+pub mod Classes
 pub mod Text
 pub mod Forms
 pub mod Net

@@ -6,12 +6,10 @@ use lib.ListN.{length}
 use lib.Dec.{eqb, ltb, leb}
 use Rattle.spec.specs.Lists.{any, upTo, sum, lowest, asCount}
 use Rattle.spec.specs.Answer.{Answer, gives, refuses, _>>=_, _>>_, refuse_at_when_, refuse_at?_}
-use Rattle.spec.specs.Text.{Line, linesOf, byLines, rowOf, mostDigits}
-use Rattle.spec.specs.Forms.{isAlone, isOne, isTwo, valueOf}
-use Rattle.spec.specs.declared.Row.{Row}
+use Rattle.spec.specs.Text.{Line, linesOf, byLines}
+use Rattle.spec.specs.Forms.{number, isLine, numberAt}
 use Rattle.spec.specs.declared.ArcKind.{ArcKind}
 use Rattle.spec.specs.declared.ArcKind.the-variants.{Input, Output, Inhibitor}
-use Rattle.spec.specs.declared.Class.the-variants.{LetterP, LetterT, LetterI, LetterO, LetterH}
 
 abbrev pub arcKindCode : ArcKind → ℕ
 arcKindCode Input = 0
@@ -83,21 +81,15 @@ addArc x k p t n = do
   refuse 14 at k when joined n x p t
   gives (withArc x p t n)
 
--- "`P,tokens` place. `T` transition. `I,place,transition` input. `O,transition,place` output. `H,place,transition`
--- inhibitor."
-unfoldable pub addRow : ℕ → Row → Net → Answer Net
-addRow k r n =
-    cond (isOne LetterP r) (addPlace k (valueOf (r .first)) n)
-    (cond (isAlone LetterT r) (addTransition k n)
-    (cond (isTwo LetterI r) (addArc Input k (valueOf (r .first)) (valueOf (r .second)) n)
-    (cond (isTwo LetterO r) (addArc Output k (valueOf (r .second)) (valueOf (r .first)) n)
-    (cond (isTwo LetterH r) (addArc Inhibitor k (valueOf (r .first)) (valueOf (r .second)) n)
-    (refuses 11 k)))))
-
+-- "`P,tokens` place. `T` transition. `I,place,transition` input. `O,transition,place` output. `H,place,transition` inhibitor."
 unfoldable pub addLine : ℕ → Line → Net → Answer Net
-addLine k l n = do
-  refuse 11 at k when not (l .ended)
-  addRow k (rowOf mostDigits (l .bytes)) n
+addLine k l n =
+    cond (isLine "P" (number ∷ []) l) (addPlace k (numberAt l 0) n)
+    (cond (isLine "T" [] l) (addTransition k n)
+    (cond (isLine "I" (number ∷ number ∷ []) l) (addArc Input k (numberAt l 0) (numberAt l 1) n)
+    (cond (isLine "O" (number ∷ number ∷ []) l) (addArc Output k (numberAt l 1) (numberAt l 0) n)
+    (cond (isLine "H" (number ∷ number ∷ []) l) (addArc Inhibitor k (numberAt l 0) (numberAt l 1) n)
+    (refuses 11 k)))))
 
 unfoldable pub emptyNet : Net
 emptyNet = record { tokens = []; transitions = 0; arcs = [] }

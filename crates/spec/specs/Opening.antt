@@ -2,16 +2,17 @@
 -- nothing of its own.
 use Rattle.spec.specs.Lists.{from, upTo, any, every, count, keep, first, sumOf, flat, asCount, sum, greatest, lowest, isIn}
 use Rattle.spec.specs.Answer.{_>>=_, _>>_, refuse_at_when_, refuse_at?_, found, returned}
-use Rattle.spec.specs.Text.{named, inDigits, classOf, digitOf, classAndDigit, alike, isA, onFirst, linesOf, byLines, needlessZero, isNumber, valueFrom, grow, pieces, isDash, fieldOf, letterOf, letterIn, fieldsOf, rowOf, digitByte, digits, fieldBytes, fieldsBytes, lineWith}
-use Rattle.spec.specs.Forms.{isAlone, isOne, isTwo, isThree, isList, numbersOf}
-use Rattle.spec.specs.Net.{isArc, joined, takes, makes, inhibits, withPlace, withTransition, withArc, addPlace, addTransition, addArc, addRow, addLine, emptyNet, lacking, whole, netOf, readNet}
+use Rattle.spec.specs.Classes.{alike}
+use Rattle.spec.specs.Text.{named, inDigits, classOf, digitOf, classAndDigit, isA, onFirst, linesOf, grow, pieces, isOnly, isDash, needlessZero, isNumber, valueFrom, numberIn, byLines, digitByte, digits, fieldBytes, fieldsBytes, lineWith}
+use Rattle.spec.specs.Forms.{hasLetter, fieldsOf, isOf, areOf, isLine, isListLine, eventAt, numberAt, numbersOf}
+use Rattle.spec.specs.Net.{isArc, joined, takes, makes, inhibits, withPlace, withTransition, withArc, addPlace, addTransition, addArc, addLine, emptyNet, lacking, whole, netOf, readNet}
 use Rattle.spec.specs.NetText.{declarationLine, netBytes, declare, declareAll}
 use Rattle.spec.specs.Step.{taken, made, short, inhibited, play, markingAfter}
 use Rattle.spec.specs.Record.{bench, noCondition, names, isNone, isAt, marked, due, eventField, eventLine, conditionLine, markLineOf, markLine, recordBytes}
 use Rattle.spec.specs.Order.{pairOf, conditionPair, markPairOf, markPair, pairs, isPair, reach, hasPath, pathBy, isStrictlyBefore, isNotLater}
 use Rattle.spec.specs.Process.{initialIn, consumedIn, producedIn, wrongEnd, isBelow}
 use Rattle.spec.specs.Building.{noEvent, initialOf, start, outputsOf, madeBy, makeAll, isFree, consumedBy, consume, consumeAll, inputsOf, takeAll, inStep, playStep, playSteps, runOf, isEarlier, markAt, marksOf, marksDue, recordOf, recordFor, isStepLine, logLine, playLog, built, build}
-use Rattle.spec.specs.Checking.{isEmpty, withEvent, withCondition, withMark, enterEvent, enterCondition, enterMark, conditionOf, markIn, enterRow, enterLine, emptyRecord, wrongInitial, wrongArcsAt, wrongArcs, agree, wrongMarkAt, wrongMarks, wrongKindAt, wrongKind, beforeItself, obeys, readRecord, accepts, related, tableAt, tableBytes, independent, independentPairs, checkedOf, checkWithin, check}
+use Rattle.spec.specs.Checking.{isEmpty, withEvent, withCondition, withMark, enterEvent, enterCondition, enterMark, conditionOf, markIn, enterLine, emptyRecord, wrongInitial, wrongArcsAt, wrongArcs, agree, wrongMarkAt, wrongMarks, wrongKindAt, wrongKind, beforeItself, obeys, readRecord, accepts, related, tableAt, tableBytes, independent, independentPairs, checkedOf, checkWithin, check}
 use Rattle.spec.specs.Arrangement.{times, index}
 use Rattle.spec.specs.Arranging.{prolonged, longest, levels, lineCount, onLine, arrangedLines, groupLine, arrangementBytes, arrangedOf, arrange}
 use Rattle.spec.specs.Replaying.{isGroupLine, repeats, late, breaks, groupsLine, missing, readArrangement, countAfter, firedBy, rowAt, replayRow, replayedOf, replay}
@@ -30,15 +31,15 @@ unfolding _>>=_ _>>_ refuse_at_when_ refuse_at?_ found returned
 openAnswer = tt
 
 unfoldable openText : Unit {0}
-unfolding named inDigits classOf digitOf classAndDigit alike isA onFirst linesOf byLines needlessZero isNumber valueFrom grow pieces isDash fieldOf letterOf letterIn fieldsOf rowOf digitByte digits fieldBytes fieldsBytes lineWith
+unfolding alike named inDigits classOf digitOf classAndDigit isA onFirst linesOf grow pieces isOnly isDash needlessZero isNumber valueFrom numberIn byLines digitByte digits fieldBytes fieldsBytes lineWith
 openText = tt
 
 unfoldable openForms : Unit {0}
-unfolding isAlone isOne isTwo isThree isList numbersOf
+unfolding hasLetter fieldsOf isOf areOf isLine isListLine eventAt numberAt numbersOf
 openForms = tt
 
 unfoldable openNet : Unit {0}
-unfolding isArc joined takes makes inhibits withPlace withTransition withArc addPlace addTransition addArc addRow addLine emptyNet lacking whole netOf readNet
+unfolding isArc joined takes makes inhibits withPlace withTransition withArc addPlace addTransition addArc addLine emptyNet lacking whole netOf readNet
 openNet = tt
 
 unfoldable openNetText : Unit {0}
@@ -66,7 +67,7 @@ unfolding noEvent initialOf start outputsOf madeBy makeAll isFree consumedBy con
 openBuilding = tt
 
 unfoldable openChecking : Unit {0}
-unfolding isEmpty withEvent withCondition withMark enterEvent enterCondition enterMark conditionOf markIn enterRow enterLine emptyRecord wrongInitial wrongArcsAt wrongArcs agree wrongMarkAt wrongMarks wrongKindAt wrongKind beforeItself obeys readRecord accepts related tableAt tableBytes independent independentPairs checkedOf checkWithin check
+unfolding isEmpty withEvent withCondition withMark enterEvent enterCondition enterMark conditionOf markIn enterLine emptyRecord wrongInitial wrongArcsAt wrongArcs agree wrongMarkAt wrongMarks wrongKindAt wrongKind beforeItself obeys readRecord accepts related tableAt tableBytes independent independentPairs checkedOf checkWithin check
 openChecking = tt
 
 unfoldable openArrangement : Unit {0}

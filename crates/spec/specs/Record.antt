@@ -9,7 +9,7 @@ use Rattle.spec.specs.Lists.{any, flat}
 use Rattle.spec.specs.Text.{lineWith}
 use Rattle.spec.specs.Net.{Net, inhibits}
 use Rattle.spec.specs.declared.Field.{Field}
-use Rattle.spec.specs.declared.Field.the-variants.{Number, Dash, Wrong, Absent}
+use Rattle.spec.specs.declared.Field.the-variants.{Number, Dash}
 use Rattle.spec.specs.declared.MarkKind.{MarkKind}
 use Rattle.spec.specs.declared.MarkKind.the-variants.{Before, After}
 use Rattle.spec.specs.declared.Limits.{Limits}

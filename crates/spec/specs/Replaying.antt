@@ -6,20 +6,20 @@ use lib.ListN.{length, replicate, take}
 use lib.Dec.{ltb, leb}
 use Rattle.spec.specs.Lists.{any, upTo, lowest, flat, isIn}
 use Rattle.spec.specs.Answer.{Answer, gives, refuses, _>>=_, _>>_, refuse_at_when_, refuse_at?_}
-use Rattle.spec.specs.Text.{Line, linesOf, byLines, mostDigits}
-use Rattle.spec.specs.Forms.{isList, numbersOf}
+use Rattle.spec.specs.Text.{Line, linesOf, byLines}
+use Rattle.spec.specs.Forms.{isListLine, numbersOf}
 use Rattle.spec.specs.Net.{Net, places}
 use Rattle.spec.specs.Step.{tokensAt, taken, made}
 use Rattle.spec.specs.Record.{RunRecord, bench, transitionOf}
 use Rattle.spec.specs.Order.{isStrictlyBefore, isNotLater}
 use Rattle.spec.specs.Checking.{Accepted, accepts}
-use Rattle.spec.specs.declared.Class.the-variants.{LetterG}
 
 -- ---- "per line 41 malformed, 42 unknown event, 43 event repeated, 44 order broken (spot: line); then 45 event
 -- missing (lowest)."
 
+-- "lines `G,event,...` with one or more events in any order"
 unfoldable pub isGroupLine : Line → Bool
-isGroupLine l = l .ended && isList mostDigits LetterG (l .bytes)
+isGroupLine l = isListLine "G" l
 
 -- a number stands twice in the list
 unfoldable pub repeats : List ℕ → Bool
@@ -40,7 +40,7 @@ breaks r done now = any (λ e. any (late r done now e) (upTo (length (r .events)
 unfoldable pub groupsLine : RunRecord → ℕ → Line → List (List ℕ) → Answer (List (List ℕ))
 groupsLine r k l gs = do
   refuse 41 at k when not (isGroupLine l)
-  let es : List ℕ = numbersOf mostDigits (l .bytes)
+  let es : List ℕ = numbersOf l
   refuse 42 at k when any (leb (length (r .events))) es
   refuse 43 at k when repeats (flat gs ++ es)
   refuse 44 at k when breaks r (flat gs) es

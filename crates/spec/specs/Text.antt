@@ -1,18 +1,19 @@
--- Texts: bytes, lines, numbers and fields, and how they are written (01, "Text").
+-- Texts: bytes, lines and their fields, numbers, and how lines are written (01, "Text").
 use Prim.Native.Nat.{ℕ, zero, suc, _+_, _-_, _*_, _/_, _%_}
 use Prim.Native.Char.{Char, code}
 use mathlib.Core.Bool.{Bool, true, false, not, _&&_, cond}
-use mathlib.Core.List.{List, [], _∷_, _++_, map}
-use lib.ListN.{length, getD, drop}
+use mathlib.Core.Option.{Option, none, some}
+use mathlib.Core.List.{List, [], _∷_, _++_}
+use lib.ListN.{length, getD}
 use lib.Dec.{eqb, ltb, leb}
 use Rattle.spec.specs.Lists.{every}
 use Rattle.spec.specs.Answer.{Answer, gives, refuses, _>>=_}
+use Rattle.spec.specs.Classes.{alike}
 use Rattle.spec.specs.declared.Class.{Class}
 use Rattle.spec.specs.declared.Class.the-variants.{Digit, Comma, Dash as DashByte, LineEnd, LetterP, LetterT, LetterI, LetterO, LetterH, LetterS, LetterE, LetterC, LetterB, LetterA, LetterG, Foreign}
 use Rattle.spec.specs.declared.ByteClass.{ByteClass}
 use Rattle.spec.specs.declared.Field.{Field}
-use Rattle.spec.specs.declared.Field.the-variants.{Number, Dash, Wrong, Absent}
-use Rattle.spec.specs.declared.Row.{Row}
+use Rattle.spec.specs.declared.Field.the-variants.{Number, Dash}
 
 -- ---- "Each byte is a digit, a comma, a dash, a line end, a letter in use or foreign."
 
@@ -45,29 +46,6 @@ digitOf b = cond (inDigits b) (b - code "0") 0
 unfoldable pub classAndDigit : ℕ → ByteClass
 classAndDigit b = record { class = classOf b; digit = digitOf b }
 
--- a number for each class, by which classes are compared
-abbrev pub classCode : Class → ℕ
-classCode Digit = 0
-classCode Comma = 1
-classCode DashByte = 2
-classCode LineEnd = 3
-classCode LetterP = 4
-classCode LetterT = 5
-classCode LetterI = 6
-classCode LetterO = 7
-classCode LetterH = 8
-classCode LetterS = 9
-classCode LetterE = 10
-classCode LetterC = 11
-classCode LetterB = 12
-classCode LetterA = 13
-classCode LetterG = 14
-classCode Foreign = 15
-
--- the two are the same class
-unfoldable pub alike : Class → Class → Bool
-alike k l = eqb (classCode k) (classCode l)
-
 -- the byte is of the class
 unfoldable pub isA : Class → ℕ → Bool
 isA k b = alike (classOf b) k
@@ -88,12 +66,24 @@ unfoldable pub linesOf : List ℕ → List Line
 linesOf [] = []
 linesOf (b ∷ bs) = cond (isA LineEnd b) (record { bytes = []; ended = true } ∷ linesOf bs) (onFirst b (linesOf bs))
 
--- "A reading position .. moves forward only. .. lines [are numbered] from 1": the lines in their order, the first with
--- number k, change a state; the first refusal is the answer
-module _ {S : Type 0} where
-  unfoldable pub byLines : (ℕ → Line → S → Answer S) → ℕ → List Line → S → Answer S
-  byLines f k [] s = gives s
-  byLines f k (l ∷ ls) s = f k l s >>= λ s′. byLines f (suc k) ls s′
+-- ---- "its fields in fixed order, parted by commas, no quoting"
+
+-- a byte goes in front of the first piece
+unfoldable pub grow : ℕ → List (List ℕ) → List (List ℕ)
+grow b [] = (b ∷ []) ∷ []
+grow b (p ∷ ps) = (b ∷ p) ∷ ps
+
+-- the pieces that commas part: one more than there are commas
+unfoldable pub pieces : List ℕ → List (List ℕ)
+pieces [] = [] ∷ []
+pieces (b ∷ bs) = cond (isA Comma b) ([] ∷ pieces bs) (grow b (pieces bs))
+
+-- a piece is one byte of the class, and no more
+unfoldable pub isOnly : Class → List ℕ → Bool
+isOnly k bs = eqb (length bs) 1 && isA k (getD bs 0 0)
+
+unfoldable pub isDash : List ℕ → Bool
+isDash bs = isOnly DashByte bs
 
 -- ---- "A number is one to four digits in base ten without needless leading zeros."
 
@@ -114,48 +104,18 @@ unfoldable pub valueFrom : ℕ → List ℕ → ℕ
 valueFrom v [] = v
 valueFrom v (b ∷ bs) = valueFrom (v * 10 + digitOf b) bs
 
--- ---- "A line is one capital letter and its fields in fixed order, parted by commas, no quoting"
+-- the number that a piece is, of at most `most` digits, if it is one
+unfoldable pub numberIn : ℕ → List ℕ → Option ℕ
+numberIn most bs = cond (isNumber most bs) (some (valueFrom 0 bs)) none
 
--- a byte goes in front of the first piece
-unfoldable pub grow : ℕ → List (List ℕ) → List (List ℕ)
-grow b [] = (b ∷ []) ∷ []
-grow b (p ∷ ps) = (b ∷ p) ∷ ps
+-- ---- "A reading position belongs to one text and moves forward only. Things are numbered from 0 as they appear, lines
+-- from 1."
 
--- the pieces that commas part: one more than there are commas
-unfoldable pub pieces : List ℕ → List (List ℕ)
-pieces [] = [] ∷ []
-pieces (b ∷ bs) = cond (isA Comma b) ([] ∷ pieces bs) (grow b (pieces bs))
-
-unfoldable pub isDash : List ℕ → Bool
-isDash bs = eqb (length bs) 1 && isA DashByte (getD bs 0 0)
-
--- a piece as a field: a number of at most `most` digits, or a dash
-unfoldable pub fieldOf : ℕ → List ℕ → Field
-fieldOf most bs = cond (isNumber most bs) (Number (valueFrom 0 bs)) (cond (isDash bs) Dash Wrong)
-
--- the class of the one byte of a piece
-unfoldable pub letterOf : List ℕ → Class
-letterOf bs = cond (eqb (length bs) 1) (classOf (getD bs 0 0)) Foreign
-
--- the letter of a line: its first piece
-unfoldable pub letterIn : List ℕ → Class
-letterIn line = letterOf (getD (pieces line) 0 [])
-
--- the fields of a line: its other pieces
-unfoldable pub fieldsOf : ℕ → List ℕ → List Field
-fieldsOf most line = map (fieldOf most) (drop 1 (pieces line))
-
--- a line as a row; Absent beyond its last field
-unfoldable pub rowOf : ℕ → List ℕ → Row
-rowOf most line =
-    let fs = fieldsOf most line in
-    record {
-      letter = letterIn line;
-      first = getD fs 0 Absent;
-      second = getD fs 1 Absent;
-      third = getD fs 2 Absent;
-      fourth = getD fs 3 Absent;
-    }
+-- the lines in their order, the first with number k, change a state; the first refusal is the answer
+module _ {S : Type 0} where
+  unfoldable pub byLines : (ℕ → Line → S → Answer S) → ℕ → List Line → S → Answer S
+  byLines f k [] s = gives s
+  byLines f k (l ∷ ls) s = f k l s >>= λ s′. byLines f (suc k) ls s′
 
 -- ---- how lines are written
 
@@ -167,12 +127,9 @@ unfoldable pub digits : ℕ → ℕ → List ℕ
 digits zero n = []
 digits (suc most) n = cond (ltb n 10) (digitByte n ∷ []) (digits most (n / 10) ++ digitByte (n % 10) ∷ [])
 
--- no line that is written has a field that is Wrong or Absent
 unfoldable pub fieldBytes : Field → List ℕ
 fieldBytes (Number n) = digits mostDigits n
 fieldBytes Dash = code "-" ∷ []
-fieldBytes Wrong = []
-fieldBytes Absent = []
 
 unfoldable pub fieldsBytes : List Field → List ℕ
 fieldsBytes [] = []

@@ -7,7 +7,8 @@ use mathlib.Core.List.{List, [], _∷_, _++_, map}
 use lib.ListN.{take, drop, replicate}
 use lib.Dec.{eqb}
 use Rattle.spec.specs.Lists.{upTo, count}
-use Rattle.spec.specs.Text.{classOf, classCode, digitOf, isA, lineWith}
+use Rattle.spec.specs.Classes.{classCode}
+use Rattle.spec.specs.Text.{classOf, digitOf, isA, lineWith}
 use Rattle.spec.specs.Net.{Net, places, readNet}
 use Rattle.spec.specs.Building.{build}
 use Rattle.spec.specs.Checking.{Checked, check}

@@ -26,21 +26,10 @@ pub struct ByteClass {
     pub digit: u8,
 }
 
-// A field of a line. Wrong is neither a number nor a dash; Absent stands beyond the last field.
+// A field of a line, as it is written.
 pub enum Field {
     Number(usize),
     Dash,
-    Wrong,
-    Absent,
-}
-
-// A line's letter and its first four fields; no line of a fixed form has more than three.
-pub struct Row {
-    pub letter: Class,
-    pub first: Field,
-    pub second: Field,
-    pub third: Field,
-    pub fourth: Field,
 }
 
 // The kinds of arcs: `I`, `O` and `H`.

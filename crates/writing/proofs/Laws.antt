@@ -14,7 +14,7 @@ use borrow.Author.Tests.{lt-ltb, le-ltb, ltb-true, ltb-false}
 use Rattle.spec.specs.Text.{digitByte, digits, fieldsBytes, fieldBytes}
 use Rattle.spec.specs.Buffer.{over}
 use Rattle.spec.specs.declared.Field.{Field}
-use Rattle.spec.specs.declared.Field.the-variants.{Number, Dash, Wrong, Absent}
+use Rattle.spec.specs.declared.Field.the-variants.{Number, Dash}
 use Rattle.writing.specs.Written.{putAt, Wrote, lastTwo, lineBytes}
 
 -- ---- writes
@@ -118,14 +118,6 @@ number-bytes e = rw e
 pub dash-bytes : {f : Field} → f ≡ Dash → fieldBytes f ≡ 45 ∷ []
 unfolding fieldBytes
 dash-bytes e = rw e
-
-pub wrong-bytes : {f : Field} → f ≡ Wrong → fieldBytes f ≡ []
-unfolding fieldBytes
-wrong-bytes e = rw e
-
-pub absent-bytes : {f : Field} → f ≡ Absent → fieldBytes f ≡ []
-unfolding fieldBytes
-absent-bytes e = rw e
 
 pub fields-append : (xs ys : List Field) → fieldsBytes (xs ++ ys) ≡ fieldsBytes xs ++ fieldsBytes ys
 unfolding fieldsBytes

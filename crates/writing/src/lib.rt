@@ -62,8 +62,6 @@ fn put_value(out: &mut [u8], at: usize, f: Field) -> usize
     match f {
         Field::Number(n) => put_number(out, at, n),
         Field::Dash => put_byte(out, at, b'-'),
-        Field::Wrong => at,
-        Field::Absent => at,
     }
 }
 

@@ -33,9 +33,9 @@ read-lines-spec = tie.close (tie.spec Inv-loop μ-loop
     (λ c κs. let j = c .before .before in let e = j .before in let i = e .before .before .before in let a = i .before .before in let g = a .before .before .before .loop .inv .2 in
     add-room g (a .known-at .ensures) (sym (i .before .goes .ensures) ∙ not-false _ (i .if1 .left)) (e .enter-events .ensures) (j .if2 .left))
     (λ c. let j = c .before .before .before in let e = j .before in let i = e .before .before .before in let a = i .before .before in let g = a .before .before .before .loop .inv .2 in omega (arith, lines-few (g .stood) (g .few)))
-    (λ c. let j = c .before .before .before in let e = j .before in let i = e .before .before .before in let a = i .before .before in omega (arith, a .known-at .ensures .on, a .known-at .ensures .within))
+    (λ c. let j = c .before .before .before in let e = j .before in let i = e .before .before .before in let a = i .before .before in omega (arith, a .known-at .ensures .found .on, a .known-at .ensures .found .within))
     (λ c. let j = c .before .before .before in let e = j .before in let i = e .before .before .before in let a = i .before .before in let g = a .before .before .before .loop .inv .2 in
-    (a .known-at .ensures .within, a .known-at .ensures .long, turn g (a .known-at .ensures) (sym (i .before .goes .ensures) ∙ not-false _ (i .if1 .left)) (e .enter-events .ensures) (j .if2 .left) (c .add-line .ensures)))
+    (a .known-at .ensures .found .within, a .known-at .ensures .long, turn g (a .known-at .ensures) (sym (i .before .goes .ensures) ∙ not-false _ (i .if1 .left)) (e .enter-events .ensures) (j .if2 .left) (c .add-line .ensures)))
     (λ c. let g = c .before .loop .inv .2 in omega (arith, g .stood .lines))
     (λ c. let g = c .before .loop .inv .2 in omega (arith, g .stood .lines))
     (λ c κs. tt)

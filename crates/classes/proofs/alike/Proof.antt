@@ -1,4 +1,4 @@
-use Rattle.spec.specs.Text.{alike}
+use Rattle.spec.specs.Classes.{alike}
 use Rattle.classes.proofs.alike.Statement.{statement}
 use Rattle.classes.proofs.alike.Tie as tie
 

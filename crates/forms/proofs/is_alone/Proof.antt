@@ -1,6 +1,6 @@
 use mathlib.Core.Path.{ap₂}
 use mathlib.Core.Bool.{_&&_}
-use Rattle.spec.specs.Forms.{isAlone}
+use Rattle.forms.specs.Rows.{isAlone}
 use Rattle.forms.proofs.is_alone.Statement.{statement}
 use Rattle.forms.proofs.is_alone.Tie as tie
 

@@ -1,6 +1,6 @@
 use mathlib.Core.Path.{ap₂}
 use mathlib.Core.Bool.{_&&_}
-use Rattle.spec.specs.Forms.{isOne}
+use Rattle.forms.specs.Rows.{isOne}
 use Rattle.forms.proofs.is_one.Statement.{statement}
 use Rattle.forms.proofs.is_one.Tie as tie
 

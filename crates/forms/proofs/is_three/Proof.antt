@@ -1,6 +1,6 @@
 use mathlib.Core.Path.{ap₂}
 use mathlib.Core.Bool.{_&&_}
-use Rattle.spec.specs.Forms.{isThree}
+use Rattle.forms.specs.Rows.{isThree}
 use Rattle.forms.proofs.is_three.Statement.{statement}
 use Rattle.forms.proofs.is_three.Tie as tie
 

@@ -1,6 +1,6 @@
 use mathlib.Core.Path.{ap₂}
 use mathlib.Core.Bool.{_&&_}
-use Rattle.spec.specs.Forms.{isTwo}
+use Rattle.forms.specs.Rows.{isTwo}
 use Rattle.forms.proofs.is_two.Statement.{statement}
 use Rattle.forms.proofs.is_two.Tie as tie
 

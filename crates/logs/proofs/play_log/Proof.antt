@@ -28,8 +28,8 @@ play-log-spec = tie.close (tie.spec Inv-loop μ-loop
     (λ c. let so = c .before .before .before .before .before in let i1 = so .before .before .before .before .before in let g = i1 .before in let sa = g .before in let l = sa .before .before .before in let s = l .before .before .before in so .step-on .ensures .long ∙ l .loop .inv .1 .long)
     (λ c. let so = c .before .before .before .before .before in let i1 = so .before .before .before .before .before in let g = i1 .before in let sa = g .before in let l = sa .before .before .before in let s = l .before .before .before in
     refused-step (s .pre) (l .loop .inv .1) (sa .step-at .ensures) (sym (g .goes .ensures) ∙ not-false _ (i1 .if1 .left)) (so .step-on .ensures) (sym (c .before .goes2 .ensures) ∙ not-true _ (c .if2 .taken)))
-    (λ c. let so = c .before .before .before .before .before in let i1 = so .before .before .before .before .before in let g = i1 .before in let sa = g .before in let l = sa .before .before .before in let s = l .before .before .before in omega (arith, sa .step-at .ensures .on, sa .step-at .ensures .within))
+    (λ c. let so = c .before .before .before .before .before in let i1 = so .before .before .before .before .before in let g = i1 .before in let sa = g .before in let l = sa .before .before .before in let s = l .before .before .before in omega (arith, sa .step-at .ensures .found .on, sa .step-at .ensures .found .within))
     (λ c. let so = c .before .before .before .before .before in let i1 = so .before .before .before .before .before in let g = i1 .before in let sa = g .before in let l = sa .before .before .before in let s = l .before .before .before in
-    (sa .step-at .ensures .within, goes-on (s .pre) (l .loop .inv .1) (sa .step-at .ensures) (sym (g .goes .ensures) ∙ not-false _ (i1 .if1 .left)) (so .step-on .ensures) (sym (c .before .goes2 .ensures) ∙ not-false _ (c .if2 .left))))
+    (sa .step-at .ensures .found .within, goes-on (s .pre) (l .loop .inv .1) (sa .step-at .ensures) (sym (g .goes .ensures) ∙ not-false _ (i1 .if1 .left)) (so .step-on .ensures) (sym (c .before .goes2 .ensures) ∙ not-false _ (c .if2 .left))))
     (λ c. c .before .loop .inv .1 .long)
     (λ c. let l = c .before in record { answers = runs-end _ (l .loop .inv .1 .runs) (c .loop-test .left); long = l .loop .inv .1 .long }))

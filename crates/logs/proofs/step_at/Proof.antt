@@ -5,6 +5,7 @@ use native.Mathlib.Omega.{arith}
 use borrow.Author.Tests.{le-leb, lt-leb}
 use Rattle.lines.specs.Lines.{lineOf}
 use Rattle.number_lines.proofs.Lines.{few-known}
+use Rattle.number_lines.proofs.Listing.{list-to}
 use Rattle.logs.proofs.Lines.{opens-step, list-step, reads-22, reads-23, reads-step}
 use Rattle.logs.proofs.step_at.Statement.{statement}
 use Rattle.logs.proofs.step_at.Tie as tie
@@ -15,30 +16,21 @@ step-at-spec = tie.close (tie.spec
     (λ c κs. tt)
     (λ c. let i1 = c .before .before .before .before in let la = i1 .before .before in let s = la .before .before .before in let a = s .args in let L = la .list-at .ensures .line (i1 .if1 .taken) in
     rw (c .read-as .ensures) record {
-      line = lineOf (L .bytes) true;
-      lines = L .lines;
-      on = i1 .if1 .taken;
-      within = omega (arith, L .within);
+      found = list-to L (i1 .if1 .taken);
       read = reads-22 (lineOf (L .bytes) true) (a .x) (la .list-at .ensures .long) (list-step (L .bytes) (L .list)) (sym (L .high (a .x .transitions)) ∙ le-leb _ _ (c .before .if2 .taken));
     })
     (λ c. let i1 = c .before .before .before .before .before in let la = i1 .before .before in let s = la .before .before .before in let L = la .list-at .ensures .line (i1 .if1 .taken) in omega (arith, L .few, s .pre .1 .events))
     (λ c κs. tt)
     (λ c. let i3 = c .before in let i2 = i3 .before .before .before in let i1 = i2 .before .before .before in let la = i1 .before .before in let s = la .before .before .before in let a = s .args in let L = la .list-at .ensures .line (i1 .if1 .taken) in
     rw (c .read-as2 .ensures) record {
-      line = lineOf (L .bytes) true;
-      lines = L .lines;
-      on = i1 .if1 .taken;
-      within = omega (arith, L .within);
+      found = list-to L (i1 .if1 .taken);
       read = reads-23 (lineOf (L .bytes) true) (a .x) (la .list-at .ensures .long) (list-step (L .bytes) (L .list)) (sym (L .high (a .x .transitions)) ∙ lt-leb _ _ (i2 .if2 .left)) (omega (arith, i3 .if3 .taken, L .count));
     })
     (λ c κs. tt)
     (λ c. let i3 = c .before in let i2 = i3 .before .before .before in let i1 = i2 .before .before .before in let la = i1 .before .before in let s = la .before .before .before in let a = s .args in let L = la .list-at .ensures .line (i1 .if1 .taken) in
     let u = sym (L .high (a .x .transitions)) ∙ lt-leb _ _ (i2 .if2 .left) in
     rw (c .read-as3 .ensures) record {
-      line = lineOf (L .bytes) true;
-      lines = L .lines;
-      on = i1 .if1 .taken;
-      within = omega (arith, L .within);
+      found = list-to L (i1 .if1 .taken);
       read = reads-step (lineOf (L .bytes) true) (a .x) (la .list-at .ensures .long) (list-step (L .bytes) (L .list)) u (s .pre .1 .known) (L .count) (omega (arith, i3 .if3 .left)) (L .numbers (few-known 256 (a .x .transitions) _ (omega (arith, i3 .if3 .left, L .count)) u (omega (arith, s .pre .1 .known))));
     })
     (λ c κs. c .before .before .before .before .before .pre .0)
@@ -47,9 +39,6 @@ step-at-spec = tie.close (tie.spec
     (λ c. omega (arith, c .line-at .ensures .end))
     (λ c κs. let la = c .before .before .before .before .before in let s = la .before .before .before in record { known = s .pre .1 .known; events = s .pre .1 .events; long = la .list-at .ensures .long })
     (λ c. let A = c .before .before .before .line-at .ensures in let e = c .any-line .ensures .0 in record {
-      line = _;
-      lines = rw e (A .lines);
-      on = omega (arith, A .start, A .on);
-      within = omega (arith, A .next);
+      found = record { line = _; lines = rw e (A .lines); on = omega (arith, A .start, A .on); within = omega (arith, A .next) };
       read = c .any-line .ensures .1;
     }))

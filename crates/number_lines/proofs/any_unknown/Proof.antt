@@ -5,7 +5,7 @@ use borrow.Author.Tests.{le-leb, lt-leb}
 use lib.Dec.{leb}
 use lib.ListN.{length}
 use Rattle.spec.specs.Lists.{any}
-use Rattle.spec.specs.Forms.{numbersOf}
+use Rattle.forms.specs.Rows.{valuesOf}
 use Rattle.lists.specs.Along.{any-first, any-next, any-nil}
 use Rattle.fields.specs.Fields.{numbersFrom}
 use Rattle.fields.proofs.Fields.{numbers-first, numbers-none}
@@ -13,7 +13,7 @@ use Rattle.number_lines.proofs.any_unknown.Statement.{statement}
 use Rattle.number_lines.proofs.any_unknown.Tie as tie
 
 abbrev Inv-loop : tie.InvT-loop
-Inv-loop l known at₀ at = (at ≤ length l + 1) × (any (leb known) (numbersFrom 4 l at) ≡ any (leb known) (numbersOf 4 l))
+Inv-loop l known at₀ at = (at ≤ length l + 1) × (any (leb known) (numbersFrom 4 l at) ≡ any (leb known) (valuesOf 4 l))
 
 abbrev μ-loop : tie.MeasureT-loop
 μ-loop l known at₀ at = length l + 1 - at

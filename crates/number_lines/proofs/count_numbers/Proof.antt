@@ -2,14 +2,14 @@ use Prim.Native.Nat.{_+_, _-_, _≤_}
 use mathlib.Core.Path.{_≡_, ap}
 use native.Mathlib.Omega.{arith}
 use lib.ListN.{length}
-use Rattle.spec.specs.Forms.{numbersOf}
+use Rattle.forms.specs.Rows.{valuesOf}
 use Rattle.fields.specs.Fields.{numbersFrom}
 use Rattle.fields.proofs.Fields.{numbers-first, numbers-none}
 use Rattle.number_lines.proofs.count_numbers.Statement.{statement}
 use Rattle.number_lines.proofs.count_numbers.Tie as tie
 
 abbrev Inv-loop : tie.InvT-loop
-Inv-loop l at₀ count₀ at count = (at ≤ length l + 1) × (count ≤ at) × (count + length (numbersFrom 4 l at) ≡ length (numbersOf 4 l))
+Inv-loop l at₀ count₀ at count = (at ≤ length l + 1) × (count ≤ at) × (count + length (numbersFrom 4 l at) ≡ length (valuesOf 4 l))
 
 abbrev μ-loop : tie.MeasureT-loop
 μ-loop l at₀ count₀ at count = length l + 1 - at

@@ -1,9 +1,14 @@
+use mathlib.Core.Path.{refl, sym, _∙_}
+use Rattle.spec.specs.Classes.{alike}
+use Rattle.spec.specs.Text.{named, inDigits, classOf}
 use Rattle.spec.specs.Building.{isStepLine}
+use Rattle.lines.specs.Lines.{lineOf}
+use Rattle.forms.proofs.Ties.{list-line}
 use Rattle.number_lines.proofs.is_step_line.Statement.{statement}
 use Rattle.number_lines.proofs.is_step_line.Tie as tie
 
 pub is-step-line-spec : {M : Type 1} → statement M
-unfolding isStepLine
+unfolding isStepLine alike classOf named inDigits
 is-step-line-spec = tie.close (tie.spec
     (λ c κs. tt)
-    (λ c. c .is-list-line .ensures))
+    (λ c. c .is-list-line .ensures ∙ sym (list-line "S" refl (lineOf _ _))))

@@ -1,7 +1,7 @@
 use Prim.Native.Nat.{_+_, _-_, _≤_}
 use native.Mathlib.Omega.{arith}
 use lib.ListN.{length}
-use Rattle.spec.specs.Forms.{numbersOf}
+use Rattle.forms.specs.Rows.{valuesOf}
 use Rattle.fields.specs.Fields.{numbersFrom}
 use Rattle.fields.proofs.Fields.{numbers-first, numbers-none}
 use Rattle.number_lines.proofs.Lines.{Filled, filled-none, filled-room, filled-more, filled-all}
@@ -9,7 +9,7 @@ use Rattle.number_lines.proofs.numbers.Statement.{statement}
 use Rattle.number_lines.proofs.numbers.Tie as tie
 
 abbrev Inv-loop : tie.InvT-loop
-Inv-loop l xs₀ i₀ at₀ xs i at = (at ≤ length l + 1) × Filled (numbersOf 4 l) xs i (numbersFrom 4 l at)
+Inv-loop l xs₀ i₀ at₀ xs i at = (at ≤ length l + 1) × Filled (valuesOf 4 l) xs i (numbersFrom 4 l at)
 
 abbrev μ-loop : tie.MeasureT-loop
 μ-loop l xs₀ i₀ at₀ xs i at = length l + 1 - at
