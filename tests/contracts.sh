@@ -17,7 +17,7 @@ weaken() { # FUNCTION CALL WRONG: pti_FUNCTION promises nothing, and makes the w
   rm -r "$work/crates/pti/proofs/pti_$1"
   NAME=$1 CALL=$2 WRONG=$3 perl -0pi -e '
     my ($n, $c, $w) = @ENV{qw(NAME CALL WRONG)};
-    s/(fn pti_\Q$n\E\([^{]*?ensures )\{[^\n]*\}\n/$1\{ λ r. ⌜ r ≡ r ⌝ }\n/ or die "no contract of pti_$n\n";
+    s/(fn pti_\Q$n\E\([^{]*?ensures )\{.*?⌝ \}\n/$1\{ λ r. ⌜ r ≡ r ⌝ }\n/s or die "no contract of pti_$n\n";
     s/(fn pti_\Q$n\E\(.*?\n\{[^}]*?)\b\Q$c\E/$1$w/s or die "no call in pti_$n\n"' "$work/crates/pti/src/lib.rt"
 }
 weaken read_net 'net_answer(net)' 'net_answer(b"")'

@@ -1,4 +1,4 @@
--- A copy that is one byte longer.
+-- A copy that is one byte longer: the byte stored is the text's, and the others stay.
 use mathlib.Core.Path.{_≡_, _∙_}
 use Prim.Native.Nat.{ℕ, _+_, _<_}
 use native.Mathlib.Decide.{ℕ-discrete}

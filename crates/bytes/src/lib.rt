@@ -1,11 +1,14 @@
-// Bytes cleared, and 128 of them copied or counted.
+// Bytes cleared, and a chunk of them copied or counted.
 ghost use mathlib.Core.Path.{_≡_};
 ghost use Prim.Native.Nat.{ℕ, _+_, _<_, _≤_};
 ghost use lib.ListN.{length, getD, take, drop};
 ghost use Rattle.spec.specs.Lists.{asCount};
 ghost use Rattle.lists.specs.Mapped.{Mapped};
 ghost use Rattle.bytes.specs.Changes.{zeros};
-ghost use Rattle.bytes.specs.Counts.{countOf};
+ghost use Rattle.bytes.specs.Counts.{chunk, countOf};
+
+// The bytes that are copied or counted at a time.
+pub const CHUNK: usize = 128;
 
 // The first n entries at 0.
 pub fn clear(a: &mut [u8], n: usize)
@@ -19,14 +22,14 @@ pub fn clear(a: &mut [u8], n: usize)
     }
 }
 
-// A copy of the 128 bytes from a position on, so that no store changes what is read of them.
-pub fn bytes_at(t: &[u8], at: usize) -> [u8; 128]
-    requires { ⌜ at + 128 ≤ length (now t) ⌝ }
-    ensures { λ r. ⌜ ((f : ℕ) → f < 128 → getD r f 0 ≡ getD (now (t .entry)) (at + f) 0) ⌝ }
+// A copy of the chunk from a position on, so that no store changes what is read of them.
+pub fn bytes_at(t: &[u8], at: usize) -> [u8; CHUNK]
+    requires { ⌜ at + chunk ≤ length (now t) ⌝ }
+    ensures { λ r. ⌜ ((f : ℕ) → f < chunk → getD r f 0 ≡ getD (now (t .entry)) (at + f) 0) ⌝ }
 {
-    let mut r = [0u8; 128];
+    let mut r = [0u8; CHUNK];
     let mut f: usize = 0;
-    while f < 128 {
+    while f < CHUNK {
         r[f] = t[at + f];
         f += 1;
     }
@@ -40,14 +43,15 @@ fn one_if(t: bool) -> u8
     if t { 1 } else { 0 }
 }
 
-// How many of the 128 bytes from a position on are b. One byte holds the sum, so that the compiler adds 16 of them at a time.
+// How many bytes of the chunk from a position on are b. One byte holds the sum, so that the compiler adds 16 of them
+// at a time.
 pub fn count_at(b: u8, s: &[u8], at: usize) -> usize
-    requires { ⌜ at + 128 ≤ length (now s) ⌝ }
-    ensures { λ r. ⌜ (r ≡ countOf b (take 128 (drop at (now (s .entry))))) × (r ≤ 128) ⌝ }
+    requires { ⌜ at + chunk ≤ length (now s) ⌝ }
+    ensures { λ r. ⌜ (r ≡ countOf b (take chunk (drop at (now (s .entry))))) × (r ≤ chunk) ⌝ }
 {
     let mut n: u8 = 0;
     let mut i: usize = 0;
-    while i < 128 {
+    while i < CHUNK {
         n += one_if(s[at + i] == b);
         i += 1;
     }

@@ -1,4 +1,5 @@
--- Laws on the classes of bytes.
+-- Laws on the classes of bytes: a byte is a digit by its range, else what the first entry of the list that has it
+-- says, else foreign.
 use Prim.Native.Nat.{ℕ, _-_, _≤_, _<_}
 use mathlib.Core.Path.{_≡_, refl, sym, ap, _∙_}
 use mathlib.Core.Bool.{Bool, true, false, not, _&&_, _||_, cond}

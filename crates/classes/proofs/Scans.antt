@@ -1,5 +1,5 @@
--- Laws on the first byte of a class, and on positions.
--- Assumes nothing.
+-- Laws on the first byte of a class, and on positions: a byte of another class is passed, and one byte more stands
+-- before the first. Assumes nothing.
 use Prim.Native.Nat.{ℕ, suc, _+_, _-_, _≤_, _<_}
 use mathlib.Core.Path.{_≡_, refl, _∙_}
 use mathlib.Core.Bool.{Bool, true, false}

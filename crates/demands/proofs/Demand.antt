@@ -1,4 +1,5 @@
--- The third demand of calls, from the third demand of the definitions.
+-- The third demand of calls, from the third demand of the definitions: of an accepted record each call's answer is
+-- given, so that its numbers are the answer's values and its buffer starts with what the answer writes (`Given`).
 use mathlib.Core.Path.{_≡_, refl, sym, ap, _∙_, subst}
 use mathlib.Core.Logic.{_≢_, _↔_, _⊎_, inl, inr}
 use Prim.Native.Nat.{ℕ, _+_, _-_, _*_, _≤_, _<_}

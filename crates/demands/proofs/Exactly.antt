@@ -1,4 +1,5 @@
--- Exactness of calls, from the exactness of the operations: a call's number is 0 exactly where its operation gives something.
+-- Exactness of calls, from the exactness of the operations: a call's number is 0 exactly where its operation gives
+-- something.
 use mathlib.Core.Path.{_≡_, refl, sym, ap, _∙_, subst}
 use mathlib.Core.Logic.{_↔_}
 use Prim.Native.Nat.{ℕ, _≤_}

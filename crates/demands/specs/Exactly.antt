@@ -1,5 +1,5 @@
--- What exactly is accepted, said of calls: the second demand as the promise of functions that make them. The crate `runs` has the
--- same over the definitions.
+-- What exactly is accepted, said of calls: the second demand as the promise of functions that make them. The crate
+-- `runs` has the same over the definitions.
 use mathlib.Core.Path.{_≡_}
 use mathlib.Core.Logic.{_↔_}
 use Prim.Native.Nat.{ℕ, _≤_}
@@ -20,7 +20,8 @@ use Rattle.spec.specs.Exactness.{EachAllowed, IsProcess, IsAccepted, IsTextOf}
 use Rattle.spec.specs.declared.Numbers.{Numbers}
 
 -- number 0 is returned exactly where P holds, and then the values of `what`, which stands at the start of the buffer
-pub record Exactly {A : Type 0} (P : Type 0) (values : A → ℕ × ℕ × ℕ) (written : A → List ℕ) (what : A) (old : List ℕ) (r : Numbers) (new : List ℕ) : Type 0 where
+pub record Exactly {A : Type 0} (P : Type 0) (values : A → ℕ × ℕ × ℕ) (written : A → List ℕ) (what : A)
+    (old : List ℕ) (r : Numbers) (new : List ℕ) : Type 0 where
   pub accepted : (r .number ≡ 0) ↔ P
   pub returns : r .number ≡ 0 → r ≡ asNumbers (gives (values what))
   pub leaves : r .number ≡ 0 → new ≡ over (written what) old
@@ -29,13 +30,15 @@ pub record Exactly {A : Type 0} (P : Type 0) (values : A → ℕ × ℕ × ℕ) 
 abbrev pub ReadsExactly : List ℕ → Numbers → Type 0
 ReadsExactly net r =
     (ds : List Declaration) → net ≡ netBytes ds
-    → ((r .number ≡ 0) ↔ (EachAllowed ds × Complete (declared ds))) × (r .number ≡ 0 → r ≡ asNumbers (gives (netValues (declared ds))))
+    → ((r .number ≡ 0) ↔ (EachAllowed ds × Complete (declared ds)))
+    × (r .number ≡ 0 → r ≡ asNumbers (gives (netValues (declared ds))))
 
--- "With an accepted net and buffers of the stated sizes, a well-formed log of known transitions becomes a record exactly when
--- each step is enabled in its turn and the limits hold, and the record is the one document 01 names."
+-- "With an accepted net and buffers of the stated sizes, a well-formed log of known transitions becomes a record
+-- exactly when each step is enabled in its turn and the limits hold, and the record is the one document 01 names."
 pub record BuildsExactly (net log old : List ℕ) (r : Numbers) (new : List ℕ) : Type 0 where
   pub builds : (N : Net) (steps : List (List ℕ)) → readNet net ≡ gives N → log ≡ logBytes steps → 48256 ≤ length old
-      → Exactly (EnabledSequence N steps × WithinLimits N steps) byteValues (λ b. b) (recordBytes (recordFor N steps)) old r new
+      → Exactly (EnabledSequence N steps × WithinLimits N steps) byteValues (λ b. b) (recordBytes (recordFor N steps))
+      old r new
   pub nothing-else : r .number ≡ 0 → (48256 ≤ length old) × IsAccepted net × IsTextOf logBytes log
 
 -- "Likewise a proposed record is accepted exactly when it is a process by the definition there.", by the check,
@@ -52,6 +55,8 @@ pub record ArrangesExactly (net text old : List ℕ) (r : Numbers) (new : List �
 
 -- and by replay, which besides accepts an arrangement exactly when it keeps the order
 pub record ReplaysExactly (net text arrangement old : List ℕ) (r : Numbers) (new : List ℕ) : Type 0 where
-  pub replays : (N : Net) (R : RunRecord) (lines : List (List ℕ)) → readNet net ≡ gives N → text ≡ recordBytes R → arrangement ≡ arrangementBytes lines → 4128 ≤ length old
+  pub replays : (N : Net) (R : RunRecord) (lines : List (List ℕ)) → readNet net ≡ gives N → text ≡ recordBytes R
+      → arrangement ≡ arrangementBytes lines → 4128 ≤ length old
       → Exactly (IsProcess N R × KeepsOrder R lines) replayValues (λ x. x .counts) (replayedOf N R lines) old r new
-  pub nothing-else : r .number ≡ 0 → (4128 ≤ length old) × IsAccepted net × IsTextOf recordBytes text × IsTextOf arrangementBytes arrangement
+  pub nothing-else : r .number ≡ 0
+      → (4128 ≤ length old) × IsAccepted net × IsTextOf recordBytes text × IsTextOf arrangementBytes arrangement

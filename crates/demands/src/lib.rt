@@ -1,6 +1,7 @@
-// The second and the third demand as the promises of functions that make the calls: what each call returned, and what it left in
-// the buffers.
-ghost use Rattle.demands.specs.Exactly.{ReadsExactly, BuildsExactly, ChecksExactly, ArrangesExactly, ReplaysExactly};
+// The second and the third demand as the promises of functions that make the calls: what each call returned, and what
+// it left in the buffers.
+ghost use Rattle.demands.specs.Exactly.{ReadsExactly, BuildsExactly, ChecksExactly};
+ghost use Rattle.demands.specs.Exactly.{ArrangesExactly, ReplaysExactly};
 ghost use Rattle.demands.specs.Demand.{buffers, OrderPromised, RunPromised};
 use pti::pti_arrange;
 use pti::pti_build;
@@ -25,7 +26,8 @@ pub fn log_built(net: &[u8], log: &[u8], out: &mut [u8]) -> Numbers
 
 // Checking a record.
 pub fn record_checked(net: &[u8], text: &[u8], table: &mut [u8]) -> Numbers
-    ensures { λ r. ⌜ ChecksExactly (now (net .entry)) (now (text .entry)) (now (table .entry)) r (now (table .exit)) ⌝ }
+    ensures { λ r. ⌜ ChecksExactly (now (net .entry)) (now (text .entry))
+        (now (table .entry)) r (now (table .exit)) ⌝ }
 {
     pti_check(net, text, table)
 }
@@ -44,7 +46,8 @@ pub fn arrangement_replayed(
     arrangement: &[u8],
     rows: &mut [u16],
 ) -> Numbers
-    ensures { λ r. ⌜ ReplaysExactly (now (net .entry)) (now (text .entry)) (now (arrangement .entry)) (now (rows .entry)) r (now (rows .exit)) ⌝ }
+    ensures { λ r. ⌜ ReplaysExactly (now (net .entry)) (now (text .entry)) (now (arrangement .entry))
+        (now (rows .entry)) r (now (rows .exit)) ⌝ }
 {
     pti_replay(net, text, arrangement, rows)
 }
@@ -72,7 +75,9 @@ pub fn order_of_runs(
     out: &mut [u8],
     rows: &mut [u16],
 ) -> Calls
-    ensures { λ r. ⌜ OrderPromised (now (net .entry)) (now (text .entry)) (now (arrangement .entry)) (buffers (now (table .entry)) (now (out .entry)) (now (rows .entry))) r (buffers (now (table .exit)) (now (out .exit)) (now (rows .exit))) ⌝ }
+    ensures { λ r. ⌜ OrderPromised (now (net .entry)) (now (text .entry)) (now (arrangement .entry))
+        (buffers (now (table .entry)) (now (out .entry)) (now (rows .entry))) r
+        (buffers (now (table .exit)) (now (out .exit)) (now (rows .exit))) ⌝ }
 {
     let read = pti_read_net(net);
     let check = pti_check(net, text, table);
@@ -96,7 +101,9 @@ pub fn run_recorded(
     out: &mut [u8],
     rows: &mut [u16],
 ) -> RunCalls
-    ensures { λ r. ⌜ RunPromised (now (net .entry)) (now (log .entry)) (now (arrangement .entry)) (now (text .entry)) (buffers (now (table .entry)) (now (out .entry)) (now (rows .entry))) r (now (text .exit)) (buffers (now (table .exit)) (now (out .exit)) (now (rows .exit))) ⌝ }
+    ensures { λ r. ⌜ RunPromised (now (net .entry)) (now (log .entry)) (now (arrangement .entry))
+        (now (text .entry)) (buffers (now (table .entry)) (now (out .entry)) (now (rows .entry))) r
+        (now (text .exit)) (buffers (now (table .exit)) (now (out .exit)) (now (rows .exit))) ⌝ }
 {
     let build = pti_build(net, log, text);
     let n = build.a as usize;

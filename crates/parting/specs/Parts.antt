@@ -38,12 +38,14 @@ withByte b (some q) = some (record { net = onFirst b (q .net); log = q .log })
 -- bytes in front of what was parted
 unfoldable pub inFront : List ℕ → Option NetAndLog → Option NetAndLog
 inFront [] q = q
-inFront (b ∷ bs) q = cond (isA LineEnd b) (withNetLine (record { bytes = []; ended = true }) (inFront bs q)) (withByte b (inFront bs q))
+inFront (b ∷ bs) q =
+    cond (isA LineEnd b) (withNetLine (record { bytes = []; ended = true }) (inFront bs q)) (withByte b (inFront bs q))
 
 -- no line `=` starts before a position
 pub record Running (input : List ℕ) (at : ℕ) : Type 0 where
   pub within : at ≤ length input
-  pub sofar : parted (linesOf input) ≡ inFront (take at input) (partedFrom (startsAt input at) (linesOf (drop at input)))
+  pub sofar : parted (linesOf input)
+      ≡ inFront (take at input) (partedFrom (startsAt input at) (linesOf (drop at input)))
 
 -- ---- the input parted
 

@@ -3,6 +3,7 @@ ghost use mathlib.Core.Path.{_≡_};
 ghost use Prim.Native.Nat.{_<_};
 ghost use lib.ListN.{length};
 ghost use Rattle.parting.specs.Parts.{startsAt, partsAt, Running, Parts};
+use bytes::CHUNK;
 use bytes::count_at;
 
 // Where the net ends and where the log starts, or that no line is `=`.
@@ -45,11 +46,11 @@ fn skip(s: &[u8]) -> usize
     ensures { λ r. ⌜ Running (now (s .entry)) r ⌝ }
 {
     let mut at: usize = 0;
-    while at + 128 <= s.len() {
+    while at + CHUNK <= s.len() {
         if 0 < count_at(b'=', s, at) {
             break;
         }
-        at += 128;
+        at += CHUNK;
     }
     at
 }

@@ -1,4 +1,5 @@
--- The answer to all lines of an arrangement.
+-- The answer to all lines of an arrangement: a line that breaks the order comes before what reading met, which is
+-- behind it; where nothing was met, the lowest event that no line has is the same in the array and in the lines.
 use Prim.Native.Nat.{ℕ, _+_, _≤_, _<_}
 use mathlib.Core.Path.{_≡_, refl, sym, ap, _∙_}
 use mathlib.Core.Bool.{true, false, not, false≢true}

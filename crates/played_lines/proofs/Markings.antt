@@ -1,4 +1,5 @@
--- The rows of the code are those of the definitions.
+-- The rows of the code are those of the definitions: both add up the arcs of the same transitions, which the code
+-- reads in its arrays and the definitions in the net and the record.
 use Prim.Native.Nat.{ℕ, _+_, _-_, _*_, _≤_, _<_}
 use mathlib.Core.Path.{_≡_, sym, ap, ap₂, _∙_, subst}
 use mathlib.Core.Bool.{Bool, true, false, cond}
@@ -19,7 +20,7 @@ use Rattle.lists.specs.Arrays.{blank}
 use Rattle.net.specs.Holds.{Cells}
 use Rattle.columns.specs.Columns.{column, column-at}
 use Rattle.spec.specs.Buffer.{over}
-use Rattle.rows.specs.Rows.{transitionsOf, arcAt, rowIn, Rows}
+use Rattle.rows.specs.Rows.{rowCounts, outputsAt, transitionsOf, arcAt, rowIn, Rows}
 use Rattle.played_lines.specs.Lines.{Describes}
 use Rattle.lists.specs.Rows.{rows-are, length-rows}
 
@@ -64,22 +65,22 @@ module _ {ps : ℕ} {ks arcs : List ℕ} {n : ℕ} {trans : List ℕ} {N : NetD}
     row-held : (p : ℕ) → p < 32 → rowIn ps ks arcs (transitionsOf trans es) p ≡ rowAt N (map (transitionOf R) es) p
     unfolding rowIn rowAt countAfter made taken
     row-held p l = ap₂ (λ (b : Bool) (x : ℕ). cond b x 0) (ap (ltb p) (H .places))
-        (ap₂ _-_ (ap₂ _+_ (H .tokens p) (cells-sum arcs 1024 (H .outputs) (transitionsOf trans es) fired-known p l)) (cells-sum arcs 0 (H .inputs) (transitionsOf trans es) fired-known p l)
+        (ap₂ _-_ (ap₂ _+_ (H .tokens p) (cells-sum arcs outputsAt (H .outputs) (transitionsOf trans es) fired-known p l)) (cells-sum arcs 0 (H .inputs) (transitionsOf trans es) fired-known p l)
         ∙ ap (λ (ts : List ℕ). tokensAt (N .tokens) p + sumOf (λ u. makes N u p) ts - sumOf (λ u. takes N u p) ts) fired-held)
 
-  pub rows-held : {gs : List (List ℕ)} {old new : List ℕ} → ((e : ℕ) → In e (flat gs) → e < n) → length gs ≤ 128 → 4128 ≤ length old → Rows ps ks arcs trans gs old new
+  pub rows-held : {gs : List (List ℕ)} {old new : List ℕ} → ((e : ℕ) → In e (flat gs) → e < n) → length gs ≤ 128 → rowCounts ≤ length old → Rows ps ks arcs trans gs old new
       → new ≡ over (replayedOf N R gs .counts) old
   unfolding replayedOf over
-  rows-held {gs} {old} {new} low few h r = sym (take-append-drop 4128 new) ∙ ap₂ (λ (xs ys : List ℕ). xs ++ ys) rows behind
+  rows-held {gs} {old} {new} low few h r = sym (take-append-drop rowCounts new) ∙ ap₂ (λ (xs ys : List ℕ). xs ++ ys) rows behind
     where
-      rows : take 4128 new ≡ flat (map (replayRow N R gs) (upTo 129))
-      rows = rows-are 32 (replayRow N R gs) (row-length N R gs) 129 0 (take 4128 new) (omega arith) (length-take-le 4128 new (omega (arith, r .long))) (λ k p l u. getD-take 4128 new (32 * k + p) 0 (omega arith) ∙ elim (decLe k (length gs)) [
+      rows : take rowCounts new ≡ flat (map (replayRow N R gs) (upTo 129))
+      rows = rows-are 32 (replayRow N R gs) (row-length N R gs) 129 0 (take rowCounts new) (omega arith) (length-take-le rowCounts new (omega (arith, r .long))) (λ k p l u. getD-take rowCounts new (32 * k + p) 0 (omega arith) ∙ elim (decLe k (length gs)) [
         | yes v ↦ r .row k p v u ∙ row-held (flat (take k gs)) (λ e m. low e (first-in k gs m)) p u ∙ sym (row-at N R gs k p v u)
         | no v ↦ r .zero (32 * k + p) (omega arith) (omega arith) ∙ sym (row-beyond N R gs k p (omega arith))
       ])
 
-      size : length (flat (map (replayRow N R gs) (upTo 129))) ≡ 4128
+      size : length (flat (map (replayRow N R gs) (upTo 129))) ≡ rowCounts
       size = length-rows 32 (replayRow N R gs) (row-length N R gs) 129
 
-      behind : drop 4128 new ≡ drop (length (flat (map (replayRow N R gs) (upTo 129)))) old
-      behind = rw size (ext-getD 0 (drop 4128 new) (drop 4128 old) (omega (arith, length-drop 4128 new, length-drop 4128 old, r .long)) (λ i l. getD-drop 4128 new i 0 ∙ r .beyond (4128 + i) (omega arith) ∙ sym (getD-drop 4128 old i 0)))
+      behind : drop rowCounts new ≡ drop (length (flat (map (replayRow N R gs) (upTo 129)))) old
+      behind = rw size (ext-getD 0 (drop rowCounts new) (drop rowCounts old) (omega (arith, length-drop rowCounts new, length-drop rowCounts old, r .long)) (λ i l. getD-drop rowCounts new i 0 ∙ r .beyond (rowCounts + i) (omega arith) ∙ sym (getD-drop rowCounts old i 0)))

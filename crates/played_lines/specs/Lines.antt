@@ -10,6 +10,7 @@ use Rattle.spec.specs.Replaying.{readArrangement}
 use Rattle.columns.specs.Columns.{column}
 use Rattle.lines.specs.Agree.{Agrees}
 use Rattle.net.specs.Holds.{Cells}
+use Rattle.rows.specs.Rows.{outputsAt}
 use Rattle.arrangements.specs.Lined.{TellsOrder, Ordered}
 use Rattle.arrangements.specs.Arrangement.{answerOf, linesPlayed}
 use Rattle.arrangements.specs.declared.ArrangementAnswer.{ArrangementAnswer}
@@ -23,13 +24,16 @@ pub record Arranged (n : ℕ) (gs : List (List ℕ)) (lined : List ℕ) : Type 0
 
 -- the answer is that of the definitions, and where the text is an arrangement the array has its lines
 abbrev pub JudgesLines : ℕ → List ℕ → List ℕ → ArrangementAnswer → List ℕ → Type 0
-JudgesLines n t text a lined = (R : RunRecord) → TellsOrder n t R → Agrees linesPlayed (answerOf a) (λ gs. Arranged n gs lined) (readArrangement R text)
+JudgesLines n t text a lined =
+    (R : RunRecord) → TellsOrder n t R
+    → Agrees linesPlayed (answerOf a) (λ gs. Arranged n gs lined) (readArrangement R text)
 
--- a net and a record of the definitions: the places and their tokens, the inputs and the outputs in one array, and the transitions of the events
+-- a net and a record of the definitions: the places and their tokens, the inputs and the outputs in one array, and
+-- the transitions of the events
 pub record Describes (ps : ℕ) (ks arcs : List ℕ) (n : ℕ) (trans : List ℕ) (N : NetD) (R : RunRecord) : Type 0 where
   pub places : ps ≡ length (N .tokens)
   pub tokens : (p : ℕ) → getD ks p 0 ≡ getD (N .tokens) p 0
   pub inputs : Cells (column 0 1024 arcs) (takes N)
-  pub outputs : Cells (column 1024 1024 arcs) (makes N)
+  pub outputs : Cells (column outputsAt 1024 arcs) (makes N)
   pub known : (e : ℕ) → e < n → getD trans e 0 < 32
   pub transition : (e : ℕ) → e < n → getD trans e 0 ≡ transitionOf R e

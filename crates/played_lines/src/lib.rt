@@ -3,22 +3,25 @@ ghost use mathlib.Core.Path.{_≡_};
 ghost use Prim.Native.Nat.{_≤_};
 ghost use lib.ListN.{replicate};
 ghost use Rattle.reach.specs.Rows.{Good};
+ghost use Rattle.rows.specs.Rows.{linedSize};
 ghost use Rattle.played_lines.specs.Lines.{JudgesLines};
 use arrangements::ArrangementAnswer;
 use arrangements::finish;
 use arrangements::first_broken;
 use arrangements::goes;
 use arrangements::read_lines;
+use reach::WORDS;
+use rows::LINED;
 
-// The lines of a text, of the n events whose closed order is in the rows of bits w. Where they are an arrangement, the array
-// has them: their events one after the other, and at 128 + k how many the first k lines have.
+// The lines of a text, of the n events whose closed order is in the rows of bits w. Where they are an arrangement,
+// the array has them: their events one after the other, and at 128 + k how many the first k lines have.
 pub fn judge_lines(
     n: usize,
-    w: &[u64; 512],
+    w: &[u64; WORDS],
     text: &[u8],
-    lined: &mut [u8; 257],
+    lined: &mut [u8; LINED],
 ) -> ArrangementAnswer
-    requires { ⌜ (n ≤ 128) × Good (now w) × (now lined ≡ replicate 257 0) ⌝ }
+    requires { ⌜ (n ≤ 128) × Good (now w) × (now lined ≡ replicate linedSize 0) ⌝ }
     ensures { λ r. ⌜ JudgesLines n (now (w .entry)) (now (text .entry)) r (now (lined .exit)) ⌝ }
 {
     let mut stands = [0u8; 128];

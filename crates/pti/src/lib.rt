@@ -1,8 +1,8 @@
 // Run records of PTI-nets: the operations of document 01 by slices, and the same for C.
 //
-// An operation's answer is an enum with a named case for each refusal. Its contract says, by a definition of the crate spec,
-// the number, spot and values of the answer and every byte of the lent buffer; none has a `requires`. A refusal writes
-// nothing, and past what an operation writes a buffer keeps its contents.
+// An operation's answer is an enum with a named case for each refusal. Its contract says, by a definition of the
+// crate spec, the number, spot and values of the answer and every byte of the lent buffer; none has a `requires`. A
+// refusal writes nothing, and past what an operation writes a buffer keeps its contents.
 ghost use mathlib.Core.Path.{_≡_};
 ghost use Rattle.spec.specs.Values.{netReturns, lineReturns};
 ghost use Rattle.pti.specs.Calls.{BuildCall, CheckCall, ReplayCall, ArrangeCall, ProgramCall};
@@ -32,6 +32,9 @@ pub use refused::refused_line_answer;
 pub use replaying::ReplayAnswer;
 pub use replaying::replay;
 pub use spec::Numbers;
+
+// The bytes that hold whatever the program prints.
+pub const PROGRAM_BYTES: usize = 48275;
 
 // Reads a net. a: places, b: transitions.
 #[no_mangle]
@@ -65,7 +68,8 @@ pub extern "C" fn pti_replay(
     arrangement: &[u8],
     rows: &mut [u16],
 ) -> Numbers
-    ensures { λ r. ⌜ ReplayCall (now (net .entry)) (now (text .entry)) (now (arrangement .entry)) (now (rows .entry)) r (now (rows .exit)) ⌝ }
+    ensures { λ r. ⌜ ReplayCall (now (net .entry)) (now (text .entry)) (now (arrangement .entry))
+        (now (rows .entry)) r (now (rows .exit)) ⌝ }
 {
     of_replay(replay(net, text, arrangement, rows))
 }
@@ -78,7 +82,8 @@ pub extern "C" fn pti_arrange(net: &[u8], text: &[u8], out: &mut [u8]) -> Number
     of_arrange(arrange(net, text, out))
 }
 
-// Where a line stands, of the net text (choice 0) or the second text (choice 1). a: its start in that text, b: its length.
+// Where a line stands, of the net text (choice 0) or the second text (choice 1). a: its start in that text, b: its
+// length.
 #[no_mangle]
 pub extern "C" fn pti_refused_line(net: &[u8], second: &[u8], choice: u8, line: usize) -> Numbers
     ensures { λ r. ⌜ r ≡ lineReturns (now (net .entry)) (now (second .entry)) choice line ⌝ }
@@ -88,7 +93,7 @@ pub extern "C" fn pti_refused_line(net: &[u8], second: &[u8], choice: u8, line: 
 
 // What the program prints for an input. a: bytes written, also of an `X` line.
 #[no_mangle]
-pub extern "C" fn pti_program(input: &[u8], out: &mut [u8; 48275]) -> Numbers
+pub extern "C" fn pti_program(input: &[u8], out: &mut [u8; PROGRAM_BYTES]) -> Numbers
     ensures { λ r. ⌜ ProgramCall (now (input .entry)) (now (out .entry)) r (now (out .exit)) ⌝ }
 {
     of_program(program(input, out))

@@ -1,4 +1,5 @@
--- One pair more in the rows: a bit joined into the word that says of its second event whether it is on a path, and if the pair is strict into the word two further on.
+-- One pair more in the rows: a bit joined into the word that says of its second event whether it is on a path, and if
+-- the pair is strict into the word two further on.
 use mathlib.Core.Path.{_≡_, refl, sym, ap, ap₂, _∙_}
 use mathlib.Core.Logic.{_≢_}
 use mathlib.Core.Bool.{Bool, true, false, cond}
@@ -11,7 +12,7 @@ use lib.ListN.{length, getD, set, length-set}
 use lib.Seq.{getD-set-same, getD-set-other}
 use Rattle.bit_sets.specs.Bits.{bit, bit-most, bit-or, bit-zero, bit-pow, bit-pow-other}
 use Rattle.bit_sets.specs.Sets.{has, has-low, has-high, has-most}
-use Rattle.reach.specs.Rows.{valueOf, Sub, rowOf, cellOf, way, Good, Raised}
+use Rattle.reach.specs.Rows.{words, valueOf, Sub, rowOf, cellOf, way, Good, Raised}
 
 -- ---- a set has f by a bit: in which of its words, and at which place there
 
@@ -51,9 +52,9 @@ bit-stays w k x i j f l h d = elim (ℕ-discrete j k) [
 
 -- ---- the pair of e and f
 
-module _ (w v v′ : List ℕ) (e f at p q : ℕ) (b : Bool) (e<128 : e < 128) (f<128 : f < 128) (n : length w ≡ 512) (g : Good w) (hp : p ≡ 2 ^ (f % 64)) (hq : q ≡ cond b p 0)
+module _ (w v v′ : List ℕ) (e f at p q : ℕ) (b : Bool) (e<128 : e < 128) (f<128 : f < 128) (n : length w ≡ words) (g : Good w) (hp : p ≡ 2 ^ (f % 64)) (hq : q ≡ cond b p 0)
     (ha : at ≡ 4 * e + f / 64) (hv : v ≡ joined w at p) (hv′ : v′ ≡ joined v (at + 2) q) where
-  long : length v ≡ 512
+  long : length v ≡ words
   long = ap length hv ∙ length-set w at _ ∙ n
 
   p-bit : ((i : ℕ) → i ≢ place f → bit p i ≡ 0) × (bit p (place f) ≡ 1)

@@ -1,5 +1,5 @@
--- Lines by their number: so many line ends passed over, in 128 bytes or line by line. A line behind others is the same part of
--- the text wherever one starts to count, be it inside a line in front of it.
+-- Lines by their number: so many line ends passed over, in chunks of bytes or line by line. A line behind others is the same part
+-- of the text wherever one starts to count, be it inside a line in front of it.
 use mathlib.Core.Path.{_≡_, refl, sym, ap, _∙_, subst}
 use Prim.Native.Nat.{ℕ, zero, suc, _+_, _-_, _≤_, _<_}
 use mathlib.Core.Bool.{Bool, true, false, cond}
@@ -18,7 +18,7 @@ use Rattle.spec.specs.LineParts.{partsFrom, lineAt, chosenText, refusedLine, pa
 use Rattle.spec.specs.declared.Class.the-variants.{LineEnd}
 use Rattle.lists.specs.Laws.{count-true, count-false, count-cons, count-same}
 use Rattle.classes.proofs.Classes.{line-end}
-use Rattle.bytes.specs.Counts.{countOf}
+use Rattle.bytes.specs.Counts.{chunk, countOf}
 use Rattle.lines.specs.Lines.{LineAt}
 use Rattle.lines.specs.declared.Span.{Span}
 use denote.Ref.{RefT, ptr, now}
@@ -105,18 +105,18 @@ module _ (text : List ℕ) (line left i : ℕ) (g : Running text line left i) wh
               ∙ ap (λ (z : ℕ). getElem? (partsFrom t z (linesOf (drop (r .next) text))) (left - 1)) q);
         }
 
-  -- the line starts behind the next 128 bytes
-  pub leap : (c : ℕ) → i + 128 ≤ length text → c ≡ countOf 10 (take 128 (drop i text)) → c < left → Running text line (left - c) (i + 128)
+  -- the line starts behind the next chunk
+  pub leap : (c : ℕ) → i + chunk ≤ length text → c ≡ countOf 10 (take chunk (drop i text)) → c < left → Running text line (left - c) (i + chunk)
   leap c h q u =
-      let same : countOf 10 (take 128 (drop i text)) ≡ ends 128 (drop i text) = count-same _ _ (take 128 (drop i text)) (λ x m. sym (line-end x)) in
+      let same : countOf 10 (take chunk (drop i text)) ≡ ends chunk (drop i text) = count-same _ _ (take chunk (drop i text)) (λ x m. sym (line-end x)) in
       let e : left - c ≡ suc (left - c - 1) = omega arith in
-      let d : drop 128 (drop i text) ≡ drop (i + 128) text = drop-drop 128 i text in
+      let d : drop chunk (drop i text) ≡ drop (i + chunk) text = drop-drop chunk i text in
       record {
         near = omega arith;
         rest = λ t.
-            g .rest t ∙ passed t 128 (drop i text) i left (left - c - 1) (simp length-drop (omega arith)) (omega (arith, same))
-            ∙ ap (λ z. getElem? (partsFrom t (i + 128) (linesOf z)) (suc (left - c - 1))) d
-            ∙ ap (getElem? (partsFrom t (i + 128) (linesOf (drop (i + 128) text)))) (sym e);
+            g .rest t ∙ passed t chunk (drop i text) i left (left - c - 1) (simp length-drop (omega arith)) (omega (arith, same))
+            ∙ ap (λ z. getElem? (partsFrom t (i + chunk) (linesOf z)) (suc (left - c - 1))) d
+            ∙ ap (getElem? (partsFrom t (i + chunk) (linesOf (drop (i + chunk) text)))) (sym e);
       }
 
 -- ---- the chosen text, and the answer

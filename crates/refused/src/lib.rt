@@ -6,6 +6,7 @@ ghost use Rattle.spec.specs.Answer.{returned};
 ghost use Rattle.spec.specs.LineParts.{refusedLine, partOf};
 ghost use Rattle.spec.specs.Values.{lineValues};
 ghost use Rattle.refused.specs.Shown.{Running, Finds, FindsChosen, answerOf, placeOf};
+use bytes::CHUNK;
 use bytes::count_at;
 use lines::line_at;
 
@@ -27,21 +28,21 @@ pub struct Place {
     pub at: usize,
 }
 
-// A position in front of the line with a number. 128 bytes are passed over at a time, as long as they have fewer line ends than
-// are left: the line then starts behind them.
+// A position in front of the line with a number. 128 bytes are passed over at a time, as long as they have fewer line
+// ends than are left: the line then starts behind them.
 fn skip(text: &[u8], line: usize) -> Place
     requires { ⌜ 0 < line ⌝ }
     ensures { λ r. ⌜ Running (now (text .entry)) line (r .left) (r .at) ⌝ }
 {
     let mut left = line - 1;
     let mut at: usize = 0;
-    while at + 128 <= text.len() {
+    while at + CHUNK <= text.len() {
         let c = count_at(10, text, at);
         if left <= c {
             break;
         }
         left -= c;
-        at += 128;
+        at += CHUNK;
     }
     Place { left, at }
 }
@@ -83,7 +84,8 @@ fn find(net: &[u8], second: &[u8], choice: u8, line: usize) -> Found
 // The part itself; where there is no such line it is empty, at the start of the net text.
 pub fn refused_line<'a>(net: &'a [u8], second: &'a [u8], choice: u8, line: usize) -> &'a [u8]
     ensures bytes { λ r. ⌜ now r ≡ partOf (refusedLine (now (net .entry)) (now (second .entry)) choice line) .bytes ⌝ }
-    ensures place { λ r. ⌜ ptr r ≡ placeOf (net .entry) (second .entry) (partOf (refusedLine (now (net .entry)) (now (second .entry)) choice line)) ⌝ }
+    ensures place { λ r. ⌜ ptr r ≡ placeOf (net .entry) (second .entry)
+        (partOf (refusedLine (now (net .entry)) (now (second .entry)) choice line)) ⌝ }
 {
     match find(net, second, choice, line) {
         Found::At(start, end) => {
@@ -99,7 +101,8 @@ pub fn refused_line<'a>(net: &'a [u8], second: &'a [u8], choice: u8, line: usize
 
 // Where the part lies, or refusal 46.
 pub fn refused_line_answer(net: &[u8], second: &[u8], choice: u8, line: usize) -> LineAnswer
-    ensures { λ r. ⌜ answerOf r ≡ returned lineValues (refusedLine (now (net .entry)) (now (second .entry)) choice line) ⌝ }
+    ensures { λ r. ⌜ answerOf r
+        ≡ returned lineValues (refusedLine (now (net .entry)) (now (second .entry)) choice line) ⌝ }
 {
     match find(net, second, choice, line) {
         Found::At(start, end) => LineAnswer::Shown(start, end - start),

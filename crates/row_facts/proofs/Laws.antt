@@ -1,4 +1,5 @@
--- Loops, and sums of strict pairs.
+-- Loops, and sums of strict pairs: what each event is strictly before is added up event by event, and what it leaves
+-- of all pairs are the independent ones.
 use mathlib.Core.Path.{_≡_, refl, sym, ap, _∙_}
 use mathlib.Core.Bool.{Bool, true, false}
 use mathlib.Core.List.{List}

@@ -42,16 +42,20 @@ module _ (w : List ℕ) (h : Good w) (e : ℕ) (l : e < 128) (r : Row) (q : r �
   pub strict-bit : (f : ℕ) → has (r .strict) f ≡ strictly (cellOf w) e f
   unfolding strictly asCount
   strict-bit f = elim (decLe 1 (has (r .strict) f)) [
-    | yes z ↦ let y : has (r .strict) f ≡ 1 = omega (arith, has-most (r .strict) f) in y ∙ sym (ap asCount (in-strict f y))
+    | yes z ↦
+        let y : has (r .strict) f ≡ 1 = omega (arith, has-most (r .strict) f) in
+        y ∙ sym (ap asCount (in-strict f y))
     | no z ↦ let y : has (r .strict) f ≡ 0 = omega arith in y ∙ sym (ap asCount (not-strict f y))
   ]
 
 -- how many events e is strictly before
-pub row-size : (w : List ℕ) (n e : ℕ) (r : Row) (k : ℕ) → Ready n w → e < n → r ≡ rowOf w e → k ≡ sumBelow 128 (has (r .strict)) → k ≡ sumBelow n (strictly (cellOf w) e)
+pub row-size : (w : List ℕ) (n e : ℕ) (r : Row) (k : ℕ) → Ready n w → e < n → r ≡ rowOf w e
+    → k ≡ sumBelow 128 (has (r .strict)) → k ≡ sumBelow n (strictly (cellOf w) e)
 row-size w n e r k h l q z =
     let g : Good w = h .good in
     let b : e < 128 = omega (arith, h .few) in
-    z ∙ ap (λ (m : ℕ). sumBelow m (has (r .strict))) (whole n (h .few)) ∙ sum-pad n (rest n) (has (r .strict)) (λ f i. past f i)
+    z ∙ ap (λ (m : ℕ). sumBelow m (has (r .strict))) (whole n (h .few))
+    ∙ sum-pad n (rest n) (has (r .strict)) (λ f i. past f i)
     ∙ sum-same n (has (r .strict)) (strictly (cellOf w) e) (λ f _. strict-bit w g e b r q f)
   where
     rest : ℕ → ℕ

@@ -27,7 +27,10 @@ unfolding strictly strictIn asCount
 strictly-no c e f h = rw (lt-leb 2 (c e f) h) refl
 
 pub strictly-only : (c : ℕ → ℕ → ℕ) (e f : ℕ) → strictly c e f ≡ 1 → 2 ≤ c e f
-strictly-only c e f h = elim (decLe 2 (c e f)) [ yes l ↦ l | no l ↦ absurd (omega (arith, strictly-no c e f (omega arith))) ]
+strictly-only c e f h = elim (decLe 2 (c e f)) [
+  | yes l ↦ l
+  | no l ↦ absurd (omega (arith, strictly-no c e f (omega arith)))
+]
 
 -- how many strict pairs there are between the first k
 unfoldable pub strictPairs : ℕ → (ℕ → ℕ → ℕ) → ℕ
@@ -38,7 +41,8 @@ pairsOf k = sumBelow k (λ e. e)
 
 module _ (n : ℕ) (c : ℕ → ℕ → ℕ) (o : Order n c) where
   -- of two events either one is strictly before the other, or they are independent
-  one-of : (e f : ℕ) → e < n → f < n → (e ≡ f → ⊥) → asCount (independentIn c e f) + (strictly c e f + strictly c f e) ≡ 1
+  one-of : (e f : ℕ) → e < n → f < n → (e ≡ f → ⊥)
+      → asCount (independentIn c e f) + (strictly c e f + strictly c f e) ≡ 1
   unfolding strictly independentIn strictIn asCount
   one-of e f l m d = elim (decLe 2 (c e f)) [
     | yes p ↦ elim (decLe 2 (c f e)) [
@@ -52,7 +56,8 @@ module _ (n : ℕ) (c : ℕ → ℕ → ℕ) (o : Order n c) where
   ]
 
   -- at its higher event
-  below-one : (e : ℕ) → e < n → (m : ℕ) → m ≤ e → count (independentIn c e) (upTo m) + (sumBelow m (strictly c e) + sumBelow m (λ f. strictly c f e)) ≡ m
+  below-one : (e : ℕ) → e < n → (m : ℕ) → m ≤ e
+      → count (independentIn c e) (upTo m) + (sumBelow m (strictly c e) + sumBelow m (λ f. strictly c f e)) ≡ m
   unfolding count upTo from
   below-one e l zero h = omega (arith, sum-zero (strictly c e), sum-zero (λ f. strictly c f e))
   below-one e l (suc m) h = omega (
@@ -81,7 +86,8 @@ module _ (n : ℕ) (c : ℕ → ℕ → ℕ) (o : Order n c) where
         sum-suc k (strictly c k),
         no-loop k h,
         below-one k h k (le-refl k),
-        sum-same k (λ e. sumBelow (suc k) (strictly c e)) (λ e. sumBelow k (strictly c e) + strictly c e k) (λ e _. sum-suc k (strictly c e)),
+        sum-same k (λ e. sumBelow (suc k) (strictly c e)) (λ e. sumBelow k (strictly c e) + strictly c e k)
+            (λ e _. sum-suc k (strictly c e)),
         sum-add k (λ e. sumBelow k (strictly c e)) (λ e. strictly c e k),
         ap (λ (z : ℕ). sum (map (independentsBelow c) (upTo z))) (add-one k),
         sum-next (independentsBelow c) k _ _ refl refl,

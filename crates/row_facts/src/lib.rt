@@ -10,10 +10,11 @@ ghost use Rattle.row_facts.specs.Left.{strictly};
 ghost use Rattle.row_facts.specs.Counts.{Ready};
 use bit_sets::holds;
 use bit_sets::size;
+use reach::WORDS;
 use reach::row_at;
 
 // Whether e is strictly before itself.
-fn looped(w: &[u64; 512], e: usize) -> bool
+fn looped(w: &[u64; WORDS], e: usize) -> bool
     requires { ⌜ (e < 128) × Good (now w) ⌝ }
     ensures { λ r. ⌜ r ≡ onCycle (cellOf (now (w .entry))) e ⌝ }
 {
@@ -22,7 +23,7 @@ fn looped(w: &[u64; 512], e: usize) -> bool
 }
 
 // The lowest event that is strictly before itself, or n.
-pub fn first_loop(w: &[u64; 512], n: usize) -> usize
+pub fn first_loop(w: &[u64; WORDS], n: usize) -> usize
     requires { ⌜ (n ≤ 128) × Good (now w) ⌝ }
     ensures { λ r. ⌜ Lowest (onCycle (cellOf (now (w .entry)))) n r ⌝ }
 {
@@ -37,7 +38,7 @@ pub fn first_loop(w: &[u64; 512], n: usize) -> usize
 }
 
 // How many of the n events e is strictly before.
-pub fn followers(w: &[u64; 512], n: usize, e: usize) -> usize
+pub fn followers(w: &[u64; WORDS], n: usize, e: usize) -> usize
     requires { ⌜ (e < n) × Ready n (now w) ⌝ }
     ensures { λ r. ⌜ (r ≡ sumBelow n (strictly (cellOf (now (w .entry))) e)) × (r ≤ 128) ⌝ }
 {
@@ -46,7 +47,7 @@ pub fn followers(w: &[u64; 512], n: usize, e: usize) -> usize
 }
 
 // The number of independent pairs of the n events: all pairs but the strict ones.
-pub fn independent_pairs(w: &[u64; 512], n: usize) -> usize
+pub fn independent_pairs(w: &[u64; WORDS], n: usize) -> usize
     requires { ⌜ Ready n (now w) × Order n (cellOf (now w)) ⌝ }
     ensures { λ r. ⌜ r ≡ independentPairs n (cellOf (now (w .entry))) ⌝ }
 {

@@ -1,4 +1,5 @@
--- Eight entries at a time, and the rows of the table.
+-- Eight entries at a time, and the rows of the table: runs of entries one behind the other are one run (`run-then`),
+-- and the entries of a row are the bits of its two sets, without the event itself.
 use mathlib.Core.Path.{_≡_, refl, sym, ap, ap₂, _∙_}
 use mathlib.Core.List.{List}
 use Prim.Native.Nat.{ℕ, _+_, _-_, _*_, _/_, _%_, _^_, _≤_, _<_, min}
@@ -17,7 +18,7 @@ use lib.ListN.{length, getD, set}
 use lib.Bits.{bitAnd}
 use Rattle.bit_sets.specs.Bits.{bit, bit-most}
 use Rattle.row_table.specs.Spread.{spread, octet, byte-0, byte-1, byte-2, byte-3, byte-4, byte-5, byte-6, byte-7}
-use Rattle.row_table.specs.Table.{Run, run-none, run-more, run-then, run-same, rowEntry, entryIn, byteIn}
+use Rattle.row_table.specs.Table.{tableSize, rowSize, wordBits, Run, run-none, run-more, run-then, run-same, rowEntry, entryIn, byteIn}
 
 spread-most : (x : ℕ) → spread x ≤ 72340172838076673
 unfolding spread
@@ -73,9 +74,9 @@ word-row w e r o p s q h hp hs f = elim (ℕ-discrete e f) [
 
 pub row-is : (old mid new : List ℕ) (w : List ℕ) (e : ℕ) (r : Row) (o p s : Set) → r ≡ rowOf w e → (has o e ≡ 1) × ((g : ℕ) → g ≢ e → has o g ≡ 0)
     → ((f : ℕ) → has p f ≡ min (has (r .path) f) (1 - has o f)) → ((f : ℕ) → has s f ≡ min (has (r .strict) f) (1 - has o f))
-    → Run old (128 * e) 64 (λ i. bit (p .lo) i + bit (s .lo) i) mid → Run mid (128 * e + 64) 64 (λ i. bit (p .hi) i + bit (s .hi) i) new → Run old (128 * e) 128 (rowEntry w e) new
+    → Run old (rowSize * e) wordBits (λ i. bit (p .lo) i + bit (s .lo) i) mid → Run mid (rowSize * e + wordBits) wordBits (λ i. bit (p .hi) i + bit (s .hi) i) new → Run old (rowSize * e) rowSize (rowEntry w e) new
 row-is old mid new w e r o p s q h hp hs a b =
-    run-then (128 * e + 64) refl
+    run-then (rowSize * e + wordBits) refl
     (λ i l. ap₂ (λ (x y : ℕ). x + y) (high p i) (high s i) ∙ word-row w e r o p s q h hp hs (64 + i))
     (run-same refl (λ i l. ap₂ (λ (x y : ℕ). x + y) (sym (has-low p i l)) (sym (has-low s i l)) ∙ word-row w e r o p s q h hp hs i) a) b
   where
@@ -86,11 +87,11 @@ row-is old mid new w e r o p s q h hp hs a b =
 
 pub record Written (old : List ℕ) (w : List ℕ) (n e : ℕ) (new : List ℕ) : Type 0 where
   pub long : length new ≡ length old
-  pub here : (i : ℕ) → i < 128 * e → getD new i 0 ≡ byteIn (cellOf w) n i
-  pub zero : (i : ℕ) → 128 * e ≤ i → i < 16384 → getD new i 0 ≡ 0
-  pub beyond : (i : ℕ) → 16384 ≤ i → getD new i 0 ≡ getD old i 0
+  pub here : (i : ℕ) → i < rowSize * e → getD new i 0 ≡ byteIn (cellOf w) n i
+  pub zero : (i : ℕ) → rowSize * e ≤ i → i < tableSize → getD new i 0 ≡ 0
+  pub beyond : (i : ℕ) → tableSize ≤ i → getD new i 0 ≡ getD old i 0
 
-pub written-none : (old new w : List ℕ) (n : ℕ) → Mapped old 16384 zeros new → Written new w n 0 new
+pub written-none : (old new w : List ℕ) (n : ℕ) → Mapped old tableSize zeros new → Written new w n 0 new
 unfolding zeros
 written-none old new w n m = record { long = refl; here = λ i l. absurd (omega arith); zero = λ i l k. m .here i k; beyond = λ i l. refl }
 
@@ -105,26 +106,26 @@ module _ (w : List ℕ) (n : ℕ) (n≤ : n ≤ 128) (h : (e f : ℕ) → e < n 
     ]
   ]
 
-  pub written-more : (old mid new : List ℕ) (e : ℕ) → e < n → Written old w n e mid → Run mid (128 * e) 128 (rowEntry w e) new → Written old w n (e + 1) new
+  pub written-more : (old mid new : List ℕ) (e : ℕ) → e < n → Written old w n e mid → Run mid (rowSize * e) rowSize (rowEntry w e) new → Written old w n (e + 1) new
   unfolding byteIn
   written-more old mid new e l m r = record {
     long = r .long ∙ m .long;
-    here = λ i k. elim (decLe (128 * e) i) [
-      | yes z ↦ let j : ℕ = i - 128 * e in
-          let y : i ≡ 128 * e + j = omega arith in
+    here = λ i k. elim (decLe (rowSize * e) i) [
+      | yes z ↦ let j : ℕ = i - rowSize * e in
+          let y : i ≡ rowSize * e + j = omega arith in
           let b : j < 128 = omega arith in
-          rw y (r .here j b ∙ entry e j l ∙ sym (ap₂ (entryIn (cellOf w) n) (cell-row 128 e j b) (cell-column 128 e j b)))
+          rw y (r .here j b ∙ entry e j l ∙ sym (ap₂ (entryIn (cellOf w) n) (cell-row rowSize e j b) (cell-column rowSize e j b)))
       | no z ↦ r .before i (omega arith) ∙ m .here i (omega arith)
     ];
     zero = λ i k b. r .behind i (omega arith) ∙ m .zero i (omega arith) b;
     beyond = λ i k. r .behind i (omega arith) ∙ m .beyond i k;
   }
 
-  pub written-end : (old mid new : List ℕ) (e : ℕ) → e ≡ n → Mapped old 16384 zeros mid → Written mid w n e new → Mapped old 16384 (byteIn (cellOf w) n) new
+  pub written-end : (old mid new : List ℕ) (e : ℕ) → e ≡ n → Mapped old tableSize zeros mid → Written mid w n e new → Mapped old tableSize (byteIn (cellOf w) n) new
   unfolding byteIn entryIn
   written-end old mid new e q c m = record {
     long = m .long ∙ c .long;
-    here = λ i l. elim (decLe (128 * e) i) [
+    here = λ i l. elim (decLe (rowSize * e) i) [
       | yes z ↦ let y : n ≤ i / 128 = omega arith in rw (le-ltb (i / 128) n y) (m .zero i z l)
       | no z ↦ m .here i (omega arith)
     ];

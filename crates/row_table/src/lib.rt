@@ -6,11 +6,21 @@ ghost use Rattle.lists.specs.Mapped.{Mapped};
 ghost use Rattle.bit_sets.specs.Bits.{bit};
 ghost use Rattle.reach.specs.Rows.{cellOf};
 ghost use Rattle.row_table.specs.Spread.{spread};
-ghost use Rattle.row_table.specs.Table.{Run, rowEntry, byteIn};
+ghost use Rattle.row_table.specs.Table.{tableSize, rowSize, wordBits, Run, rowEntry, byteIn};
 use bit_sets::less;
 use bit_sets::one;
 use bytes::clear;
+use reach::WORDS;
 use reach::row_at;
+
+// The bytes of the table.
+pub const TABLE: usize = 16384;
+
+// The bytes of one of its rows.
+const ROW: usize = 128;
+
+// The bytes that one word of a set makes.
+const WORD: usize = 64;
 
 // Eight bits as eight bytes.
 fn spread(x: u64) -> u64
@@ -44,8 +54,8 @@ fn put_eight(out: &mut [u8], at: usize, p: u64, s: u64)
 
 // The entries of two words.
 fn put_word(out: &mut [u8], at: usize, p: u64, s: u64)
-    requires { ⌜ at + 64 ≤ length (now out) ⌝ }
-    ensures { λ _. ⌜ Run (now (out .entry)) at 64 (λ i. bit p i + bit s i) (now (out .exit)) ⌝ }
+    requires { ⌜ at + wordBits ≤ length (now out) ⌝ }
+    ensures { λ _. ⌜ Run (now (out .entry)) at wordBits (λ i. bit p i + bit s i) (now (out .exit)) ⌝ }
 {
     let mut j: usize = 0;
     while j < 8 {
@@ -55,24 +65,24 @@ fn put_word(out: &mut [u8], at: usize, p: u64, s: u64)
 }
 
 // The entries of row e, 0 for e itself.
-fn put_row(w: &[u64; 512], e: usize, out: &mut [u8])
-    requires { ⌜ (e < 128) × (16384 ≤ length (now out)) ⌝ }
-    ensures { λ _. ⌜ Run (now (out .entry)) (128 * e) 128 (rowEntry (now (w .entry)) e) (now (out .exit)) ⌝ }
+fn put_row(w: &[u64; WORDS], e: usize, out: &mut [u8])
+    requires { ⌜ (e < 128) × (tableSize ≤ length (now out)) ⌝ }
+    ensures { λ _. ⌜ Run (now (out .entry)) (rowSize * e) rowSize (rowEntry (now (w .entry)) e) (now (out .exit)) ⌝ }
 {
     let r = row_at(w, e);
     let o = one(e);
     let p = less(r.path, o);
     let s = less(r.strict, o);
-    put_word(out, 128 * e, p.lo, s.lo);
-    put_word(out, 128 * e + 64, p.hi, s.hi);
+    put_word(out, ROW * e, p.lo, s.lo);
+    put_word(out, ROW * e + WORD, p.hi, s.hi);
 }
 
 // The table of the n events: their rows, and 0 behind them.
-pub fn write_table(w: &[u64; 512], n: usize, out: &mut [u8])
-    requires { ⌜ (n ≤ 128) × (16384 ≤ length (now out)) × ((e f : ℕ) → e < n → n ≤ f → cellOf (now w) e f ≡ 0) ⌝ }
-    ensures { λ _. ⌜ Mapped (now (out .entry)) 16384 (byteIn (cellOf (now (w .entry))) n) (now (out .exit)) ⌝ }
+pub fn write_table(w: &[u64; WORDS], n: usize, out: &mut [u8])
+    requires { ⌜ (n ≤ 128) × (tableSize ≤ length (now out)) × ((e f : ℕ) → e < n → n ≤ f → cellOf (now w) e f ≡ 0) ⌝ }
+    ensures { λ _. ⌜ Mapped (now (out .entry)) tableSize (byteIn (cellOf (now (w .entry))) n) (now (out .exit)) ⌝ }
 {
-    clear(out, 16384);
+    clear(out, TABLE);
     let mut e: usize = 0;
     while e < n {
         put_row(w, e, out);

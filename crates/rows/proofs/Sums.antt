@@ -1,4 +1,6 @@
--- The sums of events, one event after the other, and the rows that are written from them.
+-- The sums of events, one event after the other, and the rows that are written from them: each event adds its arcs
+-- once, so that the sums are those of the definitions over its transitions, and a row is what was had less what was
+-- taken.
 use Prim.Native.Nat.{ℕ, suc, _+_, _-_, _*_, _≤_, _<_}
 use mathlib.Core.Path.{_≡_, refl, sym, ap, ap₂, _∙_, subst}
 use mathlib.Core.List.{List, [], _∷_, _++_, map-append}
@@ -15,7 +17,7 @@ use Rattle.lists.specs.Mapped.{Mapped}
 use Rattle.lists.specs.Stretch.{MappedFrom, from-none, from-more}
 use Rattle.arrangements.specs.Lined.{Ordered}
 use Rattle.arrangements.proofs.Ordering.{end-next, end-most, first-lines}
-use Rattle.rows.specs.Rows.{transitionsOf, arcAt, rowIn, Room, added, AddsArcs, Played, Plays, leftOf, Playable, Rows}
+use Rattle.rows.specs.Rows.{sumCount, transitionsOf, arcAt, rowIn, Room, added, AddsArcs, Played, Playing, Plays, leftOf, Playable, Rows}
 
 -- ---- the arcs of a transition
 
@@ -206,17 +208,23 @@ module _ {places : ℕ} {tokens trans lined : List ℕ} {lines : ℕ} (P : Playa
   unfolding flat
   no-events = P .ordered .ends 0 (omega arith)
 
-  pub line-room : {k from to : ℕ} → k < lines → from ≡ getD lined (128 + k) 0 → to ≡ getD lined (129 + k) 0
-      → (from ≤ to) × (to ≤ 128) × (length lined ≡ 257) × ((i : ℕ) → i < to → (getD lined i 0 < 128) × (getD trans (getD lined i 0) 0 < 32))
-  line-room {k} {from} {to} h p q =
+  pub line-playing : {k from to : ℕ} {sums : List ℕ} → k < lines → from ≡ getD lined (128 + k) 0 → to ≡ getD lined (129 + k) 0
+      → length sums ≡ sumCount → Room sums from → Playing sums places trans lined from to
+  line-playing {k} {from} {to} h p q long room =
       let gs = P .groups in
       let l : k < length gs = omega (arith, P .lines) in
       let a : 129 + k ≡ 128 + suc k = omega arith in
       let x : from ≡ length (flat (take k gs)) = p ∙ P .ordered .ends k (omega arith) in
-      let y : to ≡ length (flat (take (suc k) gs)) = q ∙ ap (λ (z : ℕ). getD lined z 0) a ∙ P .ordered .ends (suc k) l in (
-        omega (arith, end-next (P .ordered) k l),
-        omega (arith, end-most (P .ordered) (suc k), P .events),
-        P .ordered .long,
-        λ i u. let v : i < length (flat gs) = omega (arith, end-most (P .ordered) (suc k)) in
-            rw (sym (getD-take (length (flat gs)) lined i 0 v) ∙ ap (λ (z : List ℕ). getD z i 0) (P .ordered .events)) (P .known _ (at-in 0 (flat gs) i v)),
-      )
+      let y : to ≡ length (flat (take (suc k) gs)) =
+      q ∙ ap (λ (z : ℕ). getD lined z 0) a ∙ P .ordered .ends (suc k) l in
+      record {
+        long = long;
+        few = P .places;
+        order = omega (arith, end-next (P .ordered) k l);
+        most = omega (arith, end-most (P .ordered) (suc k), P .events);
+        room = room;
+        events-long = P .ordered .long;
+        known = λ i u. let v : i < length (flat gs) = omega (arith, end-most (P .ordered) (suc k)) in
+            rw (sym (getD-take (length (flat gs)) lined i 0 v) ∙ ap (λ (z : List ℕ). getD z i 0) (P .ordered .events))
+            (P .known _ (at-in 0 (flat gs) i v));
+      }

@@ -1,5 +1,5 @@
-// Reading a file descriptor to its end and writing to one, where a read or a write may move fewer bytes than asked, and where
-// one that a signal interrupts is made again.
+// Reading a file descriptor to its end and writing to one, where a read or a write may move fewer bytes than asked,
+// and where one that a signal interrupts is made again.
 ghost use mathlib.Core.Path.{_≡_};
 ghost use Prim.Native.Nat.{_≤_};
 ghost use lib.ListN.{length};
@@ -27,8 +27,8 @@ fn read_once(fd: i32, buf: &mut [u8], at: usize) -> isize
     libc::read(fd, &mut buf[at..end])
 }
 
-// The same, made again where a signal interrupts it. A proved loop has to end, so the turns are counted down from a number
-// that no run uses up.
+// The same, made again where a signal interrupts it. A proved loop has to end, so the turns are counted down from a
+// number that no run uses up.
 fn read_some(fd: i32, buf: &mut [u8], at: usize) -> isize
     requires { ⌜ at ≤ length (now buf) ⌝ }
     ensures { λ _. ⌜ length (now (buf .exit)) ≡ length (now (buf .entry)) ⌝ }

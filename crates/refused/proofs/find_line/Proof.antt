@@ -1,3 +1,5 @@
+-- `refused::find_line` meets its contract. The loop's invariant: the line sought is the one in front of which `left`
+-- line ends stand from `at` on (`Running`). Without one left it is the line here; behind the text there is none.
 use Prim.Native.Nat.{_+_, _-_}
 use native.Mathlib.Omega.{arith}
 use lib.ListN.{length}
@@ -12,14 +14,49 @@ Inv-loop text line left₀ at₀ left at = Running text line left at
 abbrev μ-loop : tie.MeasureT-loop
 μ-loop text line left₀ at₀ left at = length text + 1 - at
 
+returns : tie.Need-returns Inv-loop μ-loop
+returns c = no-line _ _ (c .if1 .taken)
+
+skip-requires : tie.Need-skip-requires Inv-loop μ-loop
+skip-requires c κs = omega (arith, c .if1 .left)
+
+loop-holds : tie.Need-loop-holds Inv-loop μ-loop
+loop-holds c = c .skip .ensures
+
+line-at-requires : tie.Need-line-at-requires Inv-loop μ-loop
+line-at-requires c κs = c .loop-test .taken
+
+returns-2 : tie.Need-returns-2 Inv-loop μ-loop
+returns-2 c =
+    let l = c .before .before .before in
+    here _ _ _ _ (l .loop .inv) _ (c .before .before .loop-test .taken) (c .before .line-at .ensures) (c .if2 .taken)
+
+sub-left : tie.Need-sub-left Inv-loop μ-loop
+sub-left c = omega (arith, c .if2 .left)
+
+loop-less : tie.Need-loop-less Inv-loop μ-loop
+loop-less c = omega (arith, c .before .line-at .ensures .start, c .before .line-at .ensures .on, c .before .line-at .ensures .next)
+
+loop-again : tie.Need-loop-again Inv-loop μ-loop
+loop-again c =
+    let l = c .before .before .before in
+    turn _ _ _ _ (l .loop .inv) _ (c .before .before .loop-test .taken) (c .before .line-at .ensures) (c .if2 .left)
+
+returns-3 : tie.Need-returns-3 Inv-loop μ-loop
+returns-3 c = ended _ _ _ _ (c .before .loop .inv) (c .loop-test .left)
+
 pub find-line-spec : {M : Type 1} → statement M
-find-line-spec = tie.close (tie.spec Inv-loop μ-loop
-    (λ c. no-line _ _ (c .if1 .taken))
-    (λ c κs. omega (arith, c .if1 .left))
-    (λ c. c .skip .ensures)
-    (λ c κs. c .loop-test .taken)
-    (λ c. let l = c .before .before .before in here _ _ _ _ (l .loop .inv) _ (c .before .before .loop-test .taken) (c .before .line-at .ensures) (c .if2 .taken))
-    (λ c. omega (arith, c .if2 .left))
-    (λ c. omega (arith, c .before .line-at .ensures .start, c .before .line-at .ensures .on, c .before .line-at .ensures .next))
-    (λ c. let l = c .before .before .before in turn _ _ _ _ (l .loop .inv) _ (c .before .before .loop-test .taken) (c .before .line-at .ensures) (c .if2 .left))
-    (λ c. ended _ _ _ _ (c .before .loop .inv) (c .loop-test .left)))
+find-line-spec =
+    tie.close
+    (tie.spec
+    Inv-loop
+    μ-loop
+    returns
+    skip-requires
+    loop-holds
+    line-at-requires
+    returns-2
+    sub-left
+    loop-less
+    loop-again
+    returns-3)
