@@ -46,17 +46,17 @@ module _ {n : ℕ} {rec counts : List ℕ} where
   takes-again {x} k a b = rw (← replicate-append-replicate k 1 x) (takes-then a b)
 
 -- one token
-module _ (e p n s : ℕ) (rec counts : List ℕ) (r : ℕ) (R : ReadyAt n rec counts) (q : s ≡ getD (column 96 32 counts) p 0) (F : FirstFree p s n (column 128 512 rec) (column 1152 512 rec) r) where
+module _ (e p n s : ℕ) (rec counts : List ℕ) (r : ℕ) (R : ReadyAt n rec counts) (q : s ≡ getD (column 64 32 counts) p 0) (F : FirstFree p s n (column 128 512 rec) (column 1152 512 rec) r) where
   pub takes-none : n ≤ r → TookAt (flow e p ∷ []) n rec counts rec counts
   takes-none l = record { took = took-none e p n s _ _ _ r (R .ready) q F l; long = refl; wide = refl; kept = λ at k h. refl; counted = λ at k h. refl }
 
-  pub takes-one : e < 128 → p < 32 → r < n → TookAt (flow e p ∷ []) n rec counts (set rec (1152 + r) e) (set counts (96 + p) (r + 1))
+  pub takes-one : e < 128 → p < 32 → r < n → TookAt (flow e p ∷ []) n rec counts (set rec (1152 + r) e) (set counts (64 + p) (r + 1))
   takes-one a b l = record {
-    took = rw (store-in 1152 512 rec r e (omega (arith, R .ready .few)), store-in 96 32 counts p (r + 1) b) (took-one e p n s _ _ _ r (R .ready) q F a b l);
+    took = rw (store-in 1152 512 rec r e (omega (arith, R .ready .few)), store-in 64 32 counts p (r + 1) b) (took-one e p n s _ _ _ r (R .ready) q F a b l);
     long = length-set rec (1152 + r) e;
-    wide = length-set counts (96 + p) (r + 1);
+    wide = length-set counts (64 + p) (r + 1);
     kept = λ at k h. store-past at k rec (1152 + r) e (omega arith);
-    counted = λ at k h. store-past at k counts (96 + p) (r + 1) (omega arith);
+    counted = λ at k h. store-past at k counts (64 + p) (r + 1) (omega arith);
   }
 
 -- ---- making

@@ -9,7 +9,8 @@ use lib.Seq.{getD-set-same, getD-set-other}
 use Rattle.spec.specs.Record.{Condition}
 use Rattle.spec.specs.Building.{madeBy}
 use Rattle.lists.specs.Laws
-use Rattle.steps.specs.Holds.{cellAt}
+use Rattle.bit_sets.specs.Bits.{bit}
+use Rattle.arc_sets.specs.Sets.{arcAt}
 use Rattle.lists.specs.Tables.{table-more}
 use Rattle.runs.specs.Flows.{flow, flows}
 use Rattle.runs.specs.Consume.{made-of}
@@ -68,14 +69,14 @@ made-by e p k l = ap (replicate k) same ∙ sym (Laws.map-replicate made-of k (f
     same = unfold fresh made-of flow madeBy in (rw (event-coded e l))
 
 -- of the next place, and of the next event
-pub outputs-next : (cells : List ℕ) (p e t k : ℕ) → e < 128 → k ≡ getD cells (32 * t + p) 0
-    → map made-of (tokensOf cells p e t) ++ replicate k (fresh e p) ≡ map made-of (tokensOf cells (p + 1) e t)
-outputs-next cells p e t k l q =
-    ap (λ z. map made-of (tokensOf cells p e t) ++ z) (made-by e p k l)
-    ∙ sym (map-append made-of (tokensOf cells p e t) (replicate k (flow e p)))
-    ∙ ap (map made-of) (tokens-next cells p e t k q)
+pub outputs-next : (set e p k : ℕ) → e < 128 → k ≡ bit set p
+    → map made-of (tokensOf set e p) ++ replicate k (fresh e p) ≡ map made-of (tokensOf set e (p + 1))
+outputs-next set e p k l q =
+    ap (λ z. map made-of (tokensOf set e p) ++ z) (made-by e p k l)
+    ∙ sym (map-append made-of (tokensOf set e p) (replicate k (flow e p)))
+    ∙ ap (map made-of) (tokens-next set e p k q)
 
-pub outputs-after : (cells : List ℕ) (m e : ℕ) (ts : List ℕ) (i t : ℕ) → i < length ts → t ≡ getD ts i 0
-    → map made-of (flows (cellAt cells) m e (take i ts)) ++ map made-of (tokensOf cells m (e + i) t) ≡ map made-of (flows (cellAt cells) m e (take (i + 1) ts))
-outputs-after cells m e ts i t l q =
-    sym (map-append made-of (flows (cellAt cells) m e (take i ts)) (tokensOf cells m (e + i) t)) ∙ ap (map made-of) (flows-next cells m e ts i t l q)
+pub outputs-after : (sets : List ℕ) (at e : ℕ) (ts : List ℕ) (i t : ℕ) → i < length ts → t ≡ getD ts i 0
+    → map made-of (flows (arcAt sets at) 64 e (take i ts)) ++ map made-of (tokensOf (getD sets (at + t) 0) (e + i) 64) ≡ map made-of (flows (arcAt sets at) 64 e (take (i + 1) ts))
+outputs-after sets at e ts i t l q =
+    sym (map-append made-of (flows (arcAt sets at) 64 e (take i ts)) (tokensOf (getD sets (at + t) 0) (e + i) 64)) ∙ ap (map made-of) (flows-next sets at e ts i t l q)

@@ -9,11 +9,12 @@ use lib.ListN.{length, getD, take, drop, replicate, length-append, length-replic
 use lib.Seq.{take-suc, take-add, length-take-le}
 use Rattle.spec.specs.Lists.{from, upTo, flat}
 use Rattle.lists.specs.Laws
-use Rattle.steps.specs.Holds.{cellAt}
+use Rattle.bit_sets.specs.Bits.{bit}
+use Rattle.arc_sets.specs.Sets.{arcAt}
 use Rattle.runs.specs.Flows.{flow, spread, flows}
 use Rattle.conditions.specs.Conditions.{tokensOf}
 
-spread-more : (h : ℕ → ℕ) (p : ℕ) → spread h (p + 1) ≡ spread h p ++ replicate (h p) p
+pub spread-more : (h : ℕ → ℕ) (p : ℕ) → spread h (p + 1) ≡ spread h p ++ replicate (h p) p
 unfolding spread
 spread-more h p =
     ap (λ z. flat (map (λ q. replicate (h q) q) z)) (ap upTo (add-one p) ∙ Laws.upTo-snoc p)
@@ -22,15 +23,33 @@ spread-more h p =
     ∙ ap (λ z. flat (map (λ q. replicate (h q) q) (upTo p)) ++ z) (unfold flat in (append-nil (replicate (h p) p)))
 
 -- the next place
-pub tokens-next : (cells : List ℕ) (p e t k : ℕ) → k ≡ getD cells (32 * t + p) 0 → tokensOf cells p e t ++ replicate k (flow e p) ≡ tokensOf cells (p + 1) e t
-unfolding tokensOf cellAt
-tokens-next cells p e t k q = rw q (sym (ap (map (flow e)) (spread-more (cellAt cells t) p)
-    ∙ map-append (flow e) (spread (cellAt cells t) p) (replicate (cellAt cells t p) p)
-    ∙ ap (λ z. map (flow e) (spread (cellAt cells t) p) ++ z) (Laws.map-replicate (flow e) (cellAt cells t p) p)))
+pub tokens-next : (set e p k : ℕ) → k ≡ bit set p → tokensOf set e p ++ replicate k (flow e p) ≡ tokensOf set e (p + 1)
+unfolding tokensOf
+tokens-next set e p k q = rw q (sym (ap (map (flow e)) (spread-more (bit set) p)
+    ∙ map-append (flow e) (spread (bit set) p) (replicate (bit set p) p)
+    ∙ ap (λ z. map (flow e) (spread (bit set) p) ++ z) (Laws.map-replicate (flow e) (bit set p) p)))
 
-pub tokens-none : (cells : List ℕ) (e t : ℕ) → tokensOf cells 0 e t ≡ []
+pub tokens-none : (set e : ℕ) → tokensOf set e 0 ≡ []
 unfolding tokensOf spread upTo from flat
-tokens-none cells e t = refl
+tokens-none set e = refl
+
+-- places that the set has not have no token
+tokens-pass : (set e d k : ℕ) → ((j : ℕ) → d ≤ j → j < d + k → bit set j ≡ 0) → tokensOf set e d ≡ tokensOf set e (d + k)
+tokens-pass set e d zero z = ap (tokensOf set e) (omega arith)
+tokens-pass set e d (suc k) z =
+    let q : d + k + 1 ≡ d + suc k = omega arith in
+    tokens-pass set e d k (λ j l h. z j l (omega arith))
+    ∙ sym (append-nil (tokensOf set e (d + k)))
+    ∙ tokens-next set e (d + k) 0 (sym (z (d + k) (omega arith) (omega arith)))
+    ∙ ap (tokensOf set e) q
+
+pub tokens-skip : (set e d i : ℕ) → d ≤ i → ((j : ℕ) → d ≤ j → j < i → bit set j ≡ 0) → tokensOf set e d ≡ tokensOf set e i
+tokens-skip set e d i h z = tokens-pass set e d (i - d) (λ j l k. z j l (omega arith)) ∙ ap (tokensOf set e) (omega arith)
+
+-- all that an event moves
+tokens-all : (sets : List ℕ) (at t e : ℕ) → tokensOf (getD sets (at + t) 0) e 64 ≡ map (flow e) (spread (arcAt sets at t) 64)
+unfolding tokensOf arcAt
+tokens-all sets at t e = refl
 
 -- the next event
 flows-append : (h : ℕ → ℕ → ℕ) (m e : ℕ) (ss ts : List ℕ) → flows h m e (ss ++ ts) ≡ flows h m e ss ++ flows h m (e + length ss) ts
@@ -40,15 +59,26 @@ flows-append h m e (s ∷ ss) ts =
     ap (λ z. map (flow e) (spread (h s) m) ++ z) (flows-append h m (suc e) ss ts ∙ ap (λ (z : ℕ). flows h m (suc e) ss ++ flows h m z ts) (omega arith))
     ∙ sym (append-assoc (map (flow e) (spread (h s) m)) (flows h m (suc e) ss) (flows h m (e + suc (length ss)) ts))
 
-pub flows-next : (cells : List ℕ) (m e : ℕ) (ts : List ℕ) (i t : ℕ) → i < length ts → t ≡ getD ts i 0
-    → flows (cellAt cells) m e (take i ts) ++ tokensOf cells m (e + i) t ≡ flows (cellAt cells) m e (take (i + 1) ts)
-unfolding flows tokensOf
-flows-next cells m e ts i t l q = sym (
-    ap (flows (cellAt cells) m e) (ap (λ (z : ℕ). take z ts) (add-one i) ∙ take-suc ts i 0 l)
-    ∙ flows-append (cellAt cells) m e (take i ts) (getD ts i 0 ∷ [])
-    ∙ ap₂ (λ (z s : ℕ). flows (cellAt cells) m e (take i ts) ++ (map (flow z) (spread (cellAt cells s) m) ++ [])) (omega (arith, length-take-le i ts (omega arith))) (sym q)
-    ∙ ap (λ z. flows (cellAt cells) m e (take i ts) ++ z) (append-nil (map (flow (e + i)) (spread (cellAt cells t) m)))
+flows-last : (h : ℕ → ℕ → ℕ) (m e : ℕ) (ts : List ℕ) (i t : ℕ) → i < length ts → t ≡ getD ts i 0
+    → flows h m e (take i ts) ++ map (flow (e + i)) (spread (h t) m) ≡ flows h m e (take (i + 1) ts)
+unfolding flows
+flows-last h m e ts i t l q = sym (
+    ap (flows h m e) (ap (λ (z : ℕ). take z ts) (add-one i) ∙ take-suc ts i 0 l)
+    ∙ flows-append h m e (take i ts) (getD ts i 0 ∷ [])
+    ∙ ap₂ (λ (z s : ℕ). flows h m e (take i ts) ++ (map (flow z) (spread (h s) m) ++ [])) (omega (arith, length-take-le i ts (omega arith))) (sym q)
+    ∙ ap (λ z. flows h m e (take i ts) ++ z) (append-nil (map (flow (e + i)) (spread (h t) m)))
     )
+
+pub flows-next : (sets : List ℕ) (at e : ℕ) (ts : List ℕ) (i t : ℕ) → i < length ts → t ≡ getD ts i 0
+    → flows (arcAt sets at) 64 e (take i ts) ++ tokensOf (getD sets (at + t) 0) (e + i) 64 ≡ flows (arcAt sets at) 64 e (take (i + 1) ts)
+flows-next sets at e ts i t l q =
+    ap (λ z. flows (arcAt sets at) 64 e (take i ts) ++ z) (tokens-all sets at t (e + i))
+    ∙ flows-last (arcAt sets at) 64 e ts i t l q
+
+-- by the sets that stand in front
+pub inputs-next : (sets : List ℕ) (e : ℕ) (ts : List ℕ) (i t : ℕ) → i < length ts → t ≡ getD ts i 0
+    → flows (arcAt sets 0) 64 e (take i ts) ++ tokensOf (getD sets t 0) (e + i) 64 ≡ flows (arcAt sets 0) 64 e (take (i + 1) ts)
+inputs-next sets e ts i t l q = ap (λ (z : ℕ). flows (arcAt sets 0) 64 e (take i ts) ++ tokensOf (getD sets z 0) (e + i) 64) (omega arith) ∙ flows-next sets 0 e ts i t l q
 
 pub flows-none : (h : ℕ → ℕ → ℕ) (m e : ℕ) → flows h m e [] ≡ []
 unfolding flows
@@ -56,36 +86,36 @@ flows-none h m e = refl
 
 -- ---- how many there are
 
-next-length : (cells : List ℕ) (p e t k : ℕ) → k ≡ getD cells (32 * t + p) 0 → length (tokensOf cells (p + 1) e t) ≡ length (tokensOf cells p e t) + k
-next-length cells p e t k q =
-    ap length (sym (tokens-next cells p e t k q))
-    ∙ length-append (tokensOf cells p e t) (replicate k (flow e p))
-    ∙ ap (λ (z : ℕ). length (tokensOf cells p e t) + z) (length-replicate k (flow e p))
+next-length : (set e p k : ℕ) → k ≡ bit set p → length (tokensOf set e (p + 1)) ≡ length (tokensOf set e p) + k
+next-length set e p k q =
+    ap length (sym (tokens-next set e p k q))
+    ∙ length-append (tokensOf set e p) (replicate k (flow e p))
+    ∙ ap (λ (z : ℕ). length (tokensOf set e p) + z) (length-replicate k (flow e p))
 
-more-places : (cells : List ℕ) (p d e t : ℕ) → length (tokensOf cells p e t) ≤ length (tokensOf cells (p + d) e t)
-more-places cells p zero e t = le-of-eq (ap (λ (z : ℕ). length (tokensOf cells z e t)) (omega arith))
-more-places cells p (suc d) e t =
+more-places : (set e p d : ℕ) → length (tokensOf set e p) ≤ length (tokensOf set e (p + d))
+more-places set e p zero = le-of-eq (ap (λ (z : ℕ). length (tokensOf set e z)) (omega arith))
+more-places set e p (suc d) =
     let q : p + 1 + d ≡ p + suc d = omega arith in
-    le-trans (omega (arith, next-length cells p e t _ refl)) (rw q at (more-places cells (p + 1) d e t))
+    le-trans (omega (arith, next-length set e p _ refl)) (rw q at (more-places set e (p + 1) d))
 
 -- those of the places up to p are among those of all
-pub place-fits : (cells : List ℕ) (p m e t k : ℕ) → p < m → k ≡ getD cells (32 * t + p) 0 → length (tokensOf cells p e t) + k ≤ length (tokensOf cells m e t)
-place-fits cells p m e t k l q =
+pub place-fits : (set e p m k : ℕ) → p < m → k ≡ bit set p → length (tokensOf set e p) + k ≤ length (tokensOf set e m)
+place-fits set e p m k l q =
     let d : m ≡ p + 1 + (m - (p + 1)) = omega arith in
-    rw d (le-trans (le-of-eq (sym (next-length cells p e t k q))) (more-places cells (p + 1) (m - (p + 1)) e t))
+    rw d (le-trans (le-of-eq (sym (next-length set e p k q))) (more-places set e (p + 1) (m - (p + 1))))
 
 -- those of the events up to i are among those of the first n
-pub event-fits : (cells : List ℕ) (m e : ℕ) (ts : List ℕ) (i n t : ℕ) → i < n → n ≤ length ts → t ≡ getD ts i 0
-    → length (flows (cellAt cells) m e (take i ts)) + length (tokensOf cells m (e + i) t) ≤ length (flows (cellAt cells) m e (take n ts))
-event-fits cells m e ts i n t l h q =
+pub event-fits : (sets : List ℕ) (at e : ℕ) (ts : List ℕ) (i n t : ℕ) → i < n → n ≤ length ts → t ≡ getD ts i 0
+    → length (flows (arcAt sets at) 64 e (take i ts)) + length (tokensOf (getD sets (at + t) 0) (e + i) 64) ≤ length (flows (arcAt sets at) 64 e (take n ts))
+event-fits sets at e ts i n t l h q =
     let xs = take (i + 1) ts in
     let ys = take (n - (i + 1)) (drop (i + 1) ts) in
     let k : n ≡ i + 1 + (n - (i + 1)) = omega arith in
     omega (
       arith,
-      length-append (flows (cellAt cells) m e (take i ts)) (tokensOf cells m (e + i) t),
-      ap length (flows-next cells m e ts i t (omega arith) q),
-      length-append (flows (cellAt cells) m e xs) (flows (cellAt cells) m (e + length xs) ys),
-      ap length (flows-append (cellAt cells) m e xs ys),
-      ap (λ z. length (flows (cellAt cells) m e z)) (ap (λ (z : ℕ). take z ts) k ∙ take-add (i + 1) (n - (i + 1)) ts),
+      length-append (flows (arcAt sets at) 64 e (take i ts)) (tokensOf (getD sets (at + t) 0) (e + i) 64),
+      ap length (flows-next sets at e ts i t (omega arith) q),
+      length-append (flows (arcAt sets at) 64 e xs) (flows (arcAt sets at) 64 (e + length xs) ys),
+      ap length (flows-append (arcAt sets at) 64 e xs ys),
+      ap (λ z. length (flows (arcAt sets at) 64 e z)) (ap (λ (z : ℕ). take z ts) k ∙ take-add (i + 1) (n - (i + 1)) ts),
     )

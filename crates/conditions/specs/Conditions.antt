@@ -9,13 +9,13 @@ use lib.ListN.{length, getD}
 use Rattle.spec.specs.Lists.{upTo}
 use Rattle.spec.specs.Record.{Condition}
 use Rattle.columns.specs.Columns.{column}
-use Rattle.steps.specs.Holds.{cellAt}
+use Rattle.bit_sets.specs.Bits.{bit}
 use Rattle.runs.specs.Flows.{Flow, flow, spread}
 use Rattle.runs.specs.Consume.{taking}
 
--- the tokens that event e, of transition t, moves in the first m places
-unfoldable pub tokensOf : List ℕ → ℕ → ℕ → ℕ → List Flow
-tokensOf cells m e t = map (flow e) (spread (cellAt cells t) m)
+-- the tokens that event e moves in the first n places, one in each place of a set
+unfoldable pub tokensOf : ℕ → ℕ → ℕ → List Flow
+tokensOf set e n = map (flow e) (spread (bit set) n)
 
 -- an event's number, or 128 for none
 unfoldable pub decoded : ℕ → Option ℕ
@@ -77,16 +77,16 @@ pub record Made (cs : List Condition) (n : ℕ) (ps gs fs : List ℕ) (r : ℕ) 
 
 pub record ReadyAt (n : ℕ) (rec counts : List ℕ) : Type 0 where
   pub long : 1664 ≤ length rec
-  pub wide : length counts ≡ 128
-  pub ready : Ready n (column 128 512 rec) (column 1152 512 rec) (column 96 32 counts)
+  pub wide : length counts ≡ 96
+  pub ready : Ready n (column 128 512 rec) (column 1152 512 rec) (column 64 32 counts)
 
 -- the tokens were taken, and nothing in front of the consumers and of the cursors changed
 pub record TookAt (xs : List Flow) (n : ℕ) (rec counts rec′ counts′ : List ℕ) : Type 0 where
-  pub took : Took xs n (column 128 512 rec) (column 1152 512 rec) (column 96 32 counts) (column 1152 512 rec′) (column 96 32 counts′)
+  pub took : Took xs n (column 128 512 rec) (column 1152 512 rec) (column 64 32 counts) (column 1152 512 rec′) (column 64 32 counts′)
   pub long : length rec′ ≡ length rec
   pub wide : length counts′ ≡ length counts
   pub kept : (at k : ℕ) → at + k ≤ 1152 → column at k rec′ ≡ column at k rec
-  pub counted : (at k : ℕ) → at + k ≤ 96 → column at k counts′ ≡ column at k counts
+  pub counted : (at k : ℕ) → at + k ≤ 64 → column at k counts′ ≡ column at k counts
 
 -- the conditions were made, and nothing in front of their places changed
 pub record MadeAt (cs : List Condition) (n : ℕ) (rec : List ℕ) (r : ℕ) (rec′ : List ℕ) : Type 0 where

@@ -6,19 +6,29 @@ ghost use lib.ListN.{length, replicate, take};
 ghost use Rattle.runs.specs.Flows.{flow, flows};
 ghost use Rattle.runs.specs.Consume.{made-of};
 ghost use Rattle.columns.specs.Columns.{column};
-ghost use Rattle.steps.specs.Holds.{IsStep, cellAt};
+ghost use Rattle.arc_sets.specs.Sets.{arcAt, Within};
+ghost use Rattle.steps.specs.Holds.{IsStep, Within32};
 ghost use Rattle.conditions.specs.Conditions.{tokensOf, FirstFree, fresh, ReadyAt, TookAt, MadeAt};
+use arc_sets::MADE;
+use arc_sets::lowest;
 use record::CONSUMERS;
 use record::PLACES;
 use record::PRODUCERS;
-use steps::Extent;
-use steps::NEXT;
+use steps::wide;
 
-fn wide(x: u8) -> usize
-    ensures { λ r. ⌜ (r ≡ x) × (r ≤ 255) ⌝ }
-{
-    x as usize
+// How far a run has come, beside the arrays that hold it: the line of the log that is next, its events and its conditions,
+// and how often an event made a condition in a place that inhibits it; and how large its net is.
+pub struct Extent {
+    pub places: usize,
+    pub transitions: usize,
+    pub line: usize,
+    pub events: usize,
+    pub conditions: usize,
+    pub own: usize,
 }
+
+// Where the first condition of each place that may be free stands among the counts by place.
+pub const NEXT: usize = 64;
 
 fn wider(x: u32) -> usize
     ensures { λ r. ⌜ r ≡ x ⌝ }
@@ -42,7 +52,7 @@ fn first_free(p: usize, start: usize, end: usize, rec: &[u8]) -> usize
 }
 
 // Event e takes the first free condition of place p among the first n.
-fn take_one(e: usize, p: usize, n: usize, rec: &mut [u8], counts: &mut [u32; 128])
+fn take_one(e: usize, p: usize, n: usize, rec: &mut [u8], counts: &mut [u32; 96])
     requires { ⌜ (e < 128) × (p < 32) × ReadyAt n (now rec) (now counts) ⌝ }
     ensures { λ _. ⌜ TookAt (flow e p ∷ []) n (now (rec .entry)) (now (counts .entry)) (now (rec .exit)) (now (counts .exit)) ⌝ }
 {
@@ -54,35 +64,16 @@ fn take_one(e: usize, p: usize, n: usize, rec: &mut [u8], counts: &mut [u32; 128
     counts[NEXT + p] = (i + 1) as u32;
 }
 
-// It takes so many of that place, one after the other.
-fn take_times(e: usize, p: usize, count: usize, n: usize, rec: &mut [u8], counts: &mut [u32; 128])
-    requires { ⌜ (e < 128) × (p < 32) × ReadyAt n (now rec) (now counts) ⌝ }
-    ensures { λ _. ⌜ TookAt (replicate count (flow e p)) n (now (rec .entry)) (now (counts .entry)) (now (rec .exit)) (now (counts .exit)) ⌝ }
+// It takes one of each place of a set, by place.
+fn take_event(e: usize, set: u64, n: usize, rec: &mut [u8], counts: &mut [u32; 96])
+    requires { ⌜ (e < 128) × Within32 set × ReadyAt n (now rec) (now counts) ⌝ }
+    ensures { λ _. ⌜ TookAt (tokensOf set e 64) n (now (rec .entry)) (now (counts .entry)) (now (rec .exit)) (now (counts .exit)) ⌝ }
 {
-    let mut k: usize = 0;
-    while k < count {
+    let mut bits = set;
+    while bits != 0 {
+        let p = lowest(bits);
         take_one(e, p, n, rec, counts);
-        k += 1;
-    }
-}
-
-// It takes the inputs of its transition, by place.
-fn take_event(
-    e: usize,
-    t: usize,
-    arcs: &[u8; 3072],
-    m: usize,
-    n: usize,
-    rec: &mut [u8],
-    counts: &mut [u32; 128],
-)
-    requires { ⌜ (e < 128) × (t < 32) × (m ≤ 32) × ReadyAt n (now rec) (now counts) ⌝ }
-    ensures { λ _. ⌜ TookAt (tokensOf (column 0 1024 (now (arcs .entry))) m e t) n (now (rec .entry)) (now (counts .entry)) (now (rec .exit)) (now (counts .exit)) ⌝ }
-{
-    let mut p: usize = 0;
-    while p < m {
-        take_times(e, p, wide(arcs[32 * t + p]), n, rec, counts);
-        p += 1;
+        bits = bits & (bits ^ (1 << p));
     }
 }
 
@@ -90,20 +81,19 @@ fn take_event(
 pub fn take_step(
     step: &[u8; 128],
     count: usize,
-    arcs: &[u8; 3072],
+    sets: &[u64; 96],
     x: Extent,
     rec: &mut [u8],
-    counts: &mut [u32; 128],
+    counts: &mut [u32; 96],
 )
-    requires { ⌜ (x .events + count ≤ 128) × IsStep (now step) count × (x .places ≤ 32) × ReadyAt (x .conditions) (now rec) (now counts) ⌝ }
-    ensures { λ _. ⌜ TookAt (flows (cellAt (column 0 1024 (now (arcs .entry)))) (x .places) (x .events) (take count (now (step .entry)))) (x .conditions) (now (rec .entry)) (now (counts .entry)) (now (rec .exit)) (now (counts .exit)) ⌝ }
+    requires { ⌜ (x .events + count ≤ 128) × IsStep (now step) count × Within 32 (now sets) × ReadyAt (x .conditions) (now rec) (now counts) ⌝ }
+    ensures { λ _. ⌜ TookAt (flows (arcAt (now (sets .entry)) 0) 64 (x .events) (take count (now (step .entry)))) (x .conditions) (now (rec .entry)) (now (counts .entry)) (now (rec .exit)) (now (counts .exit)) ⌝ }
 {
     let e = x.events;
-    let m = x.places;
     let n = x.conditions;
     let mut i: usize = 0;
     while i < count {
-        take_event(e + i, wide(step[i]), arcs, m, n, rec, counts);
+        take_event(e + i, sets[wide(step[i])], n, rec, counts);
         i += 1;
     }
 }
@@ -124,16 +114,17 @@ pub fn make_times(v: u8, p: usize, count: usize, n: usize, rec: &mut [u8]) -> us
     n + count
 }
 
-// Event e makes the outputs of its transition, by place.
-fn make_event(e: usize, t: usize, arcs: &[u8; 3072], m: usize, n: usize, rec: &mut [u8]) -> usize
-    requires { ⌜ (e < 128) × (t < 32) × (m ≤ 32) × (n + length (tokensOf (column 1024 1024 (now arcs)) m e t) ≤ 512) × (1664 ≤ length (now rec)) ⌝ }
-    ensures { λ r. ⌜ MadeAt (map made-of (tokensOf (column 1024 1024 (now (arcs .entry))) m e t)) n (now (rec .entry)) r (now (rec .exit)) ⌝ }
+// Event e makes one of each place of a set, by place.
+fn make_event(e: usize, set: u64, n: usize, rec: &mut [u8]) -> usize
+    requires { ⌜ (e < 128) × Within32 set × (n + length (tokensOf set e 64) ≤ 512) × (1664 ≤ length (now rec)) ⌝ }
+    ensures { λ r. ⌜ MadeAt (map made-of (tokensOf set e 64)) n (now (rec .entry)) r (now (rec .exit)) ⌝ }
 {
     let mut r = n;
-    let mut p: usize = 0;
-    while p < m {
-        r = make_times(e as u8, p, wide(arcs[1024 + 32 * t + p]), r, rec);
-        p += 1;
+    let mut bits = set;
+    while bits != 0 {
+        let p = lowest(bits);
+        r = make_times(e as u8, p, 1, r, rec);
+        bits = bits & (bits ^ (1 << p));
     }
     r
 }
@@ -142,19 +133,18 @@ fn make_event(e: usize, t: usize, arcs: &[u8; 3072], m: usize, n: usize, rec: &m
 pub fn make_step(
     step: &[u8; 128],
     count: usize,
-    arcs: &[u8; 3072],
+    sets: &[u64; 96],
     x: Extent,
     rec: &mut [u8],
 ) -> usize
-    requires { ⌜ (x .events + count ≤ 128) × IsStep (now step) count × (x .places ≤ 32) × (x .conditions + length (flows (cellAt (column 1024 1024 (now arcs))) (x .places) (x .events) (take count (now step))) ≤ 512) × (1664 ≤ length (now rec)) ⌝ }
-    ensures { λ r. ⌜ MadeAt (map made-of (flows (cellAt (column 1024 1024 (now (arcs .entry)))) (x .places) (x .events) (take count (now (step .entry))))) (x .conditions) (now (rec .entry)) r (now (rec .exit)) ⌝ }
+    requires { ⌜ (x .events + count ≤ 128) × IsStep (now step) count × Within 32 (now sets) × (x .conditions + length (flows (arcAt (now sets) 32) 64 (x .events) (take count (now step))) ≤ 512) × (1664 ≤ length (now rec)) ⌝ }
+    ensures { λ r. ⌜ MadeAt (map made-of (flows (arcAt (now (sets .entry)) 32) 64 (x .events) (take count (now (step .entry))))) (x .conditions) (now (rec .entry)) r (now (rec .exit)) ⌝ }
 {
     let e = x.events;
-    let m = x.places;
     let mut r = x.conditions;
     let mut i: usize = 0;
     while i < count {
-        r = make_event(e + i, wide(step[i]), arcs, m, r, rec);
+        r = make_event(e + i, sets[MADE + wide(step[i])], r, rec);
         i += 1;
     }
     r

@@ -1,24 +1,28 @@
-// One step of a log, judged and played on the run that the steps before it left.
+// One step of a log that is enabled, built on the run that the steps before it left.
 ghost use mathlib.Core.Path.{_≡_};
-ghost use Rattle.judging.specs.Holds.{Steppable, SteppedOn};
+ghost use Rattle.judging.specs.declared.LogAnswer.the-variants.{Refused};
+ghost use Rattle.judging.specs.Holds.{Buildable, BuiltOn};
+use arc_sets::GUARDS;
+use arc_sets::MADE;
+use conditions::Extent;
 use playing::grow;
-use steps::Extent;
-use steps::inhibited;
-use steps::short;
-use steps::sums;
+use steps::StepRefusal;
+use steps::add_all;
+use tallying::WATCHED;
+use tallying::made_all;
 use tallying::own_all;
-use tallying::settle;
+use tallying::products;
 
-// The answer to a step, or to the lines of a log: a refusal with its line.
-pub enum LogAnswer {
-    Goes,
-    Malformed(usize),
-    UnknownTransition(usize),
-    OverEvents(usize),
-    TooFewTokens(usize),
-    Inhibited(usize),
+// What a log is refused for: a line as a step, or that its record would be too large; with its line.
+pub enum LogRefusal {
+    Step(StepRefusal),
     OverConditions(usize),
     OverMarks(usize),
+}
+
+pub enum LogAnswer {
+    Goes,
+    Refused(LogRefusal),
 }
 
 // The answer, and how far the run has come; a refusal says nothing of the arrays that hold the run.
@@ -27,45 +31,40 @@ pub struct Played {
     pub run: Extent,
 }
 
-fn refused(answer: LogAnswer, run: Extent) -> Played
-    ensures { λ s. ⌜ s ≡ record { answer = answer; run = run } ⌝ }
+pub fn refused(why: LogRefusal, run: Extent) -> Played
+    ensures { λ s. ⌜ s ≡ record { answer = Refused why; run = run } ⌝ }
 {
-    Played { answer, run }
+    Played {
+        answer: LogAnswer::Refused(why),
+        run,
+    }
 }
 
-// The next step is judged and played.
-pub fn step_on(
+// The next step, which is enabled, is built: 26 and 27.
+pub fn build_step(
     step: &[u8; 128],
     count: usize,
-    arcs: &[u8; 3072],
+    sets: &[u64; 96],
     x: Extent,
     rec: &mut [u8],
     steps: &mut [u8; 128],
-    counts: &mut [u32; 128],
+    counts: &mut [u32; 96],
 ) -> Played
-    requires { ⌜ Steppable (now step) count (now arcs) x (now rec) (now steps) (now counts) ⌝ }
-    ensures { λ s. ⌜ SteppedOn (now (step .entry)) count (now (arcs .entry)) x (now (rec .entry)) (now (steps .entry)) (now (counts .entry)) s (now (rec .exit)) (now (steps .exit)) (now (counts .exit)) ⌝ }
+    requires { ⌜ Buildable (now step) count (now sets) x (now rec) (now steps) (now counts) ⌝ }
+    ensures { λ s. ⌜ BuiltOn (now (step .entry)) count (now (sets .entry)) x (now (rec .entry)) (now (steps .entry)) (now (counts .entry)) s (now (rec .exit)) (now (steps .exit)) (now (counts .exit)) ⌝ }
 {
     let places = x.places;
     let line = x.line;
-    let taken = sums(arcs, 0, step, count);
-    if short(counts, &taken, places) {
-        return refused(LogAnswer::TooFewTokens(line), x);
+    if 512 < x.conditions + made_all(step, count, sets) {
+        return refused(LogRefusal::OverConditions(line), x);
     }
-    let guards = sums(arcs, 2048, step, count);
-    if inhibited(counts, &guards, places) {
-        return refused(LogAnswer::Inhibited(line), x);
+    add_all(step, count, sets, MADE, counts, 0);
+    add_all(step, count, sets, GUARDS, counts, WATCHED);
+    let own = x.own + own_all(step, count, sets);
+    if 4096 + own < products(counts, places) {
+        return refused(LogRefusal::OverMarks(line), x);
     }
-    let made = sums(arcs, 1024, step, count);
-    let settled = settle(counts, &taken, &made, &guards, places);
-    if 512 < x.conditions + settled.made {
-        return refused(LogAnswer::OverConditions(line), x);
-    }
-    let own = x.own + own_all(arcs, step, count, places);
-    if 4096 + own < settled.marks {
-        return refused(LogAnswer::OverMarks(line), x);
-    }
-    let conditions = grow(step, count, arcs, x, rec, steps, counts);
+    let conditions = grow(step, count, sets, x, rec, steps, counts);
     Played {
         answer: LogAnswer::Goes,
         run: Extent {

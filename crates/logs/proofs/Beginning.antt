@@ -14,7 +14,6 @@ use Rattle.steps.specs.Holds.{HoldsMarking}
 use Rattle.runs.specs.Built.{good-start, start-count, blank as blankCondition}
 use Rattle.lists.specs.Stretch.{MappedFrom}
 use Rattle.columns.specs.Columns.{column, column-length, column-at}
-use Rattle.steps.proofs.Rows.{token-read}
 use Rattle.tallying.specs.Tally.{heldIn, watchedFrom, ownAll, tallyAt, Tallied}
 use Rattle.playing.specs.Holds.{History, Starts}
 use Rattle.judging.specs.Holds.{HoldsRun}
@@ -27,21 +26,20 @@ module _ {m : ℕ} {tokens : List ℕ} (N : Net) (h : HoldsMarking m tokens (N .
       long : length (take m tokens) ≡ m
       long = length-take-le m tokens (omega (arith, h .few, h .long))
 
-  module _ (counts : List ℕ) (l : length counts ≡ 128) (hd : column 32 32 counts ≡ tokens) (wt : (p : ℕ) → p < 32 → getD (column 64 32 counts) p 0 ≡ 0) where
+  module _ (counts : List ℕ) (l : length counts ≡ 96) (hd : column 0 32 counts ≡ tokens) (wt : (p : ℕ) → p < 32 → getD (column 32 32 counts) p 0 ≡ 0) where
     tallied : Tallied N (start N) (tallyAt 0 counts)
     unfolding start
     tallied = record {
-      longHeld = column-length 32 32 counts (omega arith);
-      longWatched = column-length 64 32 counts (omega arith);
+      longHeld = column-length 0 32 counts (omega arith);
+      longWatched = column-length 32 32 counts (omega arith);
       held = λ p k. ap (λ (z : List ℕ). getD z p 0) hd ∙ h .tokens p ∙ sym (start-count (heldIn p) p (λ q. unfold heldIn blankCondition in refl) (N .tokens));
       watched = λ p k. wt p (omega (arith, h .few, h .places)) ∙ unfold count in refl;
       own = unfold ownAll sumOf in refl;
     }
 
-    pub begins : {g : History} → column 0 32 counts ≡ tokens → Starts (take m tokens) g → HoldsRun N 1 (record { marking = column 0 32 counts; tally = tallyAt 0 counts; history = g }) (start N)
-    begins e S = record {
+    pub begins : {g : History} → Starts (take m tokens) g → HoldsRun N 1 (record { tally = tallyAt 0 counts; history = g }) (start N)
+    begins S = record {
       good = good-start N;
-      marking = unfold start in (rw e record { long = h .long; few = omega (arith, h .few, h .places); places = refl; tokens = h .tokens });
       tally = tallied;
       whole = S .whole;
       events = unfold start in (S .events);
@@ -49,31 +47,27 @@ module _ {m : ℕ} {tokens : List ℕ} (N : Net) (h : HoldsMarking m tokens (N .
       early = omega arith;
     }
 
--- the counts by place, into which the tokens were put twice
-module _ {tokens counts counts₁ counts₂ : List ℕ} {m : ℕ} {rec : List ℕ} (B : Beginnable tokens m rec counts)
-    (A : MappedFrom counts 0 32 (λ p. getD tokens p 0) counts₁) (C : MappedFrom counts₁ 32 32 (λ p. getD tokens p 0) counts₂) where
-  pub put-long : length counts₂ ≡ 128
-  put-long = C .long ∙ A .long ∙ B .wide
+-- the arrays into which the tokens were put
+module _ {tokens counts marking : List ℕ} {m : ℕ} {rec : List ℕ} (B : Beginnable tokens m rec counts marking) where
+  pub put-marking : {marking′ : List ℕ} → MappedFrom marking 0 32 (λ p. getD tokens p 0) marking′ → marking′ ≡ tokens
+  put-marking {marking′} A = ext-getD 0 _ tokens (A .long ∙ B .marked ∙ sym (B .tokens)) (λ p l. ap (λ (i : ℕ). getD marking′ i 0) (omega arith) ∙ A .here p (omega (arith, A .long, B .marked)))
 
-  pub put-marking : column 0 32 counts₂ ≡ tokens
-  put-marking = ext-getD 0 _ tokens (long ∙ sym (B .tokens)) (λ p l. let h : p < 32 = omega (arith, long) in
-      token-read counts₂ p h ∙ C .before p h ∙ ap (λ (i : ℕ). getD counts₁ i 0) (omega arith) ∙ A .here p h)
-    where
-      long : length (column 0 32 counts₂) ≡ 32
-      long = column-length 0 32 counts₂ (omega (arith, put-long))
+  module _ {counts′ : List ℕ} (C : MappedFrom counts 0 32 (λ p. getD tokens p 0) counts′) where
+    pub put-long : length counts′ ≡ 96
+    put-long = C .long ∙ B .wide
 
-  pub put-held : column 32 32 counts₂ ≡ tokens
-  put-held = ext-getD 0 _ tokens (long ∙ sym (B .tokens)) (λ p l. let h : p < 32 = omega (arith, long) in column-at 32 32 counts₂ p h ∙ C .here p h)
-    where
-      long : length (column 32 32 counts₂) ≡ 32
-      long = column-length 32 32 counts₂ (omega (arith, put-long))
+    pub put-held : column 0 32 counts′ ≡ tokens
+    put-held = ext-getD 0 _ tokens (long ∙ sym (B .tokens)) (λ p l. let h : p < 32 = omega (arith, long) in column-at 0 32 counts′ p h ∙ C .here p h)
+      where
+        long : length (column 0 32 counts′) ≡ 32
+        long = column-length 0 32 counts′ (omega (arith, put-long))
 
-  pub put-blank : (at p : ℕ) → 64 ≤ at → p < 32 → getD (column at 32 counts₂) p 0 ≡ 0
-  put-blank at p h l = column-at at 32 counts₂ p l ∙ C .beyond (at + p) (omega arith) ∙ A .beyond (at + p) (omega arith) ∙ B .blank (at + p)
+    pub put-blank : (at p : ℕ) → 32 ≤ at → p < 32 → getD (column at 32 counts′) p 0 ≡ 0
+    put-blank at p h l = column-at at 32 counts′ p l ∙ C .beyond (at + p) (omega arith) ∙ B .blank (at + p)
 
-  -- the cursors are at the first condition
-  pub put-cursors : (p : ℕ) → getD (column 96 32 counts₂) p 0 ≡ 0
-  put-cursors p = elim (decLe 32 p) [
-    | yes h ↦ List·getD-eq-default (column 96 32 counts₂) 0 (omega (arith, column-length 96 32 counts₂ (omega (arith, put-long))))
-    | no h ↦ put-blank 96 p (omega arith) (omega arith)
-  ]
+    -- the cursors are at the first condition
+    pub put-cursors : (p : ℕ) → getD (column 64 32 counts′) p 0 ≡ 0
+    put-cursors p = elim (decLe 32 p) [
+      | yes h ↦ List·getD-eq-default (column 64 32 counts′) 0 (omega (arith, column-length 64 32 counts′ (omega (arith, put-long))))
+      | no h ↦ put-blank 64 p (omega arith) (omega arith)
+    ]

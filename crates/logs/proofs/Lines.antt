@@ -1,111 +1,109 @@
--- A line of a log is judged as the definitions say.
+-- A line of a log is what its step is at the marking, and then what is built of it.
 use Prim.Native.Nat.{ℕ, _+_, _≤_, _<_}
 use mathlib.Core.Path.{_≡_, refl, sym, ap, _∙_}
-use mathlib.Core.Bool.{true, false, true≢false}
+use mathlib.Core.Bool.{Bool, not}
+use mathlib.Core.Logic.{inl, inr}
 use mathlib.Core.List.{List}
 use native.Mathlib.Omega.{arith}
 use lib.Dec.{ltb, leb}
-use lib.ListN.{length}
-use borrow.Author.Tests.{lt-ltb, le-ltb, leb-false}
-use Rattle.spec.specs.Answer.{Answer, gives, refuses, _>>_, refuse_at_when_}
+use lib.ListN.{length, getD, take}
+use Rattle.spec.specs.Answer.{Answer, gives, refuses, _>>=_, _>>_, refuse_at_when_}
 use Rattle.spec.specs.Lists.{In, any}
-use Rattle.spec.specs.Text.{Line, mostDigits, named, inDigits, classOf, isA}
-use Rattle.forms.specs.Rows.{isList}
-use Rattle.forms.proofs.Ties.{list-line, list-some, numbers-are}
-use Rattle.spec.specs.Classes.{alike}
-use Rattle.spec.specs.Net.{Net}
+use Rattle.spec.specs.Text.{Line}
+use Rattle.forms.proofs.Ties.{numbers-are}
+use Rattle.spec.specs.Net.{Net, places}
+use Rattle.spec.specs.Step.{short, inhibited}
 use Rattle.spec.specs.Record.{bench}
-use Rattle.spec.specs.Building.{Run as RunD, isStepLine, logLine}
+use Rattle.spec.specs.Building.{Run as RunD, isFree, isStepLine, playStep, logLine}
 use Rattle.lists.specs.Laws
-use Rattle.number_lines.specs.Numbers.{Begins}
-use Rattle.steps.specs.Holds.{HoldsStep}
-use Rattle.steps.specs.declared.Extent.{Extent}
-use Rattle.number_lines.proofs.Lines.{few-known}
-use Rattle.lines.specs.Agree.{refusing}
-use Rattle.lines.specs.Lines.{lineOf}
-use Rattle.plain.specs.Plain.{Opens}
-use Rattle.steps.proofs.Held.{step-held, step-length}
-use Rattle.judging.specs.Holds.{Run, runAt, HoldsRun, StepsOn, stepOn, logAnswer, given}
+use Rattle.lines.specs.Agree.{Agrees, giving, refusing}
+use Rattle.runs.specs.Built.{Good}
+use Rattle.arc_sets.specs.Sets.{HoldsArcs}
+use Rattle.steps.specs.Holds.{IsStep, HoldsMarking, Playable, MovedBy}
+use Rattle.steps.specs.Judged.{numbersIn, readStep, countStep, judgeStep, lineAt, stepRefused, stepAnswer, nothing}
+use Rattle.steps.specs.declared.StepAnswer.{StepAnswer}
+use Rattle.steps.specs.declared.StepAnswer.the-variants.{Goes, Refused}
+use Rattle.steps.specs.declared.StepRefusal.{StepRefusal}
+use Rattle.steps.proofs.Held.{playable, play-held, judged-tests}
+use Rattle.step_lines.specs.Lines.{Enabled, LineAt}
+use Rattle.step_lines.specs.declared.StepLine.{StepLine}
+use Rattle.step_lines.proofs.Lines.{refused-not, refuses-not}
+use Rattle.conditions.specs.declared.Extent.{Extent}
+use Rattle.judging.specs.Holds.{Run, HoldsRun, BuildsOn, buildStep, logAnswer, logRefused}
 use Rattle.judging.specs.declared.LogAnswer.{LogAnswer}
-use Rattle.judging.specs.declared.LogAnswer.the-variants.{Goes, Malformed, UnknownTransition, OverEvents}
-use Rattle.judging.proofs.Reaching.{events-held}
-use Rattle.logs.specs.Holds.{numbersIn, StepRead, Refusal, LineRead, LinesOn}
+use Rattle.judging.specs.declared.LogAnswer.the-variants.{Refused as LogRefused}
+use Rattle.judging.specs.declared.LogRefusal.the-variants.{Step}
+use Rattle.judging.proofs.Reaching.{events-held, conditions-held}
+use Rattle.logs.specs.Holds.{HoldsAt, positionOf, LinesOn}
 
--- a line of a log has a number
-pub some-number : (l : Line) → isStepLine l ≡ true → 0 < length (numbersIn l)
-unfolding isStepLine
-some-number l e = list-some l "S" e
+-- ---- the parts of a line
 
-module _ (N : Net) (k : ℕ) (l : Line) (r : RunD) {known : ℕ} (q : known ≡ N .transitions) where
-  pub answers-21 : isStepLine l ≡ false → logLine bench N k l r ≡ refuses 21 k
-  unfolding logLine _>>_ refuse_at_when_
-  answers-21 a = rw a
+line-parts : (N : Net) (k : ℕ) (l : Line) (r : RunD) → logLine bench N k l r ≡ (lineAt N k l (length (r .events)) (r .marking) >>= λ ts. buildStep N k ts r)
+unfolding logLine lineAt readStep countStep judgeStep buildStep _>>_ _>>=_ refuse_at_when_ bench
+line-parts N k l r = rw (numbers-are l) (elim (Laws.true-or-false (not (isStepLine l))) [
+  | inl a ↦ rw a
+  | inr a ↦ rw a (elim (Laws.true-or-false (any (leb (N .transitions)) (numbersIn l))) [
+    | inl b ↦ rw b
+    | inr b ↦ rw b (elim (Laws.true-or-false (ltb 128 (length (r .events) + length (numbersIn l)))) [
+      | inl c ↦ rw c
+      | inr c ↦ rw c (elim (Laws.true-or-false (short N (r .marking) (numbersIn l))) [
+        | inl d ↦ rw d
+        | inr d ↦ rw d (elim (Laws.true-or-false (inhibited N (r .marking) (numbersIn l))) [ inl e ↦ rw e | inr e ↦ rw e ])
+      ])
+    ])
+  ])
+])
 
-  module _ (a : isStepLine l ≡ true) where
-    pub answers-22 : any (leb known) (numbersIn l) ≡ true → logLine bench N k l r ≡ refuses 22 k
-    unfolding logLine _>>_ refuse_at_when_
-    answers-22 b = rw (a, numbers-are l, ← q, b)
+module _ (N : Net) (k : ℕ) (l : Line) (r : RunD) where
+  line-refused : {n s : ℕ} → lineAt N k l (length (r .events)) (r .marking) ≡ refuses n s → logLine bench N k l r ≡ refuses n s
+  unfolding _>>=_
+  line-refused e = line-parts N k l r ∙ ap (λ (z : Answer (List ℕ)). z >>= λ ts. buildStep N k ts r) e
 
-    module _ (b : any (leb known) (numbersIn l) ≡ false) where
-      pub answers-23 : 128 < length (r .events) + length (numbersIn l) → logLine bench N k l r ≡ refuses 23 k
-      unfolding logLine _>>_ refuse_at_when_ bench
-      answers-23 c = rw (a, numbers-are l, ← q, b, lt-ltb 128 (length (r .events) + length (numbersIn l)) c)
+  line-built : {ts : List ℕ} → lineAt N k l (length (r .events)) (r .marking) ≡ gives ts → logLine bench N k l r ≡ buildStep N k ts r
+  unfolding _>>=_
+  line-built e = line-parts N k l r ∙ ap (λ (z : Answer (List ℕ)). z >>= λ ts. buildStep N k ts r) e
 
-      pub answers-step : length (r .events) + length (numbersIn l) ≤ 128 → logLine bench N k l r ≡ stepOn N k (numbersIn l) r
-      unfolding logLine stepOn _>>_ refuse_at_when_ bench
-      answers-step c = rw (a, numbers-are l, ← q, b, le-ltb 128 (length (r .events) + length (numbersIn l)) c)
+-- ---- a line that was judged, built and played
 
-      pub line-known : (t : ℕ) → In t (numbersIn l) → t < N .transitions
-      line-known t m = omega (arith, q, leb-false known t (Laws.any-none (leb known) (numbersIn l) b t m))
+-- a place has as many tokens as free conditions
+marking-low : {N : Net} {k : ℕ} {x : Run} {r : RunD} → HoldsRun N k x r → (p : ℕ) → p < places N → getD (r .marking) p 0 ≤ 512
+marking-low {r = r} H p l = omega (arith, H .good .marking p l, Laws.count-length (isFree p) (r .conditions), conditions-held H, H .whole .conditions)
 
--- ---- a line as a step, by what is found of it
+module _ (x : Extent) {log sets : List ℕ} {i : ℕ} {mk : List ℕ} {v : StepLine} {step : List ℕ} (S : LineAt log i sets (positionOf x) mk v step) {z : Run} (e : z .history .events ≡ x .events) where
+  at-line : (N : Net) (r : RunD) → HoldsArcs N sets (x .places) → x .transitions ≡ N .transitions → HoldsAt N (x .places) (x .line) z mk r → Agrees nothing (stepAnswer (v .answer)) (Enabled N (positionOf x) (r .marking) (v .count) step) (lineAt N (x .line) (S .found .line) (length (r .events)) (r .marking))
+  at-line N r A q H = rw (events-held (H .run) ∙ e) (S .answers N (r .marking) A q (H .marking))
 
--- the letter of a step
-pub opens-step : Opens 83
-unfolding isA alike classOf named inDigits
-opens-step = record { comma = refl; end = refl }
+  -- it is refused as a step
+  pub refused-on : (w : StepRefusal) {y : Run} {mk′ : List ℕ} → v .answer ≡ Refused w → LinesOn sets (x .places) (x .transitions) (x .line) (S .found .line) z mk (LogRefused (Step w)) y mk′
+  refused-on w {y} {mk′} f N r A q H = go (at-line N r A q H)
+    where
+      go : Agrees nothing (stepAnswer (v .answer)) (Enabled N (positionOf x) (r .marking) (v .count) step) (lineAt N (x .line) (S .found .line) (length (r .events)) (r .marking)) → Agrees nothing (stepRefused w) (HoldsAt N (x .places) (x .line + 1) y mk′) (logLine bench N (x .line) (S .found .line) r)
+      go (giving ts p u h) = refused-not w (sym (ap stepAnswer f) ∙ u)
+      go (refusing n s p u) = refusing n s (line-refused N (x .line) (S .found .line) r p) (sym (ap stepAnswer f) ∙ u)
 
-pub list-step : (b : List ℕ) → isList mostDigits (classOf 83) b ≡ true → isStepLine (lineOf b true) ≡ true
-unfolding isStepLine alike classOf named inDigits
-list-step b e = list-line "S" refl (lineOf b true) ∙ e
+  module _ (f : v .answer ≡ Goes) where
+    -- what is known of it
+    pub enabled-on : (N : Net) (r : RunD) → HoldsArcs N sets (x .places) → x .transitions ≡ N .transitions → HoldsAt N (x .places) (x .line) z mk r → (ts : List ℕ) × Enabled N (positionOf x) (r .marking) (v .count) step ts
+    enabled-on N r A q H = go (at-line N r A q H)
+      where
+        go : Agrees nothing (stepAnswer (v .answer)) (Enabled N (positionOf x) (r .marking) (v .count) step) (lineAt N (x .line) (S .found .line) (length (r .events)) (r .marking)) → (ts : List ℕ) × Enabled N (positionOf x) (r .marking) (v .count) step ts
+        go (giving ts p u h) = (ts, h)
+        go (refusing n s p u) = refuses-not (sym u ∙ ap stepAnswer f)
 
-module _ (l : Line) (x : Extent) {step : List ℕ} (long : length step ≡ 128) where
-  refusal : (a : LogAnswer) (n : ℕ) {count : ℕ} → logAnswer a ≡ refuses n (x .line)
-      → ((N : Net) (r : RunD) → x .transitions ≡ N .transitions → length (r .events) ≡ x .events → logLine bench N (x .line) l r ≡ refuses n (x .line)) → LineRead l x a count step
-  refusal a n e f = record { long = long; refused = λ t. record { number = n; same = e; is = f }; read = λ t. absurd (true≢false (sym t ∙ ap given e)) }
+    -- it can be played
+    pub playable-on : (N : Net) (r : RunD) → HoldsArcs N sets (x .places) → x .transitions ≡ N .transitions → HoldsAt N (x .places) (x .line) z mk r → Playable sets (take (v .count) step) mk
+    playable-on N r A q H = let E = enabled-on N r A q H .1 in
+        playable A (E .holds) (E .each) (H .marking) (λ p h. marking-low (H .run) p (omega (arith, A .places))) (judged-tests N (x .line) (r .marking) _ (E .judged) .0)
 
-  pub reads-21 : {count : ℕ} → isStepLine l ≡ false → LineRead l x (Malformed (x .line)) count step
-  reads-21 a = refusal (Malformed (x .line)) 21 refl (λ N r q h. answers-21 N (x .line) l r q a)
+    -- and its step answers
+    pub stepped-on : (b : LogAnswer) {y : Run} {mk′ : List ℕ} → BuildsOn sets (x .places) (x .line) step (v .count) z b y → (logAnswer b ≡ gives tt → MovedBy sets (take (v .count) step) mk mk′) → LinesOn sets (x .places) (x .transitions) (x .line) (S .found .line) z mk b y mk′
+    stepped-on b {y} {mk′} D M N r A q H = go (at-line N r A q H)
+      where
+        end : (ts : List ℕ) → lineAt N (x .line) (S .found .line) (length (r .events)) (r .marking) ≡ gives ts → Enabled N (positionOf x) (r .marking) (v .count) step ts → Agrees nothing (logAnswer b) (λ r′. HoldsRun N (x .line + 1) y r′ × (r′ ≡ playStep N (x .line) ts r)) (buildStep N (x .line) ts r)
+            → Agrees nothing (logAnswer b) (HoldsAt N (x .places) (x .line + 1) y mk′) (logLine bench N (x .line) (S .found .line) r)
+        end ts p E (giving r′ d u h) = giving r′ (line-built N (x .line) (S .found .line) r p ∙ d) u (record { run = h .0; marking = rw (h .1) (unfold playStep in (play-held A (E .holds) (E .each) (H .marking) (M u))) })
+        end ts p E (refusing n s d u) = refusing n s (line-built N (x .line) (S .found .line) r p ∙ d) u
 
-  module _ (a : isStepLine l ≡ true) where
-    pub reads-22 : {count : ℕ} → any (leb (x .transitions)) (numbersIn l) ≡ true → LineRead l x (UnknownTransition (x .line)) count step
-    reads-22 b = refusal (UnknownTransition (x .line)) 22 refl (λ N r q h. answers-22 N (x .line) l r q a b)
-
-    module _ (b : any (leb (x .transitions)) (numbersIn l) ≡ false) where
-      pub reads-23 : {count : ℕ} → 128 < x .events + length (numbersIn l) → LineRead l x (OverEvents (x .line)) count step
-      reads-23 c = refusal (OverEvents (x .line)) 23 refl (λ N r q h. answers-23 N (x .line) l r q a b (omega arith))
-
-      pub reads-step : {count : ℕ} → x .transitions ≤ 32 → count ≡ length (numbersIn l) → x .events + count ≤ 128 → Begins step (numbersIn l) → LineRead l x Goes count step
-      reads-step {count} k e c f = record {
-        long = long;
-        refused = λ t. absurd (true≢false t);
-        read = λ t. record {
-          line = a;
-          known = b;
-          holds = step-held e (few-known 32 (x .transitions) (numbersIn l) (omega arith) b k) f;
-          some = omega (arith, some-number l a);
-          events = c;
-        };
-      }
-
--- ---- a line that was read, judged and played
-
-module _ (arcs : List ℕ) (x : Extent) {m ts : ℕ} {l : Line} {z : Run} (p : x .places ≡ m) (d : x .transitions ≡ ts) (e : z .history .events ≡ x .events) where
-  -- it is refused
-  pub refused-on : (a : LogAnswer) {y : Run} → Refusal l x a → LinesOn arcs m ts (x .line) l z a y
-  refused-on a F N r A q H = refusing (F .number) (x .line) (F .is N r (d ∙ q) (events-held H ∙ e)) (F .same)
-
-  -- or its step answers
-  pub stepped-on : {step : List ℕ} {count : ℕ} (a : LogAnswer) {y : Run} → StepRead l x count step → StepsOn arcs (x .places) (x .line) step count z a y → LinesOn arcs m ts (x .line) l z a y
-  stepped-on a R S N r A q H = rw (answers-step N (x .line) l r (d ∙ q) (R .line) (R .known) (omega (arith, R .events, e, events-held H, step-length (R .holds))))
-      (S N (numbersIn l) r (rw p A) (R .holds) (line-known N (x .line) l r (d ∙ q) (R .line) (R .known)) H)
+        go : Agrees nothing (stepAnswer (v .answer)) (Enabled N (positionOf x) (r .marking) (v .count) step) (lineAt N (x .line) (S .found .line) (length (r .events)) (r .marking)) → Agrees nothing (logAnswer b) (HoldsAt N (x .places) (x .line + 1) y mk′) (logLine bench N (x .line) (S .found .line) r)
+        go (giving ts p u E) = end ts p E (D N ts r A (E .holds) (E .each) (E .judged) (H .run))
+        go (refusing n s p u) = refuses-not (sym u ∙ ap stepAnswer f)

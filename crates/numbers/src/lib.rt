@@ -5,6 +5,8 @@ ghost use Rattle.spec.specs.Values.{asNumbers};
 ghost use Rattle.lines.specs.Agree.{refusedAs};
 ghost use Rattle.net.specs.Holds.{netRefusal, answerOf as netAnswer};
 ghost use Rattle.record.specs.Reads.{recordRefusal};
+ghost use Rattle.steps.specs.Judged.{stepRefused};
+ghost use Rattle.judging.specs.Holds.{logRefused};
 ghost use Rattle.building.specs.Holds.{buildAnswer};
 ghost use Rattle.accepting.specs.Accepting.{refusedBy};
 ghost use Rattle.checking.specs.Checking.{checkOf};
@@ -17,12 +19,14 @@ use arrangements::ArrangementAnswer;
 use arranging::ArrangeAnswer;
 use building::BuildAnswer;
 use checking::CheckAnswer;
+use judging::LogRefusal;
 use net::NetAnswer;
 use net::NetRefusal;
 use record::RecordRefusal;
 use refused::LineAnswer;
 use replaying::ReplayAnswer;
 use spec::Numbers;
+use steps::StepRefusal;
 
 fn accepted(a: usize, b: usize, c: usize) -> Numbers
     ensures { λ r. ⌜ r ≡ asNumbers (gives (a, b, c)) ⌝ }
@@ -71,6 +75,30 @@ pub fn of_net(x: NetAnswer) -> Numbers
     }
 }
 
+// What a line of a log is refused for as a step.
+pub fn of_step(x: StepRefusal) -> Numbers
+    ensures { λ r. ⌜ r ≡ asNumbers (stepRefused x) ⌝ }
+{
+    match x {
+        StepRefusal::Malformed(k) => refused(21, k),
+        StepRefusal::UnknownTransition(k) => refused(22, k),
+        StepRefusal::OverEvents(k) => refused(23, k),
+        StepRefusal::TooFewTokens(k) => refused(24, k),
+        StepRefusal::Inhibited(k) => refused(25, k),
+    }
+}
+
+// What a log is refused for.
+fn of_log(x: LogRefusal) -> Numbers
+    ensures { λ r. ⌜ r ≡ asNumbers (logRefused x) ⌝ }
+{
+    match x {
+        LogRefusal::Step(y) => of_step(y),
+        LogRefusal::OverConditions(k) => refused(26, k),
+        LogRefusal::OverMarks(k) => refused(27, k),
+    }
+}
+
 // Building: bytes written.
 pub fn of_build(x: BuildAnswer) -> Numbers
     ensures { λ r. ⌜ r ≡ asNumbers (buildAnswer x) ⌝ }
@@ -79,13 +107,7 @@ pub fn of_build(x: BuildAnswer) -> Numbers
         BuildAnswer::Written(n) => accepted(n, 0, 0),
         BuildAnswer::BufferShort => refused(20, 0),
         BuildAnswer::Net(y) => of_net_refusal(y),
-        BuildAnswer::Malformed(k) => refused(21, k),
-        BuildAnswer::UnknownTransition(k) => refused(22, k),
-        BuildAnswer::OverEvents(k) => refused(23, k),
-        BuildAnswer::TooFewTokens(k) => refused(24, k),
-        BuildAnswer::Inhibited(k) => refused(25, k),
-        BuildAnswer::OverConditions(k) => refused(26, k),
-        BuildAnswer::OverMarks(k) => refused(27, k),
+        BuildAnswer::Log(y) => of_log(y),
     }
 }
 

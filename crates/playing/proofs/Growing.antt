@@ -6,12 +6,12 @@ use native.Mathlib.Omega.{arith}
 use lib.ListN.{length, getD, List·getD-append, length-map}
 use Rattle.spec.specs.Record.{Condition, noCondition}
 use Rattle.spec.specs.Building.{isFree}
-use Rattle.steps.specs.Holds.{cellAt}
+use Rattle.arc_sets.specs.Sets.{arcAt}
 use Rattle.runs.specs.Flows.{Flow, flows}
 use Rattle.runs.specs.Consume.{taking, made-of}
 use Rattle.conditions.specs.Conditions.{conditionIn, conditionsIn, freeAt, Cursors, Took, Made, ReadyAt, TookAt, MadeAt}
 use Rattle.columns.specs.Columns.{column}
-use Rattle.steps.specs.declared.Extent.{Extent}
+use Rattle.conditions.specs.declared.Extent.{Extent}
 use Rattle.playing.specs.Holds.{History, eventsOf, conditionsOf, Added, AddedAt, Whole, Grown, Growable, GrownAt}
 use Rattle.conditions.proofs.Coded.{length-conditions, condition-at, free-is}
 
@@ -33,16 +33,16 @@ module _ {cs : List Condition} {n r : ℕ} {ps gs fs ps′ gs′ fs′ : List �
     passed = λ p j l. kept-free p j (omega (arith, C .within p)) ∙ C .passed p j l;
   }
 
-pub grown : {k m r : ℕ} {ts inputs outputs ts′ ks′ fs nx ps′ gs′ fs′ : List ℕ} {h : History} (count : ℕ) → Whole h → h .events + count ≤ 128
-    → h .conditions + length (flows (cellAt outputs) m (h .events) ts) ≤ 512
+pub grown : {k r : ℕ} {ts sets ts′ ks′ fs nx ps′ gs′ fs′ : List ℕ} {h : History} (count : ℕ) → Whole h → h .events + count ≤ 128
+    → h .conditions + length (flows (arcAt sets 32) 64 (h .events) ts) ≤ 512
     → Added k ts (h .events) (h .transitions) (h .steps) (h .events + count) ts′ ks′
-    → Took (flows (cellAt inputs) m (h .events) ts) (h .conditions) (h .places) (h .consumers) (h .next) fs nx
-    → Made (map made-of (flows (cellAt outputs) m (h .events) ts)) (h .conditions) (h .places) (h .producers) fs r ps′ gs′ fs′
-    → Grown k ts inputs outputs m h (record { events = h .events + count; transitions = ts′; steps = ks′; conditions = r; places = ps′; producers = gs′; consumers = fs′; next = nx })
-grown {k} {m} {r} {ts} {inputs} {outputs} {h = h} count W l f A T M = record {
+    → Took (flows (arcAt sets 0) 64 (h .events) ts) (h .conditions) (h .places) (h .consumers) (h .next) fs nx
+    → Made (map made-of (flows (arcAt sets 32) 64 (h .events) ts)) (h .conditions) (h .places) (h .producers) fs r ps′ gs′ fs′
+    → Grown k ts sets h (record { events = h .events + count; transitions = ts′; steps = ks′; conditions = r; places = ps′; producers = gs′; consumers = fs′; next = nx })
+grown {k} {r} {ts} {sets} {h = h} count W l f A T M = record {
   whole = record {
     events = l;
-    conditions = omega (arith, M .next, length-map (flows (cellAt outputs) m (h .events) ts) made-of);
+    conditions = omega (arith, M .next, length-map (flows (arcAt sets 32) 64 (h .events) ts) made-of);
     transitions = A .transitions;
     steps = A .steps;
     sized = M .sized;
@@ -50,7 +50,7 @@ grown {k} {m} {r} {ts} {inputs} {outputs} {h = h} count W l f A T M = record {
     cursors = cursors-kept M (T .ready .cursors);
   };
   events = unfold eventsOf in (A .events);
-  conditions = unfold conditionsOf in (M .conditions ∙ ap (λ z. z ++ map made-of (flows (cellAt outputs) m (h .events) ts)) (T .conditions (h .producers)));
+  conditions = unfold conditionsOf in (M .conditions ∙ ap (λ z. z ++ map made-of (flows (arcAt sets 32) 64 (h .events) ts)) (T .conditions (h .producers)));
 }
 
 -- once the events are added, the conditions are ready
@@ -62,13 +62,13 @@ taking-ready G A = record {
 }
 
 -- and from these by the lent arrays, one after the other
-pub grows : {ts arcs rec steps counts rec₁ steps₁ rec₂ counts₂ rec₃ : List ℕ} {r : ℕ} {x : Extent} (count : ℕ)
-    → Growable count (length (flows (cellAt (column 1024 1024 arcs)) (x .places) (x .events) ts)) x rec steps counts
+pub grows : {ts sets rec steps counts rec₁ steps₁ rec₂ counts₂ rec₃ : List ℕ} {r : ℕ} {x : Extent} (count : ℕ)
+    → Growable count (length (flows (arcAt sets 32) 64 (x .events) ts)) x rec steps counts
     → AddedAt (x .line) ts (x .events) rec steps (x .events + count) rec₁ steps₁
-    → TookAt (flows (cellAt (column 0 1024 arcs)) (x .places) (x .events) ts) (x .conditions) rec₁ counts rec₂ counts₂
-    → MadeAt (map made-of (flows (cellAt (column 1024 1024 arcs)) (x .places) (x .events) ts)) (x .conditions) rec₂ r rec₃
-    → GrownAt ts count arcs x rec steps counts r rec₃ steps₁ counts₂
-grows {ts} {arcs} {rec} {rec₂ = rec₂} {rec₃ = rec₃} {r = r} {x = x} count G A T M = record {
+    → TookAt (flows (arcAt sets 0) 64 (x .events) ts) (x .conditions) rec₁ counts rec₂ counts₂
+    → MadeAt (map made-of (flows (arcAt sets 32) 64 (x .events) ts)) (x .conditions) rec₂ r rec₃
+    → GrownAt ts count sets x rec steps counts r rec₃ steps₁ counts₂
+grows {ts} {sets} {rec} {rec₂ = rec₂} {rec₃ = rec₃} {r = r} {x = x} count G A T M = record {
   grown = rw (M .kept 0 128 (omega arith), T .kept 0 128 (omega arith))
       (grown count (G .whole) (G .events) (G .conditions) (A .added) (rw (A .kept 128 512 (omega arith), A .kept 1152 512 (omega arith)) at (T .took)) made);
   long = M .long ∙ T .long ∙ A .long;
@@ -76,5 +76,5 @@ grows {ts} {arcs} {rec} {rec₂ = rec₂} {rec₃ = rec₃} {r = r} {x = x} coun
   counted = T .counted;
 }
   where
-    made : Made (map made-of (flows (cellAt (column 1024 1024 arcs)) (x .places) (x .events) ts)) (x .conditions) (column 128 512 rec) (column 640 512 rec) (column 1152 512 rec₂) r (column 128 512 rec₃) (column 640 512 rec₃) (column 1152 512 rec₃)
+    made : Made (map made-of (flows (arcAt sets 32) 64 (x .events) ts)) (x .conditions) (column 128 512 rec) (column 640 512 rec) (column 1152 512 rec₂) r (column 128 512 rec₃) (column 640 512 rec₃) (column 1152 512 rec₃)
     made = rw (T .kept 128 512 (omega arith), A .kept 128 512 (omega arith), T .kept 640 512 (omega arith), A .kept 640 512 (omega arith)) at (M .made)

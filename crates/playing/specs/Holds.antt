@@ -6,8 +6,8 @@ use lib.ListN.{length, getD, take}
 use Rattle.spec.specs.Lists.{upTo}
 use Rattle.spec.specs.Record.{Condition}
 use Rattle.spec.specs.Building.{Event, initialOf, inStep}
-use Rattle.steps.specs.Holds.{cellAt}
-use Rattle.steps.specs.declared.Extent.{Extent}
+use Rattle.arc_sets.specs.Sets.{arcAt}
+use Rattle.conditions.specs.declared.Extent.{Extent}
 use Rattle.runs.specs.Flows.{flows}
 use Rattle.runs.specs.Consume.{taking, made-of}
 use Rattle.conditions.specs.Conditions.{conditionsIn, Sized, Cursors}
@@ -78,11 +78,11 @@ pub record Whole (h : History) : Type 0 where
   pub wide : length (h .next) ≡ 32
   pub cursors : Cursors (h .conditions) (h .places) (h .consumers) (h .next)
 
--- the history after step k, whose transitions are ts: its events, and what they took and made by the arrays of arcs
-pub record Grown (k : ℕ) (ts inputs outputs : List ℕ) (m : ℕ) (h h′ : History) : Type 0 where
+-- the history after step k, whose transitions are ts: its events, and what they took and made by the sets of arcs
+pub record Grown (k : ℕ) (ts sets : List ℕ) (h h′ : History) : Type 0 where
   pub whole : Whole h′
   pub events : eventsOf h′ ≡ eventsOf h ++ map (inStep k) ts
-  pub conditions : conditionsOf h′ ≡ taking (flows (cellAt inputs) m (h .events) ts) (conditionsOf h) ++ map made-of (flows (cellAt outputs) m (h .events) ts)
+  pub conditions : conditionsOf h′ ≡ taking (flows (arcAt sets 0) 64 (h .events) ts) (conditionsOf h) ++ map made-of (flows (arcAt sets 32) 64 (h .events) ts)
 
 -- the history before the first step, where the places have these tokens
 pub record Starts (tokens : List ℕ) (h : History) : Type 0 where
@@ -94,21 +94,20 @@ pub record Starts (tokens : List ℕ) (h : History) : Type 0 where
 
 -- the history of a run that has come so far
 abbrev pub historyOf : Extent → (rec steps counts : List ℕ) → History
-historyOf x rec steps counts = historyAt (x .events) (x .conditions) rec steps (column 96 32 counts)
+historyOf x rec steps counts = historyAt (x .events) (x .conditions) rec steps (column 64 32 counts)
 
 -- what a step of so many events, which make so many conditions, relies on
 pub record Growable (count made : ℕ) (x : Extent) (rec steps counts : List ℕ) : Type 0 where
   pub line : x .line < 256
-  pub places : x .places ≤ 32
   pub events : x .events + count ≤ 128
   pub conditions : x .conditions + made ≤ 512
   pub long : 1664 ≤ length rec
-  pub wide : length counts ≡ 128
+  pub wide : length counts ≡ 96
   pub whole : Whole (historyOf x rec steps counts)
 
 -- the history grew, and of the counts by place only the cursors changed
-pub record GrownAt (ts : List ℕ) (count : ℕ) (arcs : List ℕ) (x : Extent) (rec steps counts : List ℕ) (r : ℕ) (rec′ steps′ counts′ : List ℕ) : Type 0 where
-  pub grown : Grown (x .line) ts (column 0 1024 arcs) (column 1024 1024 arcs) (x .places) (historyOf x rec steps counts) (historyAt (x .events + count) r rec′ steps′ (column 96 32 counts′))
+pub record GrownAt (ts : List ℕ) (count : ℕ) (sets : List ℕ) (x : Extent) (rec steps counts : List ℕ) (r : ℕ) (rec′ steps′ counts′ : List ℕ) : Type 0 where
+  pub grown : Grown (x .line) ts sets (historyOf x rec steps counts) (historyAt (x .events + count) r rec′ steps′ (column 64 32 counts′))
   pub long : length rec′ ≡ length rec
   pub wide : length counts′ ≡ length counts
-  pub counted : (at k : ℕ) → at + k ≤ 96 → column at k counts′ ≡ column at k counts
+  pub counted : (at k : ℕ) → at + k ≤ 64 → column at k counts′ ≡ column at k counts

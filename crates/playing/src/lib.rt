@@ -2,17 +2,17 @@
 ghost use mathlib.Core.Path.{_≡_};
 ghost use Prim.Native.Nat.{_+_, _≤_, _<_};
 ghost use lib.ListN.{length, take};
-ghost use Rattle.columns.specs.Columns.{column};
 ghost use Rattle.runs.specs.Flows.{flows};
-ghost use Rattle.steps.specs.Holds.{IsStep, cellAt};
+ghost use Rattle.arc_sets.specs.Sets.{arcAt, Within};
+ghost use Rattle.steps.specs.Holds.{IsStep};
 ghost use Rattle.spec.specs.Lists.{sum};
 ghost use Rattle.spec.specs.Building.{initialOf};
 ghost use Rattle.conditions.specs.Conditions.{MadeAt};
 ghost use Rattle.playing.specs.Holds.{AddedAt, Growable, GrownAt};
+use conditions::Extent;
 use conditions::make_step;
 use conditions::make_times;
 use conditions::take_step;
-use steps::Extent;
 
 // The events of step k are put behind the first n.
 fn add_events(
@@ -39,18 +39,18 @@ fn add_events(
 pub fn grow(
     step: &[u8; 128],
     count: usize,
-    arcs: &[u8; 3072],
+    sets: &[u64; 96],
     x: Extent,
     rec: &mut [u8],
     steps: &mut [u8; 128],
-    counts: &mut [u32; 128],
+    counts: &mut [u32; 96],
 ) -> usize
-    requires { ⌜ IsStep (now step) count × Growable count (length (flows (cellAt (column 1024 1024 (now arcs))) (x .places) (x .events) (take count (now step)))) x (now rec) (now steps) (now counts) ⌝ }
-    ensures { λ r. ⌜ GrownAt (take count (now (step .entry))) count (now (arcs .entry)) x (now (rec .entry)) (now (steps .entry)) (now (counts .entry)) r (now (rec .exit)) (now (steps .exit)) (now (counts .exit)) ⌝ }
+    requires { ⌜ IsStep (now step) count × Within 32 (now sets) × Growable count (length (flows (arcAt (now sets) 32) 64 (x .events) (take count (now step)))) x (now rec) (now steps) (now counts) ⌝ }
+    ensures { λ r. ⌜ GrownAt (take count (now (step .entry))) count (now (sets .entry)) x (now (rec .entry)) (now (steps .entry)) (now (counts .entry)) r (now (rec .exit)) (now (steps .exit)) (now (counts .exit)) ⌝ }
 {
     add_events(x.line, step, count, x.events, rec, steps);
-    take_step(step, count, arcs, x, rec, counts);
-    make_step(step, count, arcs, x, rec)
+    take_step(step, count, sets, x, rec, counts);
+    make_step(step, count, sets, x, rec)
 }
 
 fn wider(x: u16) -> usize

@@ -14,6 +14,7 @@ pub use building::BuildAnswer;
 pub use building::build;
 pub use checking::CheckAnswer;
 pub use checking::check;
+pub use judging::LogRefusal;
 pub use net::NetAnswer;
 pub use net::NetRead;
 use net::net_answer;
@@ -32,6 +33,7 @@ pub use refused::refused_line_answer;
 pub use replaying::ReplayAnswer;
 pub use replaying::replay;
 pub use spec::Numbers;
+pub use steps::StepRefusal;
 
 // The bytes that hold whatever the program prints.
 pub const PROGRAM_BYTES: usize = 48275;

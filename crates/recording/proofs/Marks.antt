@@ -18,9 +18,8 @@ use Rattle.lists.specs.Laws
 use Rattle.lists.specs.Tables.{table-same}
 use Rattle.columns.specs.Columns.{column, column-at}
 use Rattle.bit_sets.specs.Bits.{bit}
-use Rattle.steps.specs.Holds.{cellAt}
 use Rattle.record.specs.Holds.{kindCode, noMark}
-use Rattle.record_lines.specs.Lines.{dueAt, earlierAt, kindIf, markBytes}
+use Rattle.record_lines.specs.Lines.{cellAt, dueAt, earlierAt, kindIf, markBytes}
 use Rattle.recording.specs.Bytes.{joinedTo, eventBytes, conditionBytes, marksBytes, historyBytes, CodedTo, Writable}
 use Rattle.recording.specs.Notes.{noteOf, notesOf, notesTo, historyNotes, NotesHistory, noteIf, notesIf, Puts, Room, textOf}
 use Rattle.recording.specs.Sets.{bitAt, Placed, WatchedBy}

@@ -1,23 +1,31 @@
 -- What is read, judged and played on arrays is what the definitions say of the step and the marking that they hold.
 use Prim.Native.Nat.{ℕ, _+_, _-_, _*_, _≤_, _<_, suc}
-use mathlib.Core.Path.{_≡_, sym, ap, ap₂, _∙_, subst}
-use mathlib.Core.Bool.{Bool, _&&_}
+use mathlib.Core.Path.{_≡_, refl, sym, ap, ap₂, _∙_, subst}
+use mathlib.Core.Bool.{Bool, true, false, _&&_, and-false}
+use mathlib.Core.Logic.{inl, inr}
 use mathlib.Core.List.{List}
-use native.Mathlib.Decide.{decLe}
+use native.Mathlib.Decide.{decLe, decLt}
 use native.Mathlib.Omega.{arith}
 use lib.Dec.{ltb}
-use lib.ListN.{length, getD, take, length-map, List·getD-eq-default}
+use lib.ListN.{length, getD, take, replicate, length-map, List·getD-eq-default}
 use lib.Seq.{getD-take, length-take-le}
+use borrow.Author.Tests.{ltb-false, ltb-true, lt-ltb, le-ltb}
+use Rattle.spec.specs.Answer.{Answer, gives, refuses, _>>_, refuse_at_when_}
 use Rattle.spec.specs.Lists.{In, any, sumOf, upTo, asCount}
 use Rattle.spec.specs.Net.{Net as NetD, places, takes, makes, inhibits}
 use Rattle.spec.specs.Step.{taken, made, short, inhibited, play}
-use Rattle.lists.specs.Laws.{in-at, at-in, sumOf-same, in-upTo, length-upTo, getD-table}
+use Rattle.lists.specs.Laws
+use Rattle.lists.specs.Laws.{in-at, at-in, sumOf-same, in-upTo, upTo-in, length-upTo, getD-table}
+use Rattle.lists.specs.Arrays.{blank}
 use Rattle.lists.specs.Along.{any-agree, some-counted}
-use Rattle.lists.specs.Mapped.{Mapped}
-use Rattle.net.specs.Holds.{Cells, Holds}
+use Rattle.net.specs.Holds.{Holds}
 use Rattle.net.specs.declared.Net.{Net}
 use Rattle.number_lines.specs.Numbers.{Few, Begins}
-use Rattle.steps.specs.Holds.{HoldsStep, cellAt, Sums, HoldsMarking, falls, blocks, moved}
+use Rattle.bit_sets.specs.Bits.{bit, bit-most}
+use Rattle.arc_sets.specs.Sets.{arcAt, Within, Says, HoldsArcs}
+use Rattle.steps.specs.Holds.{IsStep, HoldsStep, over, Summed, Joined, HoldsMarking, falls, Blocks, Playable, MovedBy}
+use Rattle.steps.specs.Judged.{stepAnswer, judgeStep}
+use Rattle.steps.proofs.Rows.{over-most}
 
 -- ---- a step
 
@@ -35,45 +43,24 @@ step-held {xs} {ts} {count} e f b = record {
     events : take count xs ≡ ts
     events = rw e (b .numbers)
 
-module _ {xs ts : List ℕ} {count : ℕ} (s : HoldsStep xs count ts) where
-  pub step-length : length ts ≡ count
-  step-length = ap length (sym (s .events)) ∙ length-take-le count xs (omega (arith, s .step .long, s .step .few))
+pub step-length : {xs ts : List ℕ} {count : ℕ} → HoldsStep xs count ts → length ts ≡ count
+step-length {xs} {count = count} s = ap length (sym (s .events)) ∙ length-take-le count xs (omega (arith, s .step .long, s .step .few))
 
-  pub step-at : (i : ℕ) → i < count → getD ts i 0 ≡ getD xs i 0
-  step-at i h = rw (← s .events) (getD-take count xs i 0 h)
+-- ---- a net's sets, summed over a step
 
-  -- its transitions are rows of an array of arcs
-  pub step-known : (t : ℕ) → In t ts → t < 32
-  step-known t m =
-      let r : (i : ℕ) × (i < length ts) × (getD ts i 0 ≡ t) = in-at 0 t ts m in
-      let l : r .0 < count = omega (arith, r .1, step-length) in
-      omega (arith, step-at (r .0) l, s .step .known (r .0) l, r .2)
+-- no set has a place beyond the net's
+pub arc-beyond : {N : NetD} {sets : List ℕ} {m : ℕ} → HoldsArcs N sets m → (a t p : ℕ) → m ≤ p → arcAt sets a t p ≡ 0
+unfolding arcAt
+arc-beyond A a t p h = A .within (a + t) p h
 
--- what an array of arcs has for its transitions is what it holds
-module _ {cells xs ts : List ℕ} {f : ℕ → ℕ → ℕ} {count : ℕ} (C : Cells cells f) (S : HoldsStep xs count ts) where
-  pub cells-are : (m : ℕ) → m ≤ 32 → (t p : ℕ) → In t ts → p < m → cellAt cells t p ≡ f t p
-  unfolding cellAt
-  cells-are m l t p i h = C .cell t p (step-known S t i) (omega arith)
+module _ {N : NetD} {sets : List ℕ} {m : ℕ} (A : HoldsArcs N sets m) {xs ts : List ℕ} {count : ℕ} (S : HoldsStep xs count ts) (K : (t : ℕ) → In t ts → t < N .transitions) where
+  -- what the sets say of a place is what the definitions say
+  pub over-held : (a : ℕ) {f : ℕ → ℕ → ℕ} → Says N m sets a f → (p : ℕ) → p < m → over (arcAt sets a) (take count xs) p ≡ over f ts p
+  over-held a C p h = ap (λ zs. over (arcAt sets a) zs p) (S .events) ∙ sumOf-same _ _ ts (λ t i. C t p (K t i) h)
 
-  pub cells-summed : (m : ℕ) → m ≤ 32 → (p : ℕ) → p < m → sumOf (λ t. cellAt cells t p) (take count xs) ≡ sumOf (λ t. f t p) ts
-  cells-summed m l p h = ap (sumOf (λ t. cellAt cells t p)) (S .events) ∙ sumOf-same _ _ ts (λ t i. cells-are m l t p i h)
-
--- the sums are those of what the array holds
-pub sums-held : {cells xs ts r : List ℕ} {f : ℕ → ℕ → ℕ} {count : ℕ}
-    → Cells cells f → HoldsStep xs count ts → Sums (cellAt cells) (take count xs) r → Sums f ts r
-sums-held {cells} {xs} {ts} {r} {f} {count} c s u = record {
-  long = u .long;
-  sum = λ p l. u .sum p l ∙ cells-summed c s 32 (omega arith) p l;
-  most = λ p l. subst (λ (zs : List ℕ). getD r p 0 ≤ 255 * length zs) (s .events) (u .most p l);
-}
-
-pub taken-at : (n : NetD) {ts xs : List ℕ} → Sums (takes n) ts xs → (p : ℕ) → p < 32 → getD xs p 0 ≡ taken n ts p
-unfolding taken
-taken-at n s p l = s .sum p l
-
-pub made-at : (n : NetD) {ts xs : List ℕ} → Sums (makes n) ts xs → (p : ℕ) → p < 32 → getD xs p 0 ≡ made n ts p
-unfolding made
-made-at n s p l = s .sum p l
+  -- and nothing of a place beyond
+  pub over-beyond : (a p : ℕ) → m ≤ p → over (arcAt sets a) (take count xs) p ≡ 0
+  over-beyond a p h = Laws.sumOf-zero (λ t. arcAt sets a t p) (take count xs) (λ t i. arc-beyond A a t p h)
 
 -- ---- a marking
 
@@ -90,37 +77,114 @@ initial-held h e = rw e record {
 any-places : {n k : ℕ} (f g : ℕ → Bool) → n ≡ k → ((p : ℕ) → p < n → f p ≡ g p) → any f (upTo n) ≡ any g (upTo k)
 any-places {n} f g e h = any-agree f g (upTo n) (λ p m. h p (in-upTo n m)) ∙ ap (λ (j : ℕ). any g (upTo j)) e
 
-module _ (N : NetD) {n : ℕ} (e : n ≡ places N) {xs m ts : List ℕ} (h : HoldsMarking n xs m) where
+module _ {N : NetD} {sets : List ℕ} {m : ℕ} (A : HoldsArcs N sets m) {xs ts : List ℕ} {count : ℕ} (S : HoldsStep xs count ts) (K : (t : ℕ) → In t ts → t < N .transitions)
+    {marking mk : List ℕ} (H : HoldsMarking m marking mk) where
   -- 24
-  pub short-held : {tk : List ℕ} → Sums (takes N) ts tk → falls xs tk n ≡ short N m ts
-  unfolding falls short
-  short-held {tk} s = any-places _ _ e (λ p l. ap₂ ltb (h .tokens p) (taken-at N s p (omega (arith, h .few))))
+  pub short-held : {tk : List ℕ} → Summed (arcAt sets 0) (take count xs) 0 (replicate 32 0) tk → falls marking tk m ≡ short N mk ts
+  unfolding falls short taken
+  short-held {tk} U = any-places _ _ (A .places) (λ p l. ap₂ ltb (H .tokens p) (taken-at p l))
+    where
+      taken-at : (p : ℕ) → p < m → getD tk p 0 ≡ over (takes N) ts p
+      taken-at p l = omega (arith, U .here p (omega (arith, A .few)), ap (λ (z : ℕ). getD tk z 0) front, ap {B = ℕ} (λ (z : ℕ). getD (replicate 32 0) z 0) front, blank 32 p, over-held A S K 0 (A .inputs) p l)
+        where
+          front : 0 + p ≡ p
+          front = omega arith
 
   -- 25
-  pub inhibited-held : {gs : List ℕ} → Sums (λ t p. asCount (inhibits N p t)) ts gs → blocks xs gs n ≡ inhibited N m ts
-  unfolding blocks inhibited
-  inhibited-held {gs} s =
-      any-places _ _ e (λ p l. ap₂ _&&_ (ap (ltb 0) (h .tokens p)) (ap (ltb 0) (s .sum p (omega (arith, h .few))) ∙ some-counted (inhibits N p) ts))
+  pub inhibited-held : {set : ℕ} {r : Bool} → Joined (arcAt sets 64) (take count xs) set → Blocks marking set r → r ≡ inhibited N mk ts
+  unfolding inhibited
+  inhibited-held {set} {r} G B = elim (Laws.true-or-false r) [
+    | inl e ↦ e ∙ sym (found (B .held e))
+    | inr e ↦ e ∙ sym (Laws.none-any _ (upTo (places N)) (λ p i. none (B .clear e) p (Laws.in-upTo (places N) i)))
+  ]
+    where
+      guards : (p : ℕ) → p < m → over (arcAt sets 64) (take count xs) p ≡ sumOf (λ t. asCount (inhibits N p t)) ts
+      guards p l = over-held A S K 64 (A .inhibitors) p l
+
+      test : ℕ → Bool
+      test p = ltb 0 (getD mk p 0) && any (inhibits N p) ts
+
+      found : (p : ℕ) × (bit set p ≡ 1) × (0 < getD marking p 0) → any test (upTo (places N)) ≡ true
+      found x = elim (decLt (x .0) m) [
+        | yes l ↦ Laws.any-in test (x .0) (upTo (places N)) (Laws.upTo-in (places N) (omega (arith, A .places)))
+            (rw (lt-ltb 0 (getD mk (x .0) 0) (omega (arith, H .tokens (x .0), x .2)), ← some-counted (inhibits N (x .0)) ts) (lt-ltb 0 (sumOf (λ t. asCount (inhibits N (x .0) t)) ts) (omega (arith, guards (x .0) l, G .some (x .0) (x .1)))))
+        | no l ↦ absurd (omega (arith, G .some (x .0) (x .1), over-beyond A S K 64 (x .0) (omega arith)))
+      ]
+
+      none : ((p : ℕ) → bit set p ≡ 1 → getD marking p 0 ≡ 0) → (p : ℕ) → p < places N → test p ≡ false
+      none c p l = elim (decLt 0 (bit set p)) [
+        | yes b ↦ rw (le-ltb 0 (getD mk p 0) (omega (arith, H .tokens p, c p (omega (arith, bit-most set p))))) refl
+        | no b ↦ rw (← some-counted (inhibits N p) ts, le-ltb 0 (sumOf (λ t. asCount (inhibits N p t)) ts) (omega (arith, guards p (omega (arith, A .places)), G .none p (omega arith)))) (and-false (ltb 0 (getD mk p 0)))
+      ]
+
+  -- what is not short can be played
+  pub playable : ((p : ℕ) → p < m → getD mk p 0 ≤ 512) → short N mk ts ≡ false → Playable sets (take count xs) marking
+  unfolding short taken
+  playable low e = record {
+    long = H .long;
+    within = λ i p h. A .within i p (omega (arith, A .few));
+    enough = λ p. elim (decLt p m) [
+      | yes l ↦ omega (arith, over-held A S K 0 (A .inputs) p l, H .tokens p, ltb-false (getD mk p 0) (over (takes N) ts p) (Laws.any-none (λ p. ltb (getD mk p 0) (over (takes N) ts p)) (upTo (places N)) e p (Laws.upTo-in (places N) (omega (arith, A .places)))))
+      | no l ↦ omega (arith, over-beyond A S K 0 p (omega arith))
+    ];
+    fits = λ p h. elim (decLt p m) [
+      | yes l ↦ omega (arith, H .tokens p, low p l)
+      | no l ↦ omega (arith, H .tokens p, none p (omega arith))
+    ];
+  }
+    where
+      none : (p : ℕ) → m ≤ p → getD mk p 0 ≡ 0
+      none p l = List·getD-eq-default mk 0 (omega (arith, H .places))
 
   -- the marking after the step
-  pub play-held : {tk md new : List ℕ}
-      → Sums (takes N) ts tk → Sums (makes N) ts md → Mapped xs n (moved xs tk md) new → HoldsMarking n new (play N m ts)
-  unfolding play moved
-  play-held {tk} {md} {new} s u w = record {
-    long = w .long ∙ h .long;
-    few = h .few;
+  pub play-held : {new : List ℕ} → MovedBy sets (take count xs) marking new → HoldsMarking m new (play N mk ts)
+  unfolding play taken made
+  play-held {new} w = record {
+    long = w .long ∙ H .long;
+    few = H .few;
     places = long;
-    tokens = λ p. elim (decLe (suc p) n) [
-      | yes l ↦ w .here p l ∙ here p (omega (arith, h .few)) ∙ sym (getD-table _ (places N) p 0 (omega arith))
-      | no l ↦ w .beyond p (omega arith) ∙ h .tokens p ∙ none m p (omega (arith, h .places)) ∙ sym (none (play N m ts) p (omega (arith, long)))
+    tokens = λ p. elim (decLt p m) [
+      | yes l ↦ w .here p (omega (arith, H .few)) ∙ here p l ∙ sym (getD-table _ (places N) p 0 (omega (arith, A .places)))
+      | no l ↦ beyond p (omega arith) ∙ sym (none (play N mk ts) p (omega (arith, long)))
     ];
   }
     where
       none : (zs : List ℕ) (p : ℕ) → length zs ≤ p → getD zs p 0 ≡ 0
       none zs p l = List·getD-eq-default zs 0 l
 
-      here : (p : ℕ) → p < 32 → getD xs p 0 - getD tk p 0 + getD md p 0 ≡ getD m p 0 - taken N ts p + made N ts p
-      here p l = rw (h .tokens p, taken-at N s p l, made-at N u p l)
+      here : (p : ℕ) → p < m → getD marking p 0 - over (arcAt sets 0) (take count xs) p + over (arcAt sets 32) (take count xs) p ≡ getD mk p 0 - over (takes N) ts p + over (makes N) ts p
+      here p l = rw (H .tokens p, over-held A S K 0 (A .inputs) p l, over-held A S K 32 (A .outputs) p l)
 
-      long : length (play N m ts) ≡ n
-      long = length-map (upTo (places N)) _ ∙ length-upTo (places N) ∙ sym e
+      beyond : (p : ℕ) → m ≤ p → getD new p 0 ≡ 0
+      beyond p h = elim (decLt p 32) [
+        | yes l ↦ omega (arith, w .here p l, H .tokens p, none mk p (omega (arith, H .places)), over-beyond A S K 32 p h)
+        | no l ↦ none new p (omega (arith, w .long, H .long))
+      ]
+
+      long : length (play N mk ts) ≡ m
+      long = length-map (upTo (places N)) _ ∙ length-upTo (places N) ∙ sym (A .places)
+
+-- ---- the answer
+
+module _ (N : NetD) (k : ℕ) (mk ts : List ℕ) where
+  pub judged-24 : short N mk ts ≡ true → judgeStep N k mk ts ≡ refuses 24 k
+  unfolding judgeStep _>>_ refuse_at_when_
+  judged-24 a = rw a
+
+  pub judged-25 : short N mk ts ≡ false → inhibited N mk ts ≡ true → judgeStep N k mk ts ≡ refuses 25 k
+  unfolding judgeStep _>>_ refuse_at_when_
+  judged-25 a b = rw (a, b)
+
+  pub judged-on : short N mk ts ≡ false → inhibited N mk ts ≡ false → judgeStep N k mk ts ≡ gives tt
+  unfolding judgeStep _>>_ refuse_at_when_
+  judged-on a b = rw (a, b)
+
+  -- and what a step that is enabled passed
+  pub judged-tests : judgeStep N k mk ts ≡ gives tt → (short N mk ts ≡ false) × (inhibited N mk ts ≡ false)
+  judged-tests e = elim (Laws.true-or-false (short N mk ts)) [
+    | inl a ↦ not-given (sym (judged-24 a) ∙ e)
+    | inr a ↦ elim (Laws.true-or-false (inhibited N mk ts)) [ inl b ↦ not-given (sym (judged-25 a b) ∙ e) | inr b ↦ (a, b) ]
+  ]
+    where
+      not-given : {A B : Type 0} {n s : ℕ} {v : A} → refuses n s ≡ gives v → B
+      not-given q = let z : _≡_ {A = ℕ} 0 1 = cc in absurd (omega arith)

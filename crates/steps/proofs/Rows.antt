@@ -1,58 +1,148 @@
--- Rows of an array of arcs, one for each event of a step, added up.
-use Prim.Native.Nat.{ℕ, _+_, _*_, _≤_, _<_}
-use mathlib.Core.Path.{_≡_, sym, ap, ap₂, _∙_, subst}
+-- The sets of a step's events, one for each event, added up, joined and taken.
+use Prim.Native.Nat.{ℕ, _+_, _-_, _*_, _≤_, _<_, max}
+use mathlib.Core.Path.{_≡_, refl, sym, ap, ap₂, _∙_, subst}
 use mathlib.Core.List.{List, []}
-use native.Mathlib.Nat.{le-refl}
+use native.Mathlib.Decide.{decLt}
 use native.Mathlib.Omega.{arith}
-use borrow.Author.Count.{below-more}
-use lib.ListN.{length, getD, set, take, replicate, length-replicate}
-use lib.Seq.{length-take-le}
+use lib.Bits.{bitOr}
+use lib.ListN.{length, getD, take, drop, replicate, length-replicate}
+use lib.Seq.{length-take-le, take-add}
 use Rattle.spec.specs.Lists.{sumOf}
+use Rattle.lists.specs.Laws
 use Rattle.lists.specs.Arrays.{blank}
 use Rattle.lists.specs.Along.{sumOf-more}
-use Rattle.lists.specs.Mapped.{mapped-none, mapped-more}
-use Rattle.columns.specs.Columns.{column, column-at}
-use Rattle.steps.specs.Holds.{cellAt, added, Adds, Sums}
+use Rattle.bit_sets.specs.Bits.{bit, bit-most, bit-or, bit-zero}
+use Rattle.arc_sets.specs.Sets.{arcAt, Within}
+use Rattle.steps.specs.Holds.{IsStep, over, Addable, AddedSet, Summable, Summed, Payable, TakenSet, Paid, Joined, Within32, Playable, MovedBy}
 
--- ---- one row
+-- ---- sums
 
--- a cell of a kind of arcs, as the code reads it
-pub cell-read : (arcs : List ℕ) (at t p : ℕ) → t < 32 → p < 32 → getD arcs (at + 32 * t + p) 0 ≡ getD (column at 1024 arcs) (32 * t + p) 0
-cell-read arcs at t p h l = ap (λ (i : ℕ). getD arcs i 0) (omega arith) ∙ sym (column-at at 1024 arcs (32 * t + p) (omega arith))
+pub arc-most : (sets : List ℕ) (at t p : ℕ) → arcAt sets at t p ≤ 1
+unfolding arcAt
+arc-most sets at t p = omega (arith, bit-most (getD sets (at + t) 0) p)
 
-module _ (cells : List ℕ) (t : ℕ) where
-  pub adds-none : (xs : List ℕ) → Adds cells t 0 xs xs
-  adds-none xs = record { mapped = mapped-none xs _; bytes = λ p h. absurd (omega arith) }
+-- a sum over the events is at most their number
+pub over-most : (sets : List ℕ) (at : ℕ) (ts : List ℕ) (p : ℕ) → over (arcAt sets at) ts p ≤ length ts
+over-most sets at ts p = omega (arith, Laws.sumOf-le (λ t. arcAt sets at t p) (λ t. 1) ts (λ t i. arc-most sets at t p), Laws.sumOf-one ts)
 
-  pub adds-more : {old new : List ℕ} {p : ℕ} (b : ℕ)
-      → p < length old → b ≡ getD cells (32 * t + p) 0 → b ≤ 255 → Adds cells t p old new → Adds cells t (p + 1) old (set new p (getD new p 0 + b))
-  unfolding added cellAt
-  adds-more {old} {new} {p} b h e l a = record {
-    mapped = mapped-more (getD new p 0 + b) h (ap₂ _+_ (a .mapped .beyond p (le-refl p)) e) (a .mapped);
-    bytes = below-more _ _ (a .bytes) (omega arith);
+pub over-none : (f : ℕ → ℕ → ℕ) (p : ℕ) → over f [] p ≡ 0
+unfolding sumOf
+over-none f p = refl
+
+-- the next event
+module _ (sets xs : List ℕ) (at i : ℕ) (l : i < length xs) where
+  pub over-next : {t : ℕ} (p : ℕ) → t ≡ getD xs i 0 → over (arcAt sets at) (take (i + 1) xs) p ≡ over (arcAt sets at) (take i xs) p + bit (getD sets (at + t) 0) p
+  unfolding arcAt
+  over-next p e = sumOf-more 0 (λ t. arcAt sets at t p) xs i l ∙ ap (λ (z : ℕ). over (arcAt sets at) (take i xs) p + bit (getD sets (at + z) 0) p) (sym e)
+
+-- the sum over some of the events is at most that over all
+pub over-part : (f : ℕ → ℕ → ℕ) (xs : List ℕ) (i n p : ℕ) → i ≤ n → over f (take i xs) p ≤ over f (take n xs) p
+over-part f xs i n p h =
+    let e : n ≡ i + (n - i) = omega arith in
+    omega (arith, ap (λ (z : ℕ). over f (take z xs) p) e, ap (λ zs. over f zs p) (take-add i (n - i) xs), Laws.sumOf-append (λ t. f t p) (take i xs) (take (n - i) (drop i xs)))
+
+-- ---- added up
+
+module _ (f : ℕ → ℕ → ℕ) {from : ℕ} where
+  pub summed-none : (xs : List ℕ) → Summed f [] from xs xs
+  summed-none xs = record { long = refl; before = λ i h. refl; here = λ p h. omega (arith, over-none f p); beyond = λ i h. refl }
+
+module _ {sets step old new : List ℕ} {at from i count : ℕ} (S : IsStep step count) (R : Summable at from sets old) (l : i < count) (U : Summed (arcAt sets at) (take i step) from old new) where
+  long-step : i < length step
+  long-step = omega (arith, S .long, S .few)
+
+  pub summed-room : {t : ℕ} → t ≡ getD step i 0 → Addable from (getD sets (at + t) 0) new
+  summed-room {t} e p b = elim (decLt p (R .places)) [
+    | yes h ↦ (omega (arith, U .long, R .long, R .few), omega (arith, U .here p (omega (arith, R .few)), R .low p h, over-most sets at (take i step) p, length-take-le i step (omega (arith, long-step)), S .few))
+    | no h ↦ absurd (omega (arith, R .within (at + t) p (omega arith), b))
+  ]
+
+  pub summed-next : {t : ℕ} {newer : List ℕ} → t ≡ getD step i 0 → AddedSet from (getD sets (at + t) 0) new newer → Summed (arcAt sets at) (take (i + 1) step) from old newer
+  summed-next {t} {newer} e A = record {
+    long = A .long ∙ U .long;
+    before = λ j h. A .before j h ∙ U .before j h;
+    here = λ p h. omega (arith, A .here p, U .here p h, over-next sets step at i long-step p e);
+    beyond = λ j h.
+        let p : ℕ = j - from in
+        let q : from + p ≡ j = omega arith in
+        ap (λ (z : ℕ). getD newer z 0) (sym q) ∙ A .here p ∙ omega (arith, R .within (at + t) p (omega (arith, R .few)), ap (λ (z : ℕ). getD new z 0) q, U .beyond j h);
   }
 
-  pub adds-end : {old new : List ℕ} {i n : ℕ} → i ≡ n → Adds cells t i old new → Adds cells t n old new
-  adds-end {old} {new} e a = subst (λ (k : ℕ). Adds cells t k old new) e a
+-- ---- joined
 
-pub input-read : (arcs : List ℕ) (t p : ℕ) → t < 32 → p < 32 → getD arcs (32 * t + p) 0 ≡ getD (column 0 1024 arcs) (32 * t + p) 0
-input-read arcs t p h l = ap (λ (i : ℕ). getD arcs i 0) (omega arith) ∙ cell-read arcs 0 t p h l
+module _ (sets step : List ℕ) (at : ℕ) where
+  pub joined-none : Joined (arcAt sets at) [] 0
+  joined-none = record { none = λ p h. over-none (arcAt sets at) p; some = λ p h. absurd (omega (arith, bit-zero p)) }
 
--- the marking is the first column of the counts by place
-pub token-read : (counts : List ℕ) (p : ℕ) → p < 32 → getD (column 0 32 counts) p 0 ≡ getD counts p 0
-token-read counts p h = column-at 0 32 counts p h ∙ ap (λ (i : ℕ). getD counts i 0) (omega arith)
+  pub joined-next : {i set t : ℕ} → i < length step → t ≡ getD step i 0 → Joined (arcAt sets at) (take i step) set → Joined (arcAt sets at) (take (i + 1) step) (bitOr set (getD sets (at + t) 0))
+  joined-next {i} {set} {t} l e G = record {
+    none = λ p h. omega (arith, both p, over-next sets step at i l p e, G .none p (omega (arith, both p)));
+    some = λ p h. elim (decLt 0 (bit set p)) [
+      | yes k ↦ omega (arith, over-next sets step at i l p e, G .some p (omega (arith, bit-most set p)))
+      | no k ↦ omega (arith, over-next sets step at i l p e, both p)
+    ];
+  }
+    where
+      both : (p : ℕ) → bit (bitOr set (getD sets (at + t) 0)) p ≡ max (bit set p) (bit (getD sets (at + t) 0) p)
+      both p = bit-or set (getD sets (at + t) 0) p
 
--- ---- all rows
+-- ---- paid
 
-pub sums-none : (f : ℕ → ℕ → ℕ) → Sums f [] (replicate 32 0)
-unfolding sumOf
-sums-none f = record { long = length-replicate {A = ℕ} 32 0; sum = λ p h. blank 32 p; most = λ p h. omega (arith, blank 32 p) }
+module _ (f : ℕ → ℕ → ℕ) where
+  pub paid-none : (xs : List ℕ) → Paid f [] xs xs
+  paid-none xs = record { long = refl; here = λ p. omega (arith, over-none f p) }
 
-pub sums-more : (cells xs old new : List ℕ) (i t : ℕ)
-    → i < length xs → t ≡ getD xs i 0 → Adds cells t 32 old new → Sums (cellAt cells) (take i xs) old → Sums (cellAt cells) (take (i + 1) xs) new
-unfolding added
-sums-more cells xs old new i t h e a s = record {
-  long = a .mapped .long ∙ s .long;
-  sum = λ p l. a .mapped .here p l ∙ rw (s .sum p l, e) (sym (sumOf-more 0 (λ u. cellAt cells u p) xs i h));
-  most = λ p l. omega (arith, a .mapped .here p l, a .bytes p l, s .most p l, length-take-le i xs (omega arith), length-take-le (i + 1) xs (omega arith));
-}
+module _ {sets step old new : List ℕ} {i count : ℕ} (S : IsStep step count) (R : Playable sets (take count step) old) (l : i < count) (U : Paid (arcAt sets 0) (take i step) old new) where
+  long-paid : i < length step
+  long-paid = omega (arith, S .long, S .few)
+
+  pub paid-room : {t : ℕ} → t ≡ getD step i 0 → Payable (getD sets t 0) new
+  paid-room {t} e p b = elim (decLt p 32) [
+    | yes h ↦ (h, omega (arith, U .here p, over-next sets step 0 i long-paid p e, ap (λ (z : ℕ). bit (getD sets z 0) p) zero-plus, b, over-part (arcAt sets 0) step (i + 1) count p (omega arith), R .enough p))
+    | no h ↦ absurd (omega (arith, R .within t p (omega arith), b))
+  ]
+    where
+      zero-plus : 0 + t ≡ t
+      zero-plus = omega arith
+
+  pub paid-next : {t : ℕ} {newer : List ℕ} → t ≡ getD step i 0 → TakenSet (getD sets t 0) new newer → Paid (arcAt sets 0) (take (i + 1) step) old newer
+  paid-next {t} e A = record {
+    long = A .long ∙ U .long;
+    here = λ p. omega (arith, A .here p, U .here p, over-next sets step 0 i long-paid p e, ap (λ (z : ℕ). bit (getD sets z 0) p) zero-plus);
+  }
+    where
+      zero-plus : 0 + t ≡ t
+      zero-plus = omega arith
+
+-- ---- played
+
+module _ {sets ts old mid : List ℕ} (R : Playable sets ts old) (P : Paid (arcAt sets 0) ts old mid) where
+  pub paid-low : Summable 32 0 sets mid
+  paid-low = record {
+    kind = omega arith;
+    places = 32;
+    few = omega arith;
+    within = R .within;
+    long = omega (arith, P .long, R .long);
+    low = λ p h. omega (arith, ap (λ (z : ℕ). getD mid z 0) (front p), P .here p, R .fits p h);
+  }
+    where
+      front : (p : ℕ) → 0 + p ≡ p
+      front p = omega arith
+
+  pub moved : {new : List ℕ} → Summed (arcAt sets 32) ts 0 mid new → MovedBy sets ts old new
+  moved {new} S = record { long = S .long ∙ P .long; here = λ p h. ap (λ (z : ℕ). getD new z 0) (sym (front p)) ∙ S .here p h ∙ ap (λ (z : ℕ). z + over (arcAt sets 32) ts p) (ap (λ (z : ℕ). getD mid z 0) (front p) ∙ P .here p) }
+    where
+      front : (p : ℕ) → 0 + p ≡ p
+      front p = omega arith
+
+-- what is summed from nothing
+pub blank-summable : (at : ℕ) {sets : List ℕ} → at ≤ 64 → Within 32 sets → Summable at 0 sets (replicate 32 0)
+blank-summable at h w = record { kind = h; places = 32; few = omega arith; within = w; long = omega (arith, length-replicate {A = ℕ} 32 0); low = λ p k. omega (arith, blank 32 (0 + p)) }
+
+-- a set that is joined has no place beyond
+pub joined-within : (sets : List ℕ) (at : ℕ) {ts : List ℕ} {set : ℕ} → Within 32 sets → Joined (arcAt sets at) ts set → Within32 set
+joined-within sets at {ts} {set} W G p h = elim (decLt 0 (bit set p)) [
+  | yes b ↦ absurd (omega (arith, G .some p (omega (arith, bit-most set p)), Laws.sumOf-zero (λ t. arcAt sets at t p) ts (λ t i. unfold arcAt in (W (at + t) p h))))
+  | no b ↦ omega arith
+]

@@ -1,15 +1,13 @@
 -- What ties the arrays of a step and of a marking to those of the definitions.
 use Prim.Native.Nat.{ℕ, _+_, _-_, _*_, _≤_, _<_}
 use mathlib.Core.Path.{_≡_}
-use mathlib.Core.Bool.{Bool, _&&_}
+use mathlib.Core.Bool.{Bool, true, false}
 use mathlib.Core.List.{List}
 use lib.ListN.{length, getD, take}
 use lib.Dec.{ltb}
-use Rattle.spec.specs.Lists.{any, sumOf, upTo, asCount}
-use Rattle.spec.specs.Net.{Net, places, takes, makes, inhibits}
-use Rattle.lists.specs.Mapped.{Mapped}
-use Rattle.columns.specs.Columns.{column}
-use Rattle.net.specs.Holds.{Cells}
+use Rattle.spec.specs.Lists.{any, sumOf, upTo}
+use Rattle.bit_sets.specs.Bits.{bit}
+use Rattle.arc_sets.specs.Sets.{arcAt, Within}
 
 -- ---- a step
 
@@ -24,38 +22,67 @@ pub record HoldsStep (xs : List ℕ) (count : ℕ) (ts : List ℕ) : Type 0 wher
   pub step : IsStep xs count
   pub events : take count xs ≡ ts
 
--- what an array of arcs has for transition t and place p
-unfoldable pub cellAt : List ℕ → ℕ → ℕ → ℕ
-cellAt xs t p = getD xs (32 * t + p) 0
+-- over a step's events, the sum of what f says of each event's transition and place p
+abbrev pub over : (ℕ → ℕ → ℕ) → List ℕ → ℕ → ℕ
+over f ts p = sumOf (λ t. f t p) ts
 
--- a sum with what the array has for transition t
-unfoldable pub added : List ℕ → ℕ → List ℕ → ℕ → ℕ
-added cells t old p = getD old p 0 + cellAt cells t p
+-- ---- by places of a set
 
--- that is done at the first n places; each entry of the array is a byte
-pub record Adds (cells : List ℕ) (t n : ℕ) (old new : List ℕ) : Type 0 where
-  pub mapped : Mapped old n (added cells t old) new
-  pub bytes : (p : ℕ) → p < n → cellAt cells t p ≤ 255
+-- each place of the set is one of the array, and its entry can grow
+abbrev pub Addable : ℕ → ℕ → List ℕ → Type 0
+Addable from set xs = (p : ℕ) → bit set p ≡ 1 → (from + p < length xs) × (getD xs (from + p) 0 < 4294967295)
 
--- by place, the sums over a step's events of what f says of each event's transition and the place
-pub record Sums (f : ℕ → ℕ → ℕ) (ts xs : List ℕ) : Type 0 where
-  pub long : length xs ≡ 32
-  pub sum : (p : ℕ) → p < 32 → getD xs p 0 ≡ sumOf (λ t. f t p) ts
-  pub most : (p : ℕ) → p < 32 → getD xs p 0 ≤ 255 * length ts
+-- the first n places of a set are added to the entries from a position on
+pub record AddedTo (from set n : ℕ) (old new : List ℕ) : Type 0 where
+  pub long : length new ≡ length old
+  pub before : (i : ℕ) → i < from → getD new i 0 ≡ getD old i 0
+  pub here : (i : ℕ) → i < n → getD new (from + i) 0 ≡ getD old (from + i) 0 + bit set i
+  pub beyond : (i : ℕ) → n ≤ i → getD new (from + i) 0 ≡ getD old (from + i) 0
 
--- ---- a net
+-- all are
+pub record AddedSet (from set : ℕ) (old new : List ℕ) : Type 0 where
+  pub long : length new ≡ length old
+  pub before : (i : ℕ) → i < from → getD new i 0 ≡ getD old i 0
+  pub here : (i : ℕ) → getD new (from + i) 0 ≡ getD old (from + i) 0 + bit set i
 
--- arrays hold the arcs of a net that has m places
-pub record Arcs (N : Net) (is os hs : List ℕ) (m : ℕ) : Type 0 where
-  pub places : m ≡ places N
-  pub few : m ≤ 32
-  pub inputs : Cells is (takes N)
-  pub outputs : Cells os (makes N)
-  pub inhibitors : Cells hs (λ t p. asCount (inhibits N p t))
+-- what summing a step's sets relies on
+pub record Summable (at from : ℕ) (sets xs : List ℕ) : Type 0 where
+  pub kind : at ≤ 64
+  pub places : ℕ
+  pub few : places ≤ 32
+  pub within : Within places sets
+  pub long : from + 32 ≤ length xs
+  pub low : (p : ℕ) → p < places → getD xs (from + p) 0 < 4294967040
 
--- one array holds them all: its inputs, its outputs and its inhibitors, kind after kind
-abbrev pub ArcsAt : Net → List ℕ → ℕ → Type 0
-ArcsAt N arcs m = Arcs N (column 0 1024 arcs) (column 1024 1024 arcs) (column 2048 1024 arcs) m
+-- by place, what f says of the step's events is added to the entries from a position on
+pub record Summed (f : ℕ → ℕ → ℕ) (ts : List ℕ) (from : ℕ) (old new : List ℕ) : Type 0 where
+  pub long : length new ≡ length old
+  pub before : (i : ℕ) → i < from → getD new i 0 ≡ getD old i 0
+  pub here : (p : ℕ) → p < 32 → getD new (from + p) 0 ≡ getD old (from + p) 0 + over f ts p
+  pub beyond : (i : ℕ) → from + 32 ≤ i → getD new i 0 ≡ getD old i 0
+
+-- each place of the set has an entry that can be lessened
+abbrev pub Payable : ℕ → List ℕ → Type 0
+Payable set xs = (p : ℕ) → bit set p ≡ 1 → (p < 32) × (0 < getD xs p 0)
+
+-- the places of a set are taken
+pub record TakenSet (set : ℕ) (old new : List ℕ) : Type 0 where
+  pub long : length new ≡ length old
+  pub here : (i : ℕ) → getD new i 0 ≡ getD old i 0 - bit set i
+
+-- the step's events are paid
+pub record Paid (f : ℕ → ℕ → ℕ) (ts old new : List ℕ) : Type 0 where
+  pub long : length new ≡ length old
+  pub here : (p : ℕ) → getD new p 0 ≡ getD old p 0 - over f ts p
+
+-- a set has no place that is none
+abbrev pub Within32 : ℕ → Type 0
+Within32 set = (p : ℕ) → 32 ≤ p → bit set p ≡ 0
+
+-- a set has the places of which f says something of some event
+pub record Joined (f : ℕ → ℕ → ℕ) (ts : List ℕ) (set : ℕ) : Type 0 where
+  pub none : (p : ℕ) → bit set p ≡ 0 → over f ts p ≡ 0
+  pub some : (p : ℕ) → bit set p ≡ 1 → 0 < over f ts p
 
 -- ---- a marking
 
@@ -70,16 +97,19 @@ pub record HoldsMarking (n : ℕ) (xs m : List ℕ) : Type 0 where
 unfoldable pub falls : List ℕ → List ℕ → ℕ → Bool
 falls xs taken places = any (λ p. ltb (getD xs p 0) (getD taken p 0)) (upTo places)
 
--- some place has a token and guards an event of the step
-unfoldable pub blocks : List ℕ → List ℕ → ℕ → Bool
-blocks xs guards places = any (λ p. ltb 0 (getD xs p 0) && ltb 0 (getD guards p 0)) (upTo places)
+-- whether some place of a set has a token
+pub record Blocks (xs : List ℕ) (set : ℕ) (r : Bool) : Type 0 where
+  pub clear : r ≡ false → (p : ℕ) → bit set p ≡ 1 → getD xs p 0 ≡ 0
+  pub held : r ≡ true → (p : ℕ) × (bit set p ≡ 1) × (0 < getD xs p 0)
 
--- the tokens of place p once those taken are gone and those made are there
-unfoldable pub moved : List ℕ → List ℕ → List ℕ → ℕ → ℕ
-moved xs taken made p = getD xs p 0 - getD taken p 0 + getD made p 0
+-- what playing a step relies on: enough tokens are there, and those made fit
+pub record Playable (sets ts xs : List ℕ) : Type 0 where
+  pub long : length xs ≡ 32
+  pub within : Within 32 sets
+  pub enough : (p : ℕ) → over (arcAt sets 0) ts p ≤ getD xs p 0
+  pub fits : (p : ℕ) → p < 32 → getD xs p 0 < 4294967040
 
--- what playing relies on: enough tokens are there, and those made fit
-pub record Playable (places : ℕ) (xs taken made : List ℕ) : Type 0 where
-  pub few : places ≤ 32
-  pub enough : (p : ℕ) → p < places → getD taken p 0 ≤ getD xs p 0
-  pub fits : (p : ℕ) → p < places → getD xs p 0 + getD made p 0 < 4294967296
+-- the tokens of each place, once those taken are gone and those made are there
+pub record MovedBy (sets ts old new : List ℕ) : Type 0 where
+  pub long : length new ≡ length old
+  pub here : (p : ℕ) → p < 32 → getD new p 0 ≡ getD old p 0 - over (arcAt sets 0) ts p + over (arcAt sets 32) ts p

@@ -1,65 +1,114 @@
 // One step at a marking: summed, judged and played.
 ghost use mathlib.Core.Path.{_≡_};
-ghost use Prim.Native.Nat.{ℕ, _+_, _<_, _≤_};
+ghost use Prim.Native.Nat.{_+_, _≤_};
 ghost use lib.ListN.{length, getD, take};
-ghost use Rattle.columns.specs.Columns.{column};
 ghost use Rattle.lists.specs.Stretch.{MappedFrom};
-ghost use Rattle.steps.specs.Holds.{IsStep, cellAt, Adds, Sums, falls, blocks};
+ghost use Rattle.arc_sets.specs.Sets.{Within, arcAt};
+ghost use Rattle.steps.specs.Holds.{IsStep, Addable, AddedSet, TakenSet, Summable, Summed, Payable, Paid, Within32, falls, Joined, Blocks, Playable, MovedBy};
+ghost use Rattle.steps.specs.Judged.{Judges};
+use arc_sets::GUARDS;
+use arc_sets::MADE;
+use arc_sets::lowest;
+
+// What a line of a log is refused for without its record being built, with its line: it is malformed, it names an unknown
+// transition, it has more events than are left, or its step is not enabled at the marking.
+pub enum StepRefusal {
+    Malformed(usize),
+    UnknownTransition(usize),
+    OverEvents(usize),
+    TooFewTokens(usize),
+    Inhibited(usize),
+}
+
+pub enum StepAnswer {
+    Goes,
+    Refused(StepRefusal),
+}
+
+// How far a sequence of steps has come: the line that is next, and its events; and how large its net is.
+pub struct Position {
+    pub places: usize,
+    pub transitions: usize,
+    pub line: usize,
+    pub events: usize,
+}
 
 // ---- a step
 
-// A byte as a number that sums are made of.
-fn wide(b: u8) -> u32
+// A byte as an index.
+pub fn wide(b: u8) -> usize
     ensures { λ r. ⌜ (r ≡ b) × (r ≤ 255) ⌝ }
 {
-    b as u32
+    b as usize
 }
 
-// What transition t has among the arcs of a kind, which start at `at`, is added to sums by place.
-fn add_row(sums: &mut [u32; 32], arcs: &[u8; 3072], at: usize, t: usize)
-    requires { ⌜ (t < 32) × (at + 1024 ≤ 3072) × (length (now sums) ≡ 32) × ((p : ℕ) → p < 32 → getD (now sums) p 0 < 4294967040) ⌝ }
-    ensures { λ _. ⌜ Adds (column at 1024 (now (arcs .entry))) t 32 (now (sums .entry)) (now (sums .exit)) ⌝ }
+// One more at each place of a set, in an array from a position on.
+fn add_set(xs: &mut [u32], from: usize, set: u64)
+    requires { ⌜ Addable from set (now xs) ⌝ }
+    ensures { λ _. ⌜ AddedSet from set (now (xs .entry)) (now (xs .exit)) ⌝ }
 {
-    let row = at + 32 * t;
-    let mut p: usize = 0;
-    while p < 32 {
-        sums[p] += wide(arcs[row + p]);
-        p += 1;
+    let mut bits = set;
+    while bits != 0 {
+        let p = lowest(bits);
+        xs[from + p] += 1;
+        bits = bits & (bits ^ (1 << p));
     }
 }
 
-// The sums of a step's events among the arcs of a kind, by place: in the inputs what they take, in the outputs what they make.
-pub fn sums(arcs: &[u8; 3072], at: usize, step: &[u8; 128], count: usize) -> [u32; 32]
-    requires { ⌜ IsStep (now step) count × (at + 1024 ≤ 3072) ⌝ }
-    ensures { λ r. ⌜ Sums (cellAt (column at 1024 (now (arcs .entry)))) (take count (now (step .entry))) r ⌝ }
+// The same for each event of a step, by the sets that start at `at`.
+pub fn add_all(
+    step: &[u8; 128],
+    count: usize,
+    sets: &[u64; 96],
+    at: usize,
+    xs: &mut [u32],
+    from: usize,
+)
+    requires { ⌜ IsStep (now step) count × Summable at from (now sets) (now xs) ⌝ }
+    ensures { λ _. ⌜ Summed (arcAt (now (sets .entry)) at) (take count (now (step .entry))) from (now (xs .entry)) (now (xs .exit)) ⌝ }
 {
-    let mut r = [0u32; 32];
     let mut i: usize = 0;
     while i < count {
-        add_row(&mut r, arcs, at, step[i] as usize);
+        add_set(xs, from, sets[at + wide(step[i])]);
         i += 1;
     }
-    r
+}
+
+// One less at each place of a set.
+fn take_set(xs: &mut [u32; 32], set: u64)
+    requires { ⌜ (length (now xs) ≡ 32) × Payable set (now xs) ⌝ }
+    ensures { λ _. ⌜ TakenSet set (now (xs .entry)) (now (xs .exit)) ⌝ }
+{
+    let mut bits = set;
+    while bits != 0 {
+        let p = lowest(bits);
+        xs[p] -= 1;
+        bits = bits & (bits ^ (1 << p));
+    }
+}
+
+// The inputs of each event of a step are taken from a marking.
+fn take_all(step: &[u8; 128], count: usize, sets: &[u64; 96], marking: &mut [u32; 32])
+    requires { ⌜ IsStep (now step) count × Playable (now sets) (take count (now step)) (now marking) ⌝ }
+    ensures { λ _. ⌜ Paid (arcAt (now (sets .entry)) 0) (take count (now (step .entry))) (now (marking .entry)) (now (marking .exit)) ⌝ }
+{
+    let mut i: usize = 0;
+    while i < count {
+        take_set(marking, sets[wide(step[i])]);
+        i += 1;
+    }
 }
 
 // ---- a step at a marking
 
-// What is counted by place stands in one array, 32 entries each: the marking, the conditions, the events that the place
-// inhibits, and the first condition that may be free.
-pub const HELD: usize = 32;
-
-pub const WATCHED: usize = 64;
-
-pub const NEXT: usize = 96;
-
 // Whether some place has fewer tokens than are taken from it.
-pub fn short(counts: &[u32; 128], taken: &[u32; 32], places: usize) -> bool
+fn short(marking: &[u32; 32], taken: &[u32; 32], places: usize) -> bool
     requires { ⌜ places ≤ 32 ⌝ }
-    ensures { λ r. ⌜ r ≡ falls (column 0 32 (now (counts .entry))) (now (taken .entry)) places ⌝ }
+    ensures { λ r. ⌜ r ≡ falls (now (marking .entry)) (now (taken .entry)) places ⌝ }
 {
     let mut p: usize = 0;
     while p < places {
-        if counts[p] < taken[p] {
+        if marking[p] < taken[p] {
             return true;
         }
         p += 1;
@@ -67,19 +116,66 @@ pub fn short(counts: &[u32; 128], taken: &[u32; 32], places: usize) -> bool
     false
 }
 
-// Whether some place that is not empty inhibits one of the step's events; `guards` are their sums in the inhibitors.
-pub fn inhibited(counts: &[u32; 128], guards: &[u32; 32], places: usize) -> bool
-    requires { ⌜ places ≤ 32 ⌝ }
-    ensures { λ r. ⌜ r ≡ blocks (column 0 32 (now (counts .entry))) (now (guards .entry)) places ⌝ }
+// The places that inhibit one of the step's events.
+fn guards_of(step: &[u8; 128], count: usize, sets: &[u64; 96]) -> u64
+    requires { ⌜ IsStep (now step) count ⌝ }
+    ensures { λ r. ⌜ Joined (arcAt (now (sets .entry)) 64) (take count (now (step .entry))) r ⌝ }
 {
-    let mut p: usize = 0;
-    while p < places {
-        if (0 < counts[p]) & (0 < guards[p]) {
+    let mut set: u64 = 0;
+    let mut i: usize = 0;
+    while i < count {
+        set = set | sets[GUARDS + wide(step[i])];
+        i += 1;
+    }
+    set
+}
+
+// Whether some place of a set is not empty.
+fn inhibited(marking: &[u32; 32], guards: u64) -> bool
+    requires { ⌜ Within32 guards ⌝ }
+    ensures { λ r. ⌜ Blocks (now (marking .entry)) guards r ⌝ }
+{
+    let mut bits = guards;
+    while bits != 0 {
+        let p = lowest(bits);
+        if 0 < marking[p] {
             return true;
         }
-        p += 1;
+        bits = bits & (bits ^ (1 << p));
     }
     false
+}
+
+// A step of line `line`, of known transitions, judged at a marking: 24 and 25.
+pub fn judge(
+    step: &[u8; 128],
+    count: usize,
+    sets: &[u64; 96],
+    marking: &[u32; 32],
+    places: usize,
+    line: usize,
+) -> StepAnswer
+    requires { ⌜ IsStep (now step) count × (places ≤ 32) × Within 32 (now sets) ⌝ }
+    ensures { λ r. ⌜ Judges (now (step .entry)) count (now (sets .entry)) (now (marking .entry)) places line r ⌝ }
+{
+    let mut taken = [0u32; 32];
+    add_all(step, count, sets, 0, &mut taken, 0);
+    if short(marking, &taken, places) {
+        return StepAnswer::Refused(StepRefusal::TooFewTokens(line));
+    }
+    if inhibited(marking, guards_of(step, count, sets)) {
+        return StepAnswer::Refused(StepRefusal::Inhibited(line));
+    }
+    StepAnswer::Goes
+}
+
+// The marking after a step that is enabled: what its events take is taken first, and then what they make is there.
+pub fn play(step: &[u8; 128], count: usize, sets: &[u64; 96], marking: &mut [u32; 32])
+    requires { ⌜ IsStep (now step) count × Playable (now sets) (take count (now step)) (now marking) ⌝ }
+    ensures { λ _. ⌜ MovedBy (now (sets .entry)) (take count (now (step .entry))) (now (marking .entry)) (now (marking .exit)) ⌝ }
+{
+    take_all(step, count, sets, marking);
+    add_all(step, count, sets, MADE, marking, 0);
 }
 
 // A token count of a net as one of a marking.
@@ -89,9 +185,9 @@ fn wide_count(k: u16) -> u32
     k as u32
 }
 
-// The token counts of a net, put into the counts by place from `at` on.
-pub fn put_tokens(tokens: &[u16; 32], counts: &mut [u32; 128], at: usize)
-    requires { ⌜ (length (now counts) ≡ 128) × (at + 32 ≤ 128) ⌝ }
+// The token counts of a net, put into an array from `at` on.
+pub fn put_tokens(tokens: &[u16; 32], counts: &mut [u32], at: usize)
+    requires { ⌜ at + 32 ≤ length (now counts) ⌝ }
     ensures { λ _. ⌜ MappedFrom (now (counts .entry)) at 32 (λ p. getD (now (tokens .entry)) p 0) (now (counts .exit)) ⌝ }
 {
     let mut p: usize = 0;
@@ -100,17 +196,4 @@ pub fn put_tokens(tokens: &[u16; 32], counts: &mut [u32; 128], at: usize)
         counts[i] = wide_count(tokens[p]);
         p += 1;
     }
-}
-
-// ---- a run
-
-// How far a run has come, beside the arrays that hold it: the line of the log that is next, its events and its conditions,
-// and how often an event made a condition in a place that inhibits it; and how large its net is.
-pub struct Extent {
-    pub places: usize,
-    pub transitions: usize,
-    pub line: usize,
-    pub events: usize,
-    pub conditions: usize,
-    pub own: usize,
 }

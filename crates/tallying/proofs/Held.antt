@@ -5,23 +5,25 @@ use mathlib.Core.List.{List, map}
 use native.Mathlib.Nat.{mul-le-mul}
 use native.Mathlib.Omega.{arith}
 use lib.ListN.{length, take}
-use Rattle.spec.specs.Lists.{upTo, count, sumOf, asCount}
+use Rattle.spec.specs.Lists.{In, upTo, count, sumOf, asCount}
 use Rattle.spec.specs.Net.{Net, places, makes, inhibits}
 use Rattle.spec.specs.Building.{Run, inStep, takeAll, madeBy, makeAll, playStep, consumedBy, marksDue}
 use Rattle.lists.specs.Laws
 use Rattle.lists.specs.Grouped.{sumOf-scaled}
-use Rattle.steps.specs.Holds.{HoldsStep, Arcs}
-use Rattle.steps.proofs.Held.{cells-are, cells-summed}
+use Rattle.arc_sets.specs.Sets.{arcAt, HoldsArcs}
+use Rattle.arc_sets.proofs.Making.{sum-places}
+use Rattle.steps.specs.Holds.{HoldsStep}
+use Rattle.steps.proofs.Held.{over-held, arc-beyond}
 use Rattle.runs.specs.Flows.{flows, flows-sum}
 use Rattle.runs.specs.Consume.{made-of, makeAll-makings, count-blind}
 use Rattle.runs.specs.Built.{Good}
-use Rattle.tallying.specs.Tally.{heldIn, watchedFrom, ownOf, ownAll, bothAt, bothOf, timesAt, AtMost, Tally, Small, Tallies, Tallied}
+use Rattle.tallying.specs.Tally.{heldIn, watchedFrom, ownOf, ownAll, bothOf, timesAt, AtMost, Tally, Small, Tallies, Tallied}
 use Rattle.tallying.proofs.Marks.{marks-counted}
 
 -- ---- the tally after a step
 
-module _ {inputs outputs inhibitors xs ts : List ℕ} {size m : ℕ} (N : Net) (A : Arcs N inputs outputs inhibitors m) (S : HoldsStep xs size ts)
-    (k : ℕ) (r : Run) {t t′ : Tally} (T : Tallied N r t) (U : Tallies inhibitors outputs m (take size xs) t t′) where
+module _ {sets xs ts : List ℕ} {size m : ℕ} (N : Net) (A : HoldsArcs N sets m) (S : HoldsStep xs size ts) (K : (t : ℕ) → In t ts → t < N .transitions)
+    (k : ℕ) (r : Run) {t t′ : Tally} (T : Tallied N r t) (U : Tallies sets m (take size xs) t t′) where
   held-more : (p : ℕ) → p < places N → count (heldIn p) (playStep N k ts r .conditions) ≡ count (heldIn p) (r .conditions) + sumOf (λ u. makes N u p) ts
   unfolding playStep heldIn consumedBy
   held-more p l =
@@ -47,21 +49,23 @@ module _ {inputs outputs inhibitors xs ts : List ℕ} {size m : ℕ} (N : Net) (
       Laws.sumOf-append (λ v. ownOf N (v .transition)) (r .events) (map (inStep k) ts)
       ∙ ap (λ z. sumOf (λ v. ownOf N (v .transition)) (r .events) + z) (Laws.sumOf-map (λ v. ownOf N (v .transition)) (inStep k) ts)
 
-  own-summed : sumOf (bothOf inhibitors outputs m) (take size xs) ≡ sumOf (ownOf N) ts
-  unfolding bothOf bothAt ownOf
+  own-summed : sumOf (bothOf sets) (take size xs) ≡ sumOf (ownOf N) ts
+  unfolding bothOf ownOf
   own-summed =
-      ap (sumOf (bothOf inhibitors outputs m)) (S .events)
-      ∙ Laws.sumOf-same _ _ ts (λ u i. ap (λ (z : ℕ). sumOf (bothAt inhibitors outputs u) (upTo z)) (A .places)
+      ap (sumOf (bothOf sets)) (S .events)
+      ∙ Laws.sumOf-same _ _ ts (λ u i.
+      sum-places m (λ p. arcAt sets 64 u p * arcAt sets 32 u p) (omega (arith, A .few)) (λ p h. ap (λ (z : ℕ). z * arcAt sets 32 u p) (arc-beyond A 64 u p h) ∙ omega arith)
+      ∙ ap (λ (z : ℕ). sumOf (λ p. arcAt sets 64 u p * arcAt sets 32 u p) (upTo z)) (A .places)
       ∙ Laws.sumOf-same _ _ (upTo (places N)) (λ p j.
       let l : p < m = omega (arith, A .places, Laws.in-upTo (places N) j) in
-      ap₂ (λ (a b : ℕ). a * b) (cells-are (A .inhibitors) S m (A .few) u p i l) (cells-are (A .outputs) S m (A .few) u p i l)))
+      ap₂ (λ (a b : ℕ). a * b) (A .inhibitors u p (K u i) l) (A .outputs u p (K u i) l)))
 
   pub tally-grown : Tallied N (playStep N k ts r) t′
   tally-grown = record {
     longHeld = U .longHeld;
     longWatched = U .longWatched;
-    held = λ p l. let h : p < m = omega (arith, A .places) in omega (arith, U .held p h, T .held p l, cells-summed (A .outputs) S m (A .few) p h, held-more p l);
-    watched = λ p l. let h : p < m = omega (arith, A .places) in omega (arith, U .watched p h, T .watched p l, cells-summed (A .inhibitors) S m (A .few) p h, watched-more p);
+    held = λ p l. let h : p < m = omega (arith, A .places) in omega (arith, U .held p h, T .held p l, over-held A S K 32 (A .outputs) p h, held-more p l);
+    watched = λ p l. let h : p < m = omega (arith, A .places) in omega (arith, U .watched p h, T .watched p l, over-held A S K 64 (A .inhibitors) p h, watched-more p);
     own = omega (arith, U .own, T .own, own-summed, own-more);
   }
 

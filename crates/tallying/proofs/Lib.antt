@@ -1,4 +1,3 @@
 pub mod Marks
 pub mod Tallying
-pub mod Places
 pub mod Held

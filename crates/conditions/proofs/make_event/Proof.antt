@@ -1,39 +1,33 @@
--- The tokens of the places up to the next are made.
-use Prim.Native.Nat.{_-_, _≤_}
+-- One of each place of the set below d is made, and `bits` holds the others.
+use Prim.Native.Nat.{ℕ, _+_, _≤_}
 use mathlib.Core.Path.{_≡_, refl, sym, ap, _∙_}
 use mathlib.Core.List.{map}
 use native.Mathlib.Omega.{arith}
 use lib.ListN.{length-map}
 use Rattle.runs.specs.Consume.{made-of}
-use Rattle.columns.specs.Columns.{column}
+use Rattle.arc_sets.specs.Walk.{Left, left-all, left-rest, rest-less, nothing-left}
+use Rattle.steps.proofs.Walking.{at-lowest, looks}
 use Rattle.conditions.specs.Conditions.{tokensOf, MadeAt}
-use Rattle.steps.proofs.Rows.{cell-read}
-use Rattle.conditions.proofs.Tokens.{tokens-none, place-fits}
+use Rattle.conditions.proofs.Tokens.{tokens-none, tokens-skip, place-fits}
 use Rattle.conditions.proofs.Making.{outputs-next}
 use Rattle.conditions.proofs.Lent.{makes-nothing, makes-then, makes-as}
 use Rattle.conditions.proofs.make_event.Statement.{statement}
 use Rattle.conditions.proofs.make_event.Tie as tie
 
 abbrev Inv-loop : tie.InvT-loop
-Inv-loop e t arcs m n rec₀ r₀ p₀ rec r p = (p ≤ m) × MadeAt (map made-of (tokensOf (column 1024 1024 arcs) p e t)) n rec₀ r rec
+Inv-loop e set n rec₀ r₀ bits₀ rec r bits = (d : ℕ) × (d ≤ 64) × Left set bits d × MadeAt (map made-of (tokensOf set e d)) n rec₀ r rec
 
 abbrev μ-loop : tie.MeasureT-loop
-μ-loop e t arcs m n rec₀ r₀ p₀ rec r p = m - p
+μ-loop e set n rec₀ r₀ bits₀ rec r bits = bits
 
 pub make-event-spec : {M : Type 1} → statement M
 make-event-spec = tie.close (tie.spec Inv-loop μ-loop
-    (λ c. (omega arith, makes-as (makes-nothing (c .before .pre .4)) (ap (map made-of) (sym (tokens-none _ _ _))) refl))
-    (λ c. omega arith)
-    (λ c. omega arith)
-    (λ c. omega arith)
-    (λ c. omega arith)
-    (λ c. omega arith)
+    (λ c. (0, omega arith, left-all _ (omega arith), makes-as (makes-nothing (c .before .pre .3)) (ap (map made-of) (sym (tokens-none _ _))) refl))
     (λ c κs. tt)
-    (λ c κs. let w = c .before in let l = w .before .before .before in let s = l .before .before in let a = s .args in let M = l .loop .inv .1 in let cells = column 1024 1024 (a .arcs .now) in
-    (omega arith, omega (arith, M .made .next, length-map (tokensOf cells (l .loop .p) (a .e) (a .t)) made-of, place-fits cells (l .loop .p) (a .m) (a .e) (a .t) _ (omega arith) (w .wide .ensures .0 ∙ cell-read (a .arcs .now) 1024 (a .t) (l .loop .p) (s .pre .1) (omega arith))), omega (arith, M .long)))
     (λ c. omega arith)
-    (λ c. omega arith)
-    (λ c. let w = c .before .before .before .before in let l = w .before .before .before in let s = l .before .before in let a = s .args in
-    (omega arith, makes-as (makes-then (l .loop .inv .1) (c .before .before .make-times .ensures)) (outputs-next _ (l .loop .p) _ (a .t) _ (s .pre .0) (w .wide .ensures .0 ∙ cell-read (a .arcs .now) 1024 (a .t) (l .loop .p) (s .pre .1) (omega arith))) refl))
-    (λ c. c .before .loop .inv .1 .long)
-    (λ c. let l = c .before in let e : l .loop .p ≡ l .before .before .args .m = omega arith in makes-as (l .loop .inv .1) (rw e) refl))
+    (λ c κs. let o = c .before in let l = o .before .before in let s = l .before .before in let v = l .loop .inv in let L = at-lowest (v .2) (o .lowest .ensures) (o .before .loop-test .taken) in let A = makes-as (v .3) (ap (map made-of) (tokens-skip (s .args .set) (s .args .e) (v .0) _ (L .within) (L .passed))) refl in (looks (s .args .set) _ (s .pre .1) (L .set), omega (arith, A .made .next, length-map (tokensOf (s .args .set) (s .args .e) (o .lowest .result)) made-of, place-fits (s .args .set) (s .args .e) (o .lowest .result) 64 1 (L .low) (sym (L .set))), omega (arith, A .long)))
+    (λ c. let o = c .before .before .before .before in let l = o .before .before in let s = l .before .before in let v = l .loop .inv in let L = at-lowest (v .2) (o .lowest .ensures) (o .before .loop-test .taken) in L .low)
+    (λ c. let o = c .before .before .before .before in let l = o .before .before in let s = l .before .before in let v = l .loop .inv in let L = at-lowest (v .2) (o .lowest .ensures) (o .before .loop-test .taken) in rest-less (v .2) (o .lowest .ensures) (L .left) (L .low))
+    (λ c. let o = c .before .before .before .before in let l = o .before .before in let s = l .before .before in let v = l .loop .inv in let L = at-lowest (v .2) (o .lowest .ensures) (o .before .loop-test .taken) in let A = makes-as (v .3) (ap (map made-of) (tokens-skip (s .args .set) (s .args .e) (v .0) _ (L .within) (L .passed))) refl in (_, omega (arith, L .low), left-rest (v .2) (o .lowest .ensures) (L .left) (L .low), makes-as (makes-then A (c .before .before .make-times .ensures)) (outputs-next (s .args .set) _ _ 1 (s .pre .0) (sym (L .set))) refl))
+    (λ c. c .before .loop .inv .3 .long)
+    (λ c. let v = c .before .loop .inv in makes-as (v .3) (ap (map made-of) (tokens-skip _ _ (v .0) 64 (v .1) (λ j l k. nothing-left (v .2) (c .loop-test .left) j l))) refl))

@@ -1,32 +1,28 @@
--- The tokens of the places up to the next are taken.
-use Prim.Native.Nat.{_-_, _≤_}
-use mathlib.Core.Path.{_≡_, sym, _∙_}
+-- One of each place of the set below d is taken, and `bits` holds the others.
+use Prim.Native.Nat.{ℕ, _+_, _≤_}
+use mathlib.Core.Path.{_≡_, refl, sym, _∙_}
 use native.Mathlib.Omega.{arith}
-use Rattle.columns.specs.Columns.{column}
+use Rattle.arc_sets.specs.Walk.{Left, left-all, left-rest, rest-less, nothing-left}
+use Rattle.steps.proofs.Walking.{at-lowest, looks}
 use Rattle.conditions.specs.Conditions.{tokensOf, TookAt}
-use Rattle.steps.proofs.Rows.{input-read}
-use Rattle.conditions.proofs.Tokens.{tokens-none, tokens-next}
+use Rattle.conditions.proofs.Tokens.{tokens-none, tokens-next, tokens-skip}
 use Rattle.conditions.proofs.Lent.{takes-nothing, ready-after, takes-then, takes-as}
 use Rattle.conditions.proofs.take_event.Statement.{statement}
 use Rattle.conditions.proofs.take_event.Tie as tie
 
 abbrev Inv-loop : tie.InvT-loop
-Inv-loop e t arcs m n rec₀ counts₀ p₀ rec counts p = (p ≤ m) × TookAt (tokensOf (column 0 1024 arcs) p e t) n rec₀ counts₀ rec counts
+Inv-loop e set n rec₀ counts₀ bits₀ rec counts bits = (d : ℕ) × (d ≤ 64) × Left set bits d × TookAt (tokensOf set e d) n rec₀ counts₀ rec counts
 
 abbrev μ-loop : tie.MeasureT-loop
-μ-loop e t arcs m n rec₀ counts₀ p₀ rec counts p = m - p
+μ-loop e set n rec₀ counts₀ bits₀ rec counts bits = bits
 
 pub take-event-spec : {M : Type 1} → statement M
 take-event-spec = tie.close (tie.spec Inv-loop μ-loop
-    (λ c. (omega arith, takes-as (takes-nothing (c .before .pre .3)) (sym (tokens-none _ _ _))))
-    (λ c. omega arith)
-    (λ c. omega arith)
-    (λ c. omega arith)
+    (λ c. (0, omega arith, left-all _ (omega arith), takes-as (takes-nothing (c .before .pre .2)) (sym (tokens-none _ _))))
     (λ c κs. tt)
-    (λ c κs. let l = c .before .before .before .before .before in let s = l .before .before in (s .pre .0, omega arith, ready-after (s .pre .3) (l .loop .inv .1)))
-    (λ c. omega arith)
-    (λ c. omega arith)
-    (λ c. let w = c .before .before .before .before .before in let l = w .before .before .before in let s = l .before .before in
-    (omega arith, takes-as (takes-then (l .loop .inv .1) (c .before .before .take-times .ensures)) (tokens-next _ (l .loop .p) _ (s .args .t) _ (w .wide .ensures .0 ∙ input-read (s .args .arcs .now) (s .args .t) (l .loop .p) (s .pre .1) (omega arith)))))
-    (λ c. c .before .loop .inv .1 .long)
-    (λ c. let l = c .before in let e : l .loop .p ≡ l .before .before .args .m = omega arith in takes-as (l .loop .inv .1) (rw e)))
+    (λ c κs. let o = c .before .before in let l = o .before .before in let s = l .before .before in let v = l .loop .inv in let L = at-lowest (v .2) (o .lowest .ensures) (o .before .loop-test .taken) in (s .pre .0, looks (s .args .set) _ (s .pre .1) (L .set), ready-after (s .pre .2) (v .3)))
+    (λ c. let o = c .before .before .before .before .before in let l = o .before .before in let s = l .before .before in let v = l .loop .inv in let L = at-lowest (v .2) (o .lowest .ensures) (o .before .loop-test .taken) in L .low)
+    (λ c. let o = c .before .before .before .before .before in let l = o .before .before in let s = l .before .before in let v = l .loop .inv in let L = at-lowest (v .2) (o .lowest .ensures) (o .before .loop-test .taken) in rest-less (v .2) (o .lowest .ensures) (L .left) (L .low))
+    (λ c. let o = c .before .before .before .before .before in let l = o .before .before in let s = l .before .before in let v = l .loop .inv in let L = at-lowest (v .2) (o .lowest .ensures) (o .before .loop-test .taken) in (_, omega (arith, L .low), left-rest (v .2) (o .lowest .ensures) (L .left) (L .low), takes-as (takes-then (takes-as (v .3) (tokens-skip _ _ (v .0) _ (L .within) (L .passed))) (c .before .before .take-one .ensures)) (tokens-next (s .args .set) _ _ 1 (sym (L .set)))))
+    (λ c. c .before .loop .inv .3 .long)
+    (λ c. let v = c .before .loop .inv in takes-as (v .3) (tokens-skip _ _ (v .0) 64 (v .1) (λ j l k. nothing-left (v .2) (c .loop-test .left) j l))))

@@ -14,13 +14,14 @@ begin-spec = tie.close (tie.spec
     (λ c κs. search needs)
     (λ c κs. search needs)
     (λ c. search needs)
-    (λ c. let st = c .before .before in let d = st .before .before in let a = d .before .before in let s = a .before .before .before in let B = s .pre in let A = a .put-tokens .ensures in let C = d .put-tokens2 .ensures in
+    (λ c. let st = c .before .before in let d = st .before .before in let a = d .before .before in let s = a .before .before .before in let B = s .pre in let C = d .put-tokens2 .ensures in
     record {
       places = refl;
       transitions = refl;
       line = refl;
       long = st .start .ensures .long;
-      wide = put-long B A C;
-      begins = λ steps k N h. begins N h _ (put-long B A C) (put-held B A C) (λ p l. put-blank B A C 64 p (omega arith) l) (put-marking B A C)
-          (starts (B .most) (B .long) k (column-length 96 32 _ (omega (arith, put-long B A C))) (put-cursors B A C) (st .start .ensures));
+      wide = put-long B C;
+      marking = put-marking B (a .put-tokens .ensures);
+      begins = λ steps k N h. begins N h _ (put-long B C) (put-held B C) (λ p l. put-blank B C 32 p (omega arith) l)
+          (starts (B .most) (B .long) k (column-length 64 32 _ (omega (arith, put-long B C))) (put-cursors B C) (st .start .ensures));
     }))

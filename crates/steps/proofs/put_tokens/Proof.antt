@@ -24,4 +24,5 @@ put-tokens-spec = tie.close (tie.spec Inv-loop μ-loop
     (λ c. omega arith)
     (λ c. omega arith)
     (λ c. let l = c .before .before .before in (omega arith, from-more _ (omega arith) (c .wide-count .ensures) (l .loop .inv .1)))
+    (λ c. c .before .loop .inv .1 .long)
     (λ c. from-end _ (omega arith) (c .before .loop .inv .1)))

@@ -1,5 +1,5 @@
 use Prim.Native.Nat.{ℕ, _-_, _≤_}
-use mathlib.Core.Path.{_≡_, sym, ap, _∙_}
+use mathlib.Core.Path.{_≡_, sym, _∙_}
 use mathlib.Core.Bool.{Bool}
 use mathlib.Core.List.{List}
 use native.Mathlib.Omega.{arith}
@@ -8,9 +8,7 @@ use lib.ListN.{getD}
 use borrow.Author.Tests.{lt-ltb, le-ltb}
 use Rattle.spec.specs.Lists.{any, from}
 use Rattle.lists.specs.Search.{any-start, any-hit, any-on, any-end}
-use Rattle.columns.specs.Columns.{column}
 use Rattle.steps.specs.Holds.{falls}
-use Rattle.steps.proofs.Rows.{token-read}
 use Rattle.steps.proofs.short.Statement.{statement}
 use Rattle.steps.proofs.short.Tie as tie
 
@@ -22,10 +20,10 @@ unfolding falls
 starts xs ys n = any-start (less xs ys) n
 
 abbrev Inv-loop : tie.InvT-loop
-Inv-loop counts taken places p₀ p = (p ≤ places) × (any (less (column 0 32 counts) taken) (from p (places - p)) ≡ falls (column 0 32 counts) taken places)
+Inv-loop marking taken places p₀ p = (p ≤ places) × (any (less marking taken) (from p (places - p)) ≡ falls marking taken places)
 
 abbrev μ-loop : tie.MeasureT-loop
-μ-loop counts taken places p₀ p = places - p
+μ-loop marking taken places p₀ p = places - p
 
 pub short-spec : {M : Type 1} → statement M
 short-spec = tie.close (tie.spec Inv-loop μ-loop
@@ -35,10 +33,10 @@ short-spec = tie.close (tie.spec Inv-loop μ-loop
     (λ c. omega arith)
     (λ c. omega arith)
     (λ c. let l = c .before .before .before .before in let a = l .before .args in
-    sym (any-hit (less (column 0 32 (a .counts .now)) (a .taken .now)) _ _ (c .before .before .before .loop-test .taken) (ap (λ (z : ℕ). ltb z (getD (a .taken .now) (l .loop .p) 0)) (token-read (a .counts .now) (l .loop .p) (omega arith)) ∙ lt-ltb _ _ (c .if1 .taken))) ∙ l .loop .inv .1)
+    sym (any-hit (less (a .marking .now) (a .taken .now)) _ _ (c .before .before .before .loop-test .taken) (lt-ltb _ _ (c .if1 .taken))) ∙ l .loop .inv .1)
     (λ c. omega arith)
     (λ c. omega arith)
     (λ c. let l = c .before .before .before .before in let a = l .before .args in
-    (omega arith, any-on (less (column 0 32 (a .counts .now)) (a .taken .now)) _ _ (c .before .before .before .loop-test .taken) (ap (λ (z : ℕ). ltb z (getD (a .taken .now) (l .loop .p) 0)) (token-read (a .counts .now) (l .loop .p) (omega arith)) ∙ le-ltb _ _ (c .if1 .left)) ∙ l .loop .inv .1))
+    (omega arith, any-on (less (a .marking .now) (a .taken .now)) _ _ (c .before .before .before .loop-test .taken) (le-ltb _ _ (c .if1 .left)) ∙ l .loop .inv .1))
     (λ c. let l = c .before in let a = l .before .args in
-    sym (any-end (less (column 0 32 (a .counts .now)) (a .taken .now)) _ _ (c .loop-test .left)) ∙ l .loop .inv .1))
+    sym (any-end (less (a .marking .now) (a .taken .now)) _ _ (c .loop-test .left)) ∙ l .loop .inv .1))

@@ -1,0 +1,10 @@
+use mathlib.Core.Path.{_∙_}
+use native.Mathlib.Omega.{arith}
+use Rattle.arc_sets.proofs.Making.{size-is}
+use Rattle.arc_sets.proofs.size.Statement.{statement}
+use Rattle.arc_sets.proofs.size.Tie as tie
+
+pub size-spec : {M : Type 1} → statement M
+size-spec = tie.close (tie.spec
+    (λ c κs. tt)
+    (λ c. let s = c .before in size-is (s .args .set) _ (omega arith) (c .wide .ensures)))

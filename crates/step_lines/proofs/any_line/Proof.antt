@@ -1,0 +1,29 @@
+-- What each test finds of the line is what the definitions ask.
+use mathlib.Core.Path.{_≡_, refl, sym, _∙_}
+use native.Mathlib.Omega.{arith}
+use borrow.Author.Tests.{not-true, not-false}
+use Rattle.lines.specs.Lines.{lineOf}
+use Rattle.number_lines.proofs.Lines.{few-known}
+use Rattle.step_lines.proofs.Lines.{reads-21, reads-22, reads-step}
+use Rattle.step_lines.proofs.any_line.Statement.{statement}
+use Rattle.step_lines.proofs.any_line.Tie as tie
+
+pub any-line-spec : {M : Type 1} → statement M
+any-line-spec = tie.close (tie.spec
+    (λ c κs. tt)
+    (λ c κs. tt)
+    (λ c. let i1 = c .before in let st = i1 .before in let s = st .before .before in let a = s .args in
+    rw (c .refused .ensures) (refl, reads-21 (lineOf (a .l .now) (a .ended)) (a .x) (s .pre .long) (sym (st .is-step-line .ensures) ∙ not-true _ (i1 .if1 .taken))))
+    (λ c κs. tt)
+    (λ c κs. tt)
+    (λ c. let i2 = c .before in let un = i2 .before in let i1 = un .before in let st = i1 .before in let s = st .before .before in let a = s .args in
+    rw (c .refused2 .ensures) (refl, reads-22 (lineOf (a .l .now) (a .ended)) (a .x) (s .pre .long) (sym (st .is-step-line .ensures) ∙ not-false _ (i1 .if1 .left)) (sym (un .any-unknown .ensures) ∙ i2 .if2 .taken)))
+    (λ c κs. tt)
+    (λ c κs. tt)
+    (λ c. let i3 = c .before in let cn = i3 .before in let i2 = cn .before in let un = i2 .before in let i1 = un .before in let st = i1 .before in let s = st .before .before in let a = s .args in
+    rw (c .going .ensures) (refl, reads-step (lineOf (a .l .now) (a .ended)) (a .x) (s .pre .long) (sym (st .is-step-line .ensures) ∙ not-false _ (i1 .if1 .left)) (s .pre .known) (sym (un .any-unknown .ensures) ∙ i2 .if2 .left) (cn .count-numbers .ensures .0) (λ h. absurd (omega (arith, i3 .if3 .taken)))))
+    (λ c κs. let cn = c .before in let i2 = cn .before in let un = i2 .before in let s = un .before .before .before .before in
+    few-known 256 (s .args .x .transitions) _ (omega (arith, cn .count-numbers .ensures .0, c .if3 .left)) (sym (un .any-unknown .ensures) ∙ i2 .if2 .left) (omega (arith, s .pre .known)))
+    (λ c κs. tt)
+    (λ c. let nu = c .before in let i3 = nu .before in let cn = i3 .before in let i2 = cn .before in let un = i2 .before in let i1 = un .before in let st = i1 .before in let s = st .before .before in let a = s .args in
+    rw (c .going2 .ensures) (refl, reads-step (lineOf (a .l .now) (a .ended)) (a .x) (nu .numbers .ensures .long) (sym (st .is-step-line .ensures) ∙ not-false _ (i1 .if1 .left)) (s .pre .known) (sym (un .any-unknown .ensures) ∙ i2 .if2 .left) (cn .count-numbers .ensures .0) (λ h. nu .numbers .ensures))))

@@ -1,0 +1,12 @@
+use mathlib.Core.Path.{sym}
+use native.Mathlib.Omega.{arith}
+use borrow.Author.Needs.{needs}
+use Rattle.step_lines.proofs.Lines.{counts-23, counts-on}
+use Rattle.step_lines.proofs.count_step.Statement.{statement}
+use Rattle.step_lines.proofs.count_step.Tie as tie
+
+pub count-step-spec : {M : Type 1} → statement M
+count-step-spec = tie.close (tie.spec
+    (λ c. omega arith)
+    (λ c. let s = c .before .before in sym (counts-23 _ _ _ (c .if1 .taken) (s .pre)))
+    (λ c. let s = c .before .before in sym (counts-on _ _ _ (c .if1 .left) (s .pre))))

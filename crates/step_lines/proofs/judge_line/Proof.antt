@@ -1,0 +1,36 @@
+-- The first part that refuses is the definitions' too; where none does, the line is enabled.
+use mathlib.Core.Path.{_≡_, refl, sym, _∙_}
+use native.Mathlib.Omega.{arith}
+use borrow.Author.Needs.{needs}
+use Rattle.step_lines.proofs.Lines.{line-unread, line-uncounted, line-judged, count-fits, step-read}
+use Rattle.step_lines.proofs.judge_line.Statement.{statement}
+use Rattle.step_lines.proofs.judge_line.Tie as tie
+
+pub judge-line-spec : {M : Type 1} → statement M
+judge-line-spec = tie.close (tie.spec
+    (λ c κs. let s = c .before .before in (s .pre .0, s .pre .1))
+    (λ c. search needs)
+    (λ c. let rd = c .before .before in let E = rd .read-step .ensures in record {
+      found = E .found;
+      long = E .read .long;
+      answers = λ N mk A q H. line-unread (E .read) N mk q (c .enum-told .given .1);
+    })
+    (λ c. search needs)
+    (λ c κs. let s = c .before .before .before .before .before in s .pre .1 .events)
+    (λ c. search needs)
+    (λ c κs. tt)
+    (λ c. let cn = c .before .before .before .before in let t2 = cn .before in let rd = t2 .before .before in let E = rd .read-step .ensures in rw (c .refused .ensures) record {
+      found = E .found;
+      long = E .read .long;
+      answers = λ N mk A q H. line-uncounted (E .read) N mk q (t2 .enum-told2 .given .1) (cn .count-step .ensures) (c .before .before .counted .given .1);
+    })
+    (λ c. search needs)
+    (λ c κs. let t3 = c .before in let cn = t3 .before .before in let t2 = cn .before in let rd = t2 .before .before in let s = rd .before .before .before in
+    let F = count-fits (s .args .x) (rd .read-step .result .count) (s .pre .1 .events) (cn .count-step .ensures) (t3 .enum-told3 .given .1) in
+    (step-read (rd .read-step .ensures .read) (t2 .enum-told2 .given .1) (omega arith), s .pre .2, s .pre .3))
+    (λ c. let t3 = c .before .before in let cn = t3 .before .before in let t2 = cn .before in let rd = t2 .before .before in let s = rd .before .before .before in let E = rd .read-step .ensures in
+    let F = count-fits (s .args .x) (rd .read-step .result .count) (s .pre .1 .events) (cn .count-step .ensures) (t3 .enum-told3 .given .1) in record {
+      found = E .found;
+      long = E .read .long;
+      answers = λ N mk A q H. line-judged (E .read) N mk q (t2 .enum-told2 .given .1) (c .judge .result) F (s .pre .1 .events) (c .judge .ensures) A H;
+    }))

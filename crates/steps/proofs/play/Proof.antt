@@ -1,0 +1,13 @@
+-- What is taken is taken, and then what is made is added.
+use Prim.Native.Nat.{ℕ, _+_, _-_, _≤_}
+use mathlib.Core.Path.{_≡_, refl, sym, ap, _∙_}
+use native.Mathlib.Omega.{arith}
+use Rattle.steps.proofs.Rows.{paid-low, moved}
+use Rattle.steps.proofs.play.Statement.{statement}
+use Rattle.steps.proofs.play.Tie as tie
+
+pub play-spec : {M : Type 1} → statement M
+play-spec = tie.close (tie.spec
+    (λ c κs. c .before .pre)
+    (λ c κs. let t = c .before in let s = t .before .before in (s .pre .0, paid-low (s .pre .1) (t .take-all .ensures)))
+    (λ c. let t = c .before .before in let s = t .before .before in moved (s .pre .1) (t .take-all .ensures) (c .add-all .ensures)))
