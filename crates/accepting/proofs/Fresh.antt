@@ -1,8 +1,9 @@
--- Arrays that are all zero: no net, no record, no order.
+-- Arrays that are all zero: no net, no marks, no order.
 use mathlib.Core.Path.{_≡_, refl}
-use Prim.Native.Nat.{ℕ, _+_, _*_}
+use Prim.Native.Nat.{ℕ, _+_, _*_, _≤_}
 use native.Mathlib.Omega.{arith}
-use lib.ListN.{replicate, length-replicate}
+use mathlib.Core.List.{List}
+use lib.ListN.{length, replicate, length-replicate}
 use Rattle.bit_sets.specs.Sets.{has, no-words}
 use Rattle.lists.specs.Arrays.{blank}
 use Rattle.reach.specs.Rows.{cellOf, Good, rowOf, Sub, valueOf}
@@ -13,8 +14,15 @@ use Rattle.accepting.specs.Relation.{Blank}
 pub fresh-net : NetBlank (replicate 32 0) (replicate 3072 0)
 fresh-net = record { tokens = refl; arcs = refl }
 
-pub fresh-record : RecordBlank (replicate 26240 0)
-fresh-record = record { long = omega (arith, length-replicate {A = ℕ} 26240 0); zero = blank 26240 }
+pub fresh-record : 1664 ≤ length (replicate {A = ℕ} 1664 0)
+fresh-record = omega (arith, length-replicate {A = ℕ} 1664 0)
+
+-- words for the marks of a short text, and of any
+pub fresh-few : (text : List ℕ) → length text ≤ 128 → RecordBlank text (replicate 512 0)
+fresh-few text l = record { room = omega (arith, length-replicate {A = ℕ} 512 0); zero = blank 512 }
+
+pub fresh-all : (text : List ℕ) → RecordBlank text (replicate 2048 0)
+fresh-all text = record { room = omega (arith, length-replicate {A = ℕ} 2048 0); zero = blank 2048 }
 
 pub fresh : Blank (replicate 512 0)
 unfolding Good Sub rowOf cellOf valueOf

@@ -1,14 +1,15 @@
--- The relation of a record's bytes is that of its pairs.
+-- The relation of a record's bytes and words is that of its pairs.
 use mathlib.Core.Path.{_≡_, refl, sym, ap, _∙_}
-use Prim.Native.Nat.{ℕ, _+_, _≤_, _<_, zero-le}
+use Prim.Native.Nat.{ℕ, _+_, _*_, _≤_, _<_, zero-le}
 use native.Mathlib.Nat.{le-trans, le-antisymm, le-of-eq}
+use native.Mathlib.Decide.{ℕ-discrete, decLe}
 use native.Mathlib.Omega.{arith}
 use mathlib.Core.Bool.{Bool, true, false, _&&_, cond}
 use mathlib.Core.Option.{Option, none, some}
 use mathlib.Core.List.{List, map, Memᴰ·of-map}
 use lib.ListN.{length, getD}
 use lib.Dec.{eqb}
-use borrow.Author.Tests.{eqb-true}
+use borrow.Author.Tests.{eq-eqb, eqb-true}
 use Rattle.spec.specs.Lists.{In}
 use Rattle.spec.specs.Net.{Net as NetD}
 use Rattle.spec.specs.Record.{RunRecord, Condition, Mark, noCondition, conditionAt}
@@ -20,11 +21,13 @@ use Rattle.order.specs.Below.{max-above, max-least}
 use Rattle.runs.specs.Sources.{between, condition-pair, before-pair, after-pair, each-pair}
 use Rattle.runs.specs.Values.{weight, valueAt, pairAt, pair-above}
 use Rattle.net.specs.declared.Net.{Net}
-use Rattle.record.specs.Holds.{eventCode, kindCode, noMark, markAt, conditionOf}
+use Rattle.reach.specs.Rows.{cellOf}
+use Rattle.record.specs.Holds.{eventCode, kindCode, HoldsMarks}
+use Rattle.record.proofs.Marks.{kind-some, at-own, value-found, value-once}
 use Rattle.record.specs.declared.Counts.{Counts}
 use Rattle.held.specs.Held.{Held}
-use Rattle.row_pairs.specs.Relation.{pairIn, conditionPairIn, markPairIn, overall, relationIn}
-use Rattle.held.proofs.Codes.{in-record, mark-in, mark-condition, small-condition}
+use Rattle.row_pairs.specs.Relation.{pairIn, conditionPairIn, aftersIn, beforesIn, after, before, markPairIn, overall, relationIn}
+use Rattle.held.proofs.Codes.{in-record}
 
 -- ---- a pair
 
@@ -54,7 +57,18 @@ is-after : (x : MarkKind) → kindCode x ≡ 2 → x ≡ After
 is-after Before h = absurd (omega arith)
 is-after After h = refl
 
-module _ (net : Net) (s : Counts) (rec : List ℕ) (N : NetD) (R : RunRecord) (h : Held net s rec N R) where
+kind-few : (x : MarkKind) → kindCode x ≤ 2
+kind-few Before = omega arith
+kind-few After = omega arith
+
+if-so : {v x : ℕ} (a b : ℕ) → (a ≡ b → v ≤ x) → cond (eqb a b) v 0 ≤ x
+if-so {v} {x} a b h = go (eqb a b) refl
+  where
+    go : (t : Bool) → eqb a b ≡ t → cond t v 0 ≤ x
+    go true p = h (eqb-true a b p)
+    go false p = zero-le
+
+module _ (net : Net) (s : Counts) (rec words : List ℕ) (N : NetD) (R : RunRecord) (h : Held net s rec N R) (u : HoldsMarks words R) where
   -- ---- each byte's pair is a pair of the record
 
   module _ (i j : ℕ) (hi : i < 128) (hj : j < 128) where
@@ -66,50 +80,62 @@ module _ (net : Net) (s : Counts) (rec : List ℕ) (N : NetD) (R : RunRecord) (h
     condition-says c l = pair-says _ _ 2 _ i j (λ p q. pair-above (pairs R) (between i j true)
         (condition-pair R (in-record net s rec N R h c l) (event-of _ i (sym (h .bytes .producer c l) ∙ p) hi) (event-of _ j (sym (h .bytes .consumer c l) ∙ q) hj)))
 
-    before-says : (k : ℕ) → k < s .marks → getD rec (1664 + k) 0 ≡ 1 → pairIn (getD rec (5760 + k) 0) (getD rec (640 + conditionOf rec k) 0) 1 i j ≤ most
+    -- the mark that a value stands for
+    which : (c e : ℕ) → 0 < cellOf words c e → (w : Mark) × In w (R .marks) × (w .condition ≡ c) × (w .event ≡ e) × (kindCode (w .kind) ≡ cellOf words c e)
+    which c e l = let w = value-found (R .marks) c e (omega (arith, u .cell c e)) in (w .0, w .1, w .2, w .3, w .4 ∙ sym (u .cell c e))
+
+    after-says : (c : ℕ) → c < s .conditions → getD rec (1152 + c) 0 ≡ i → 2 * after (cellOf words c j) ≤ most
     unfolding weight
-    before-says k l b = pair-says _ _ 1 _ i j (λ p q.
-        let e : markAt R k .event ≡ i = sym (h .bytes .event k l) ∙ p in
-        rw (← e) (pair-above (pairs R) (between (markAt R k .event) j false) (before-pair R (mark-in net s rec N R h k l) (is-before _ (sym (h .bytes .kind k l) ∙ b))
-        (ap (λ (c : ℕ). conditionAt R c .producer) (sym (mark-condition net s rec N R h k l)) ∙ event-of _ j (sym (h .bytes .producer (conditionOf rec k) (small-condition net s rec N R h k l)) ∙ q) hj))))
+    after-says c l p = elim (decLe (cellOf words c j) 1) [
+      | yes m ↦ omega arith
+      | no d ↦
+          let w = which c j (omega arith) in
+          let k : w .0 .kind ≡ After = is-after (w .0 .kind) (omega (arith, w .4, kind-few (w .0 .kind))) in
+          let q : kindCode (w .0 .kind) ≡ 2 = ap kindCode k in
+          let y : conditionAt R (w .0 .condition) .consumer ≡ some i = ap (λ (c : ℕ). conditionAt R c .consumer) (w .2) ∙ event-of _ i (sym (h .bytes .consumer c l) ∙ p) hi in
+          let z : 2 ≤ most = rw (← w .3) (pair-above (pairs R) (between i (w .0 .event) true) (after-pair R (w .1) k y)) in
+          omega (arith, w .4)
+    ]
 
-    after-says : (k : ℕ) → k < s .marks → getD rec (1664 + k) 0 ≡ 2 → pairIn (getD rec (1152 + conditionOf rec k) 0) (getD rec (5760 + k) 0) 2 i j ≤ most
+    before-says : (c : ℕ) → c < s .conditions → getD rec (640 + c) 0 ≡ j → before (cellOf words c i) ≤ most
     unfolding weight
-    after-says k l b = pair-says _ _ 2 _ i j (λ p q.
-        let e : markAt R k .event ≡ j = sym (h .bytes .event k l) ∙ q in
-        rw (← e) (pair-above (pairs R) (between i (markAt R k .event) true) (after-pair R (mark-in net s rec N R h k l) (is-after _ (sym (h .bytes .kind k l) ∙ b))
-        (ap (λ (c : ℕ). conditionAt R c .consumer) (sym (mark-condition net s rec N R h k l)) ∙ event-of _ i (sym (h .bytes .consumer (conditionOf rec k) (small-condition net s rec N R h k l)) ∙ p) hi))))
+    before-says c l p = elim (ℕ-discrete (cellOf words c i) 1) [
+      | no d ↦ elim (decLe 1 (cellOf words c i)) [
+        | yes m ↦ let w = which c i m in omega (arith, w .4, kind-some (w .0 .kind), kind-few (w .0 .kind))
+        | no e ↦ omega arith
+      ]
+      | yes v ↦
+          let w = which c i (omega arith) in
+          let k : w .0 .kind ≡ Before = is-before (w .0 .kind) (w .4 ∙ v) in
+          let y : conditionAt R (w .0 .condition) .producer ≡ some j = ap (λ (c : ℕ). conditionAt R c .producer) (w .2) ∙ event-of _ j (sym (h .bytes .producer c l) ∙ p) hj in
+          let z : 1 ≤ most = rw (← w .3) (pair-above (pairs R) (between (w .0 .event) j false) (before-pair R (w .1) k y)) in
+          omega arith
+    ]
 
-    mark-says : (k : ℕ) → k < s .marks → markPairIn rec k i j ≤ most
-    unfolding markPairIn
-    mark-says k l = go (eqb (getD rec (1664 + k) 0) 1) (eqb (getD rec (1664 + k) 0) 2) refl refl
-      where
-        go : (a b : Bool) → eqb (getD rec (1664 + k) 0) 1 ≡ a → eqb (getD rec (1664 + k) 0) 2 ≡ b
-            → cond a (pairIn (getD rec (5760 + k) 0) (getD rec (640 + conditionOf rec k) 0) 1 i j) (cond b (pairIn (getD rec (1152 + conditionOf rec k) 0) (getD rec (5760 + k) 0) 2 i j) 0) ≤ most
-        go true b p q = before-says k l (eqb-true _ _ p)
-        go false true p q = after-says k l (eqb-true _ _ q)
-        go false false p q = zero-le
+    mark-says : (c : ℕ) → c < s .conditions → markPairIn rec words c i j ≤ most
+    unfolding markPairIn aftersIn beforesIn
+    mark-says c l = omega (arith, if-so (getD rec (1152 + c) 0) i (after-says c l), if-so (getD rec (640 + c) 0) j (before-says c l))
 
-    bytes-say : relationIn s rec i j ≤ most
+    bytes-say : relationIn s rec words i j ≤ most
     unfolding relationIn overall
     bytes-say = omega (
       arith,
       max-least (s .conditions) (λ c. conditionPairIn rec c i j) most condition-says,
-      max-least (s .marks) (λ k. markPairIn rec k i j) most mark-says,
+      max-least (s .conditions) (λ c. markPairIn rec words c i j) most mark-says,
     )
 
   -- ---- and each pair of the record is a byte's
 
-  condition-above : (c i j : ℕ) → c < s .conditions → conditionPairIn rec c i j ≤ relationIn s rec i j
+  condition-above : (c i j : ℕ) → c < s .conditions → conditionPairIn rec c i j ≤ relationIn s rec words i j
   unfolding relationIn overall
   condition-above c i j l = omega (arith, max-above (s .conditions) (λ c. conditionPairIn rec c i j) c l)
 
-  mark-above : (k i j : ℕ) → k < s .marks → markPairIn rec k i j ≤ relationIn s rec i j
+  mark-above : (c i j : ℕ) → c < s .conditions → markPairIn rec words c i j ≤ relationIn s rec words i j
   unfolding relationIn overall
-  mark-above k i j l = omega (arith, max-above (s .marks) (λ k. markPairIn rec k i j) k l)
+  mark-above c i j l = omega (arith, max-above (s .conditions) (λ c. markPairIn rec words c i j) c l)
 
   abbrev Said : ℕ → ℕ → Pair → Type 0
-  Said i j q = valueAt i j q ≤ relationIn s rec i j
+  Said i j q = valueAt i j q ≤ relationIn s rec words i j
 
   condition-said : (i j : ℕ) (c : Condition) → In c (R .conditions) → (e f : ℕ) → c .producer ≡ some e → c .consumer ≡ some f → Said i j (between e f true)
   unfolding conditionPairIn weight
@@ -121,44 +147,36 @@ module _ (net : Net) (s : Counts) (rec : List ℕ) (N : NetD) (R : RunRecord) (h
       le-trans (le-of-eq (value-is e f i j true ∙ rw (x, y) refl)) (condition-above (r .0) i j l)
 
   module _ (i j : ℕ) (w : Mark) (m : In w (R .marks)) where
-    -- the mark's place in the text
-    which : (k : ℕ) × (k < length (R .marks)) × (markAt R k ≡ w)
-    which = Laws.in-at noMark w (R .marks) m
-
-    which-low : which .0 < s .marks
-    which-low = omega (arith, which .1, h .bytes .marks)
-
-    kind-byte : getD rec (1664 + which .0) 0 ≡ kindCode (w .kind)
-    kind-byte = h .bytes .kind (which .0) which-low ∙ ap (λ (w : Mark). kindCode (w .kind)) (which .2)
-
-    event-byte : getD rec (5760 + which .0) 0 ≡ w .event
-    event-byte = h .bytes .event (which .0) which-low ∙ ap (λ (w : Mark). w .event) (which .2)
-
-    condition-bytes : conditionOf rec (which .0) ≡ w .condition
-    condition-bytes = mark-condition net s rec N R h (which .0) which-low ∙ ap (λ (w : Mark). w .condition) (which .2)
-
     condition-low : w .condition < s .conditions
     condition-low = omega (arith, h .wellFormed .conditions w m, h .bytes .conditions)
 
+    -- the value at its condition and event
+    value-said : cellOf words (w .condition) (w .event) ≡ kindCode (w .kind)
+    value-said = u .cell (w .condition) (w .event) ∙ value-once (R .marks) w (w .condition) (w .event) m (at-own w _ _ refl refl) (h .once (w .condition) (w .event))
+
     before-said : w .kind ≡ Before → (g : ℕ) → conditionAt R (w .condition) .producer ≡ some g → Said i j (between (w .event) g false)
-    unfolding markPairIn weight
+    unfolding markPairIn aftersIn beforesIn weight
     before-said k g p =
-        let b : getD rec (1664 + which .0) 0 ≡ 1 = kind-byte ∙ ap kindCode k in
-        let x : getD rec (640 + conditionOf rec (which .0)) 0 ≡ g = ap (λ (c : ℕ). getD rec (640 + c) 0) condition-bytes ∙ h .bytes .producer (w .condition) condition-low ∙ ap eventCode p in
-        le-trans (le-of-eq (value-is (w .event) g i j false ∙ rw (b, x, event-byte) refl)) (mark-above (which .0) i j which-low)
+        let v : cellOf words (w .condition) (w .event) ≡ 1 = value-said ∙ ap kindCode k in
+        let x : getD rec (640 + w .condition) 0 ≡ g = h .bytes .producer (w .condition) condition-low ∙ ap eventCode p in
+        le-trans (le-of-eq (value-is (w .event) g i j false)) (pair-says (w .event) g 1 _ i j (λ a b.
+        let y : cond (eqb (getD rec (640 + w .condition) 0) j) (before (cellOf words (w .condition) i)) 0 ≡ 1 = rw (eq-eqb (getD rec (640 + w .condition) 0) j (x ∙ b), ← a, v) refl in
+        omega (arith, y, mark-above (w .condition) i j condition-low)))
 
     after-said : w .kind ≡ After → (f : ℕ) → conditionAt R (w .condition) .consumer ≡ some f → Said i j (between f (w .event) true)
-    unfolding markPairIn weight
+    unfolding markPairIn aftersIn beforesIn weight
     after-said k f p =
-        let b : getD rec (1664 + which .0) 0 ≡ 2 = kind-byte ∙ ap kindCode k in
-        let x : getD rec (1152 + conditionOf rec (which .0)) 0 ≡ f = ap (λ (c : ℕ). getD rec (1152 + c) 0) condition-bytes ∙ h .bytes .consumer (w .condition) condition-low ∙ ap eventCode p in
-        le-trans (le-of-eq (value-is f (w .event) i j true ∙ rw (b, x, event-byte) refl)) (mark-above (which .0) i j which-low)
+        let v : cellOf words (w .condition) (w .event) ≡ 2 = value-said ∙ ap kindCode k in
+        let x : getD rec (1152 + w .condition) 0 ≡ f = h .bytes .consumer (w .condition) condition-low ∙ ap eventCode p in
+        le-trans (le-of-eq (value-is f (w .event) i j true)) (pair-says f (w .event) 2 _ i j (λ a b.
+        let y : cond (eqb (getD rec (1152 + w .condition) 0) i) (2 * after (cellOf words (w .condition) j)) 0 ≡ 2 = rw (eq-eqb (getD rec (1152 + w .condition) 0) i (x ∙ a), ← b, v) refl in
+        omega (arith, y, mark-above (w .condition) i j condition-low)))
 
-  pairs-say : (i j : ℕ) → pairAt (pairs R) i j ≤ relationIn s rec i j
+  pairs-say : (i j : ℕ) → pairAt (pairs R) i j ≤ relationIn s rec words i j
   unfolding pairAt
   pairs-say i j = Laws.greatest-least _ (map (valueAt i j) (pairs R)) (λ y m.
       let r : (q : Pair) × In q (pairs R) × (valueAt i j q ≡ y) = Memᴰ·of-map (valueAt i j) (pairs R) m in
       le-trans (le-of-eq (sym (r .2))) (each-pair R (Said i j) (condition-said i j) (before-said i j) (after-said i j) (r .0) (r .1)))
 
-  pub relation-is : (i j : ℕ) → i < 128 → j < 128 → relationIn s rec i j ≡ pairAt (pairs R) i j
+  pub relation-is : (i j : ℕ) → i < 128 → j < 128 → relationIn s rec words i j ≡ pairAt (pairs R) i j
   relation-is i j l m = le-antisymm (bytes-say i j l m) (pairs-say i j)

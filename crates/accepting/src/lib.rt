@@ -1,23 +1,25 @@
 // Accepting a net and a record: what check, replay and arrange share, "net's; check's but 30".
 ghost use mathlib.Core.Path.{_≡_};
-ghost use Prim.Native.Nat.{_<_, _≤_};
+ghost use Prim.Native.Nat.{_≤_};
 ghost use lib.ListN.{length};
 ghost use Rattle.spec.specs.Net.{Net as NetD};
 ghost use Rattle.spec.specs.Record.{RunRecord, bench};
 ghost use Rattle.net.specs.Holds.{netAt, Blank as NetBlank};
 ghost use Rattle.net.specs.declared.Net.{Net as NetA};
-ghost use Rattle.record.specs.Reads.{Blank as RecordBlank};
+ghost use Rattle.record.specs.Holds.{HoldsMarks};
+ghost use Rattle.record.specs.Reads.{Room, Spans, Blank as RecordBlank};
 ghost use Rattle.held.specs.Held.{Held, Sound};
-ghost use Rattle.accepting.specs.Relation.{Blank, HasMarks, Ordered};
-ghost use Rattle.accepting.specs.Accepting.{Within, Judges, Accepts, Keeps};
+ghost use Rattle.accepting.specs.Relation.{Blank, Ordered};
+ghost use Rattle.accepting.specs.Accepting.{Within, NetHeld, Judges, AcceptsRecord, Accepts, Keeps};
 use arc_rules::wrong_arcs;
 use arc_rules::wrong_initial;
-use mark_rules::walk_marks;
+use mark_rules::wrong_kind;
 use mark_rules::wrong_marks;
 use net::NetAnswer;
 use net::NetRefusal;
 use net::read_into;
 use reach::close;
+use record::Bounds;
 use record::Counts;
 use record::RecordAnswer;
 use record::RecordRefusal;
@@ -59,41 +61,34 @@ pub fn bench() -> Limits
 
 // ---- the rules 35 to 39
 
-// 39: rows that have the pairs of the marks get those of the conditions and are closed; the lowest event that is strictly before
-// itself, or the number of events.
-fn close_pairs(s: Counts, rec: &[u8], w: &mut [u64; 512]) -> usize
-    requires { ⌜ Sound s (now rec) × HasMarks s (now rec) (now w) ⌝ }
-    ensures { λ r. ⌜ (length (now (w .exit)) ≡ length (now (w .entry))) × ((net : NetA) (N : NetD) (R : RunRecord) → Held net s (now (rec .entry)) N R → Ordered R (now (w .exit)) r) ⌝ }
+// 39: empty rows get the pairs of the marks and the conditions and are closed; the lowest event that is strictly before itself,
+// or the number of events.
+pub fn order(s: Counts, rec: &[u8], marks: &[u64], w: &mut [u64; 512]) -> usize
+    requires { ⌜ Sound s (now rec) × Spans s (now marks) × Blank (now w) ⌝ }
+    ensures { λ r. ⌜ (length (now (w .exit)) ≡ length (now (w .entry))) × ((net : NetA) (N : NetD) (R : RunRecord) → Held net s (now (rec .entry)) N R → HoldsMarks (now (marks .entry)) R → Ordered R (now (w .exit)) r) ⌝ }
 {
+    raise_marks(rec, marks, s.conditions, w);
     raise_conditions(rec, s.conditions, w);
     close(w, s.events);
     first_loop(w, s.events)
-}
-
-// The same from empty rows.
-pub fn order(s: Counts, rec: &[u8], w: &mut [u64; 512]) -> usize
-    requires { ⌜ Sound s (now rec) × Blank (now w) ⌝ }
-    ensures { λ r. ⌜ (length (now (w .exit)) ≡ length (now (w .entry))) × ((net : NetA) (N : NetD) (R : RunRecord) → Held net s (now (rec .entry)) N R → Ordered R (now (w .exit)) r) ⌝ }
-{
-    raise_marks(rec, s.marks, w);
-    close_pairs(s, rec, w)
 }
 
 // ---- accepting
 
 // The rules 35 to 39, each over the whole record before the next. Where none is broken the closed order is in the rows.
 fn judge(
-    places: usize,
-    transitions: usize,
+    b: Bounds,
     tokens: &[u16; 32],
     arcs: &[u8; 3072],
     s: Counts,
     rec: &[u8],
+    marks: &[u64],
     w: &mut [u64; 512],
 ) -> Verdict
-    requires { ⌜ (places ≤ 32) × (transitions ≤ 32) × Sound s (now rec) × Blank (now w) ⌝ }
-    ensures { λ r. ⌜ (length (now (w .exit)) ≡ length (now (w .entry))) × Judges (netAt places transitions (now (tokens .entry)) (now (arcs .entry))) s (now (rec .entry)) r (now (w .exit)) ⌝ }
+    requires { ⌜ Room b × Sound s (now rec) × Spans s (now marks) × Blank (now w) ⌝ }
+    ensures { λ r. ⌜ (length (now (w .exit)) ≡ length (now (w .entry))) × Judges (netAt (b .places) (b .transitions) (now (tokens .entry)) (now (arcs .entry))) s (now (rec .entry)) (now (marks .entry)) r (now (w .exit)) ⌝ }
 {
+    let places = b.places;
     let p = wrong_initial(places, tokens, s, rec);
     if p < places {
         return Verdict::Refused(Refusal::Record(RecordRefusal::WrongInitial(p)));
@@ -102,16 +97,15 @@ fn judge(
     if d < s.events {
         return Verdict::Refused(Refusal::Record(RecordRefusal::WrongArcs(d)));
     }
-    let mut sums = [0u32; 128];
-    let f = walk_marks(s, rec, arcs, &mut sums, w);
-    let e = wrong_marks(places, transitions, arcs, s, rec, &sums);
+    let e = wrong_marks(places, b.transitions, arcs, s, rec, marks);
     if e < s.events {
         return Verdict::Refused(Refusal::Record(RecordRefusal::WrongMarks(e)));
     }
+    let f = wrong_kind(s, rec, marks);
     if f < s.events {
         return Verdict::Refused(Refusal::Record(RecordRefusal::WrongKind(f)));
     }
-    let g = close_pairs(s, rec, w);
+    let g = order(s, rec, marks, w);
     if g < s.events {
         return Verdict::Refused(Refusal::Record(RecordRefusal::BeforeItself(g)));
     }
@@ -129,35 +123,61 @@ fn refused(why: Refusal) -> Accepted
     }
 }
 
-// "net's; check's but 30": a net and a record, each in arrays that are all zero before, and the closed order in the rows, or the
-// first refusal.
+// A record is read and judged by the net that the arrays hold, in words for its marks that are all zero before.
+fn accept_record(
+    b: Bounds,
+    text: &[u8],
+    tokens: &[u16; 32],
+    arcs: &[u8; 3072],
+    rec: &mut [u8],
+    marks: &mut [u64],
+    w: &mut [u64; 512],
+) -> Accepted
+    requires { ⌜ Room b × NetHeld b (now tokens) (now arcs) × (1664 ≤ length (now rec)) × RecordBlank (now text) (now marks) × Blank (now w) ⌝ }
+    ensures { λ r. ⌜ (length (now (w .exit)) ≡ length (now (w .entry))) × AcceptsRecord b (now (text .entry)) (now (tokens .entry)) (now (arcs .entry)) r (now (rec .exit)) (now (w .exit)) ⌝ }
+{
+    let read = read_record(b, text, rec, marks);
+    let answer = read.answer;
+    if let RecordAnswer::Refused(why) = answer {
+        return refused(Refusal::Record(why));
+    }
+    let s = read.counts;
+    Accepted {
+        verdict: judge(b, tokens, arcs, s, rec, marks, w),
+        places: b.places,
+        events: s.events,
+        conditions: s.conditions,
+    }
+}
+
+// "net's; check's but 30": a net and a record, the net in arrays that are all zero before, and the closed order in the rows, or the
+// first refusal. A short text has few conditions and needs few words for marks.
 pub fn accept(
     net: &[u8],
     text: &[u8],
-    lim: Limits,
+    limits: Limits,
     tokens: &mut [u16; 32],
     arcs: &mut [u8; 3072],
     rec: &mut [u8],
     w: &mut [u64; 512],
 ) -> Accepted
-    requires { ⌜ Within lim × NetBlank (now tokens) (now arcs) × RecordBlank (now rec) × Blank (now w) ⌝ }
-    ensures { λ r. ⌜ (length (now (w .exit)) ≡ length (now (w .entry))) × Accepts lim (now (net .entry)) (now (text .entry)) r (now (w .exit)) × Keeps lim (now (net .entry)) (now (text .entry)) r (now (tokens .exit)) (now (arcs .exit)) (now (rec .exit)) ⌝ }
+    requires { ⌜ Within limits × NetBlank (now tokens) (now arcs) × (1664 ≤ length (now rec)) × Blank (now w) ⌝ }
+    ensures { λ r. ⌜ (length (now (w .exit)) ≡ length (now (w .entry))) × Accepts limits (now (net .entry)) (now (text .entry)) r (now (w .exit)) × Keeps limits (now (net .entry)) (now (text .entry)) r (now (tokens .exit)) (now (arcs .exit)) (now (rec .exit)) ⌝ }
 {
     match read_into(net, tokens, arcs) {
         NetAnswer::Refused(why) => refused(Refusal::Net(why)),
         NetAnswer::Accepted(places, transitions) => {
-            let read = read_record(lim, places, transitions, text, rec);
-            let answer = read.answer;
-            if let RecordAnswer::Refused(why) = answer {
-                return refused(Refusal::Record(why));
-            }
-            let s = read.counts;
-            Accepted {
-                verdict: judge(places, transitions, tokens, arcs, s, rec, w),
+            let b = Bounds {
+                limits,
                 places,
-                events: s.events,
-                conditions: s.conditions,
+                transitions,
+            };
+            if text.len() <= 128 {
+                let mut marks = [0u64; 512];
+                return accept_record(b, text, tokens, arcs, rec, &mut marks, w);
             }
+            let mut marks = [0u64; 2048];
+            accept_record(b, text, tokens, arcs, rec, &mut marks, w)
         }
     }
 }

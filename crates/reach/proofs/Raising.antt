@@ -7,12 +7,15 @@ use mathlib.Core.List.{List}
 use Prim.Native.Nat.{ℕ, _+_, _-_, _*_, _/_, _%_, _^_, _≤_, _<_, min, max}
 use native.Mathlib.Decide.{ℕ-discrete, decLe}
 use native.Mathlib.Omega.{arith}
-use lib.Bits.{bitOr}
+use lib.Bits.{bitOr, bitAnd}
+use lib.Dec.{eqb, ltb}
+use borrow.Author.Tests.{eq-eqb, ne-eqb, lt-ltb, le-ltb}
 use lib.ListN.{length, getD, set, length-set}
 use lib.Seq.{getD-set-same, getD-set-other}
 use Rattle.bit_sets.specs.Bits.{bit, bit-most, bit-or, bit-zero, bit-pow, bit-pow-other}
 use Rattle.bit_sets.specs.Sets.{has, has-low, has-high, has-most}
-use Rattle.reach.specs.Rows.{words, valueOf, Sub, rowOf, cellOf, way, Good, Raised}
+use Rattle.bit_sets.proofs.Laws.{bit-test}
+use Rattle.reach.specs.Rows.{valueOf, Sub, rowOf, cellOf, way, Raised}
 
 -- ---- a set has f by a bit: in which of its words, and at which place there
 
@@ -52,10 +55,10 @@ bit-stays w k x i j f l h d = elim (ℕ-discrete j k) [
 
 -- ---- the pair of e and f
 
-module _ (w v v′ : List ℕ) (e f at p q : ℕ) (b : Bool) (e<128 : e < 128) (f<128 : f < 128) (n : length w ≡ words) (g : Good w) (hp : p ≡ 2 ^ (f % 64)) (hq : q ≡ cond b p 0)
+module _ (w v v′ : List ℕ) (e f at p q : ℕ) (b : Bool) (n : 4 * e + 4 ≤ length w) (f<128 : f < 128) (g : Sub (rowOf w e)) (hp : p ≡ 2 ^ (f % 64)) (hq : q ≡ cond b p 0)
     (ha : at ≡ 4 * e + f / 64) (hv : v ≡ joined w at p) (hv′ : v′ ≡ joined v (at + 2) q) where
-  long : length v ≡ words
-  long = ap length hv ∙ length-set w at _ ∙ n
+  long : length v ≡ length w
+  long = ap length hv ∙ length-set w at _
 
   p-bit : ((i : ℕ) → i ≢ place f → bit p i ≡ 0) × (bit p (place f) ≡ 1)
   p-bit =
@@ -99,20 +102,20 @@ module _ (w v v′ : List ℕ) (e f at p q : ℕ) (b : Bool) (e<128 : e < 128) (
     strict-stays = has-bit v′ (4 * i + 2) (4 * i + 3) j (omega arith)
         ∙ rw hv′ (bit-stays v (at + 2) q (place f) (4 * i + 2 + word j) (place j) (omega (arith, long)) (q-bit b hq .0) (λ k l. d (one-cell i j e f (omega arith) l))) ∙ sym (strict-was i j)
 
-  sub-stays : (i j : ℕ) → i < 128 → ((i ≡ e) × (j ≡ f) → ⊥) → has (rowOf v′ i .strict) j ≤ has (rowOf v′ i .path) j
-  unfolding Good Sub
-  sub-stays i j l d = omega (arith, path-stays i j d, strict-stays i j d, g i l j)
+  sub-stays : (i j : ℕ) → Sub (rowOf w i) → ((i ≡ e) × (j ≡ f) → ⊥) → has (rowOf v′ i .strict) j ≤ has (rowOf v′ i .path) j
+  unfolding Sub
+  sub-stays i j l d = omega (arith, path-stays i j d, strict-stays i j d, l j)
 
   here-is : (b : Bool) → has (rowOf v′ e .strict) f ≡ max (has (rowOf w e .strict) f) (way b - 1) → cellOf v′ e f ≡ max (cellOf w e f) (way b)
-  unfolding cellOf valueOf Good Sub
+  unfolding cellOf valueOf Sub
   here-is true h = omega (arith, h, path-here, has-most (rowOf w e .path) f, has-most (rowOf w e .strict) f)
-  here-is false h = omega (arith, h, path-here, has-most (rowOf w e .path) f, g e e<128 f)
+  here-is false h = omega (arith, h, path-here, has-most (rowOf w e .path) f, g f)
 
   pub raised-is : Raised w e f (way b) v′
-  unfolding cellOf valueOf Good Sub
+  unfolding cellOf valueOf Sub
   raised-is = record {
-    long = ap length hv′ ∙ length-set v (at + 2) _ ∙ long ∙ sym n;
-    good = λ i l j. elim (ℕ-discrete i e) [
+    long = ap length hv′ ∙ length-set v (at + 2) _ ∙ long;
+    sub = λ i l j. elim (ℕ-discrete i e) [
       | no d ↦ sub-stays i j l (λ z. d (z .0))
       | yes y ↦ elim (ℕ-discrete j f) [
         | no d ↦ sub-stays i j l (λ z. d (z .1))
@@ -122,3 +125,17 @@ module _ (w v v′ : List ℕ) (e f at p q : ℕ) (b : Bool) (e<128 : e < 128) (
     here = here-is b strict-here;
     other = λ i j d. ap₂ _+_ (path-stays i j d) (strict-stays i j d);
   }
+
+-- ---- a value that is not 0, by one bit
+
+not-zero : (x y : ℕ) → x < 2 → y ≤ x → eqb x 1 ≡ ltb 0 (x + y)
+not-zero x y l h = elim (ℕ-discrete x 1) [
+  | yes q ↦ eq-eqb x 1 q ∙ sym (lt-ltb 0 (x + y) (omega arith))
+  | no d ↦ ne-eqb x 1 d ∙ sym (le-ltb 0 (x + y) (omega arith))
+]
+
+pub related-is : (w : List ℕ) (e f : ℕ) → f < 128 → Sub (rowOf w e) → eqb (bitAnd (getD w (4 * e + f / 64) 0 / 2 ^ (f % 64)) 1) 1 ≡ ltb 0 (cellOf w e f)
+unfolding cellOf valueOf rowOf Sub
+related-is w e f u g =
+    let h : bitAnd (getD w (4 * e + f / 64) 0 / 2 ^ (f % 64)) 1 ≡ has (rowOf w e .path) f = bit-test _ (f % 64) ∙ ap₂ (λ (i j : ℕ). bit (getD w i 0) j) (omega arith) (omega arith) ∙ sym (has-bit w (4 * e) (4 * e + 1) f refl) in
+    ap (λ (x : ℕ). eqb x 1) h ∙ not-zero _ _ (has-most (rowOf w e .path) f) (g f)

@@ -1,5 +1,5 @@
+pub mod Marks
 pub mod Stores
 pub mod Steps
 pub mod Plain
 pub mod Reading
-pub mod Bits

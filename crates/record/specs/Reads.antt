@@ -1,9 +1,11 @@
 -- What the functions of the reader promise.
-use Prim.Native.Nat.{ℕ, _≤_}
+use Prim.Native.Nat.{ℕ, _+_, _*_, _≤_, _<_, min}
 use mathlib.Core.Path.{_≡_}
 use mathlib.Core.Bool.{Bool, true, false, cond}
+use mathlib.Core.Logic.{_⊎_}
 use mathlib.Core.List.{List}
 use lib.ListN.{length, getD}
+use lib.Dec.{eqb}
 use Rattle.spec.specs.Answer.{Answer, gives, refuses}
 use Rattle.spec.specs.Text.{linesOf, byLines}
 use Rattle.spec.specs.Net.{Net, places}
@@ -18,7 +20,9 @@ use Rattle.spec.specs.declared.MarkKind.the-variants.{Before, After}
 use Rattle.spec.specs.declared.Limits.{Limits}
 use Rattle.lines.specs.Agree.{Agrees, refusedAs}
 use Rattle.lines.specs.Lines.{LineTo}
-use Rattle.record.specs.Holds.{HoldsRecord, HoldsBits}
+use Rattle.reach.specs.Rows.{Sub, rowOf}
+use Rattle.record.specs.Holds.{HoldsRecord, HoldsMarks}
+use Rattle.record.specs.declared.Bounds.{Bounds}
 use Rattle.record.specs.declared.Counts.{Counts}
 use Rattle.record.specs.declared.RecordRead.{RecordRead}
 use Rattle.record.specs.declared.Took.{Took}
@@ -56,34 +60,37 @@ noValues R = tt
 abbrev pub Keeps : Counts → List ℕ → RunRecord → Type 0
 Keeps s b R = HoldsRecord (s .events) (s .conditions) (s .marks) b R
 
--- and bits that tell where it has marks
-pub record Holds (s : Counts) (b : List ℕ) (R : RunRecord) : Type 0 where
+-- and the words its marks
+pub record Holds (s : Counts) (b words : List ℕ) (R : RunRecord) : Type 0 where
   pub columns : Keeps s b R
-  pub bits : HoldsBits b R
+  pub marks : HoldsMarks words R
 
--- limits, places and transitions whose numbers the bytes have room for
-pub record Room (lim : Limits) (ps ts : ℕ) : Type 0 where
-  pub events : lim .events ≤ 128
-  pub conditions : lim .conditions ≤ 512
-  pub marks : lim .marks ≤ 4096
-  pub places : ps ≤ 32
-  pub transitions : ts ≤ 32
+-- bounds whose numbers the bytes have room for
+pub record Room (b : Bounds) : Type 0 where
+  pub events : b .limits .events ≤ 128
+  pub conditions : b .limits .conditions ≤ 512
+  pub places : b .places ≤ 32
+  pub transitions : b .transitions ≤ 32
 
--- bytes that hold nothing yet
-pub record Blank (b : List ℕ) : Type 0 where
-  pub long : 26240 ≤ length b
-  pub zero : (i : ℕ) → getD b i 0 ≡ 0
+-- words that hold no mark yet, with four for each condition that a text can have: no more than there are bytes
+pub record Blank (text words : List ℕ) : Type 0 where
+  pub room : min 2048 (4 * length text) ≤ length words
+  pub zero : (i : ℕ) → getD words i 0 ≡ 0
 
 -- what the code relies on while it reads
 pub record Fits (s : Counts) (b : List ℕ) : Type 0 where
   pub events : s .events ≤ 128
   pub conditions : s .conditions ≤ 512
-  pub long : 26240 ≤ length b
+  pub long : 1664 ≤ length b
+
+pub record Spans (s : Counts) (words : List ℕ) : Type 0 where
+  pub room : 4 * s .conditions ≤ length words
+  pub sub : (c : ℕ) → Sub (rowOf words c)
 
 -- the net has so many places and transitions
-pub record Declares (ps ts : ℕ) (N : Net) : Type 0 where
-  pub places : places N ≡ ps
-  pub transitions : N .transitions ≡ ts
+pub record Declares (b : Bounds) (N : Net) : Type 0 where
+  pub places : places N ≡ b .places
+  pub transitions : N .transitions ≡ b .transitions
 
 -- the condition and the mark that a line names
 abbrev pub conditionIn : ℕ → Slot → Slot → Condition
@@ -101,15 +108,23 @@ enterRow lim n k w r =
     (cond (isTwo LetterA w) (enterMark lim k (markOf After (valueOf (w .first)) (valueOf (w .second))) r)
     (refuses 31 k))))
 
--- what a step of the definitions answers, of every record that the bytes hold
-abbrev pub Enters : Counts → List ℕ → (RunRecord → Answer RunRecord) → RecordRead → List ℕ → Type 0
-Enters s b f r b′ = (R : RunRecord) → Holds s b R → Agrees noValues (answerOf (r .answer)) (Holds (r .counts) b′) (f R)
+-- what a step of the definitions answers, of every record that the bytes and words hold; it enters one condition at most
+pub record Enters (s : Counts) (b words : List ℕ) (f : RunRecord → Answer RunRecord) (r : RecordRead) (b′ words′ : List ℕ) : Type 0 where
+  pub answers : (R : RunRecord) → Holds s b words R → Agrees noValues (answerOf (r .answer)) (Holds (r .counts) b′ words′) (f R)
+  pub grown : r .counts .conditions ≤ s .conditions + 1
 
 -- the line that starts at a position is entered as the definitions enter line k, and the next one starts at `next`
-pub record Takes (lim : Limits) (ps ts : ℕ) (text : List ℕ) (at k : ℕ) (s : Counts) (b : List ℕ) (r : Took) (b′ : List ℕ) : Type 0 where
+pub record Takes (b : Bounds) (text : List ℕ) (at k : ℕ) (s : Counts) (old words : List ℕ) (r : Took) (new words′ : List ℕ) : Type 0 where
   pub found : LineTo text at (r .next)
-  pub enters : (N : Net) → Declares ps ts N → Enters s b (enterLine lim N k (found .line)) (r .step) b′
+  pub enters : (N : Net) → Declares b N → Enters s old words (enterLine (b .limits) N k (found .line)) (r .step) new words′
 
--- the answer is the paper's, and where it is a record the bytes hold it
-abbrev pub ReadsRecord : Limits → ℕ → ℕ → List ℕ → RecordRead → List ℕ → Type 0
-ReadsRecord lim ps ts text r b = (N : Net) → Declares ps ts N → Agrees noValues (answerOf (r .answer)) (Holds (r .counts) b) (byLines (enterLine lim N) 1 (linesOf text) emptyRecord)
+-- the letters B and A, and their kinds
+abbrev pub MarkLetter : ℕ → Type 0
+MarkLetter b = (b ≡ 66) ⊎ (b ≡ 65)
+
+abbrev pub kindBy : ℕ → MarkKind
+kindBy b = cond (eqb b 65) After Before
+
+-- the answer is the paper's, and where it is a record the bytes and words hold it
+abbrev pub ReadsRecord : Bounds → List ℕ → RecordRead → List ℕ → List ℕ → Type 0
+ReadsRecord b text r rec words = (N : Net) → Declares b N → Agrees noValues (answerOf (r .answer)) (Holds (r .counts) rec words) (byLines (enterLine (b .limits) N) 1 (linesOf text) emptyRecord)

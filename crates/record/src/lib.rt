@@ -1,16 +1,17 @@
 // The record reader: a text becomes a record of bytes, or a refusal.
 ghost use mathlib.Core.Path.{_≡_};
-ghost use mathlib.Core.Bool.{true, false};
-ghost use Prim.Native.Nat.{_+_, _^_, _≤_, _<_};
+ghost use mathlib.Core.Bool.{true};
+ghost use Prim.Native.Nat.{ℕ, _*_, _≤_, _<_};
+ghost use mathlib.Core.List.{List};
 ghost use Rattle.spec.specs.Net.{Net, places as placesOf};
 ghost use Rattle.spec.specs.Process.{isBelow};
 ghost use Rattle.spec.specs.Checking.{enterEvent, enterCondition, enterMark, enterLine};
 ghost use Rattle.forms.specs.Rows.{eventOf};
 ghost use Rattle.lines.specs.Lines.{lineOf};
-ghost use Rattle.plain.specs.Plain.{Opens};
-ghost use Rattle.record.specs.Holds.{eventCode, kindCode, conditionOf, bitOf};
+ghost use Rattle.reach.specs.Rows.{way};
+ghost use Rattle.record.specs.Holds.{eventCode, kindCode};
 ghost use lib.ListN.{length};
-ghost use Rattle.record.specs.Reads.{Room, Blank, Fits, Declares, Enters, Takes, conditionIn, markOf, enterRow, ReadsRecord};
+ghost use Rattle.record.specs.Reads.{goesOf, Room, Blank, Fits, Spans, Declares, Enters, Takes, MarkLetter, kindBy, conditionIn, markOf, enterRow, ReadsRecord};
 use fields::row_of;
 use forms::Row;
 use forms::Slot;
@@ -22,29 +23,27 @@ use lines::line_at;
 use plain::one_at;
 use plain::three_at;
 use plain::two_at;
+use reach::raise;
+use reach::related;
 use spec::Class;
 use spec::Limits;
 use spec::MarkKind;
 
 // Where the bytes of a record stand. Before PLACES stand the transitions of the events; then from each number on the places
-// of the conditions, their producers, their consumers; of the marks, in the order of the text, their kinds, their events, and
-// their conditions less the multiples of 256, and these; and a bit for each event and condition, 512 for each event, that is
-// set where they are marked.
+// of the conditions, their producers, their consumers. The marks stand in words beside them, as `reach` has its rows: in the row of a
+// condition an event has 1 under B, 2 under A, and 0 where there is no mark.
 pub const PLACES: usize = 128;
 
 pub const PRODUCERS: usize = 640;
 
 pub const CONSUMERS: usize = 1152;
 
-pub const KINDS: usize = 1664;
-
-pub const EVENTS: usize = 5760;
-
-pub const LOWS: usize = 9856;
-
-pub const HIGHS: usize = 13952;
-
-pub const MARKED: usize = 18048;
+// What a record may have, and the places and transitions that its net has.
+pub struct Bounds {
+    pub limits: Limits,
+    pub places: usize,
+    pub transitions: usize,
+}
 
 // How many events, conditions and marks a record has.
 pub struct Counts {
@@ -103,13 +102,13 @@ fn event_code(f: Slot) -> usize
     }
 }
 
-// The byte of a mark.
-fn kind_code(x: MarkKind) -> u8
-    ensures { λ r. ⌜ r ≡ kindCode x ⌝ }
+// Whether a mark is A.
+fn is_after(x: MarkKind) -> bool
+    ensures { λ r. ⌜ way r ≡ kindCode x ⌝ }
 {
     match x {
-        MarkKind::Before => 1,
-        MarkKind::After => 2,
+        MarkKind::Before => false,
+        MarkKind::After => true,
     }
 }
 
@@ -138,24 +137,18 @@ fn refused(why: RecordRefusal, s: Counts) -> RecordRead
 }
 
 // One more event.
-fn enter_event(
-    lim: Limits,
-    transitions: usize,
-    k: usize,
-    t: usize,
-    s: Counts,
-    rec: &mut [u8],
-) -> RecordRead
-    requires { ⌜ (lim .events ≤ 128) × (transitions ≤ 32) × Fits s (now rec) ⌝ }
-    ensures { λ r. ⌜ ((N : Net) → N .transitions ≡ transitions → Enters s (now (rec .entry)) (enterEvent lim N k t) r (now (rec .exit))) ⌝ }
+fn enter_event(b: Bounds, k: usize, t: usize, s: Counts, rec: &mut [u8]) -> RecordRead
+    requires { ⌜ Room b × Fits s (now rec) ⌝ }
+    ensures { λ r. ⌜ ((N : Net) (marks : List ℕ) → N .transitions ≡ b .transitions → Enters s (now (rec .entry)) marks (enterEvent (b .limits) N k t) r (now (rec .exit)) marks) ⌝ }
 {
+    let lim = b.limits;
     if (s.conditions != 0) | (s.marks != 0) {
         return refused(RecordRefusal::Malformed(k), s);
     }
     if lim.events <= s.events {
         return refused(RecordRefusal::LimitPassed(k), s);
     }
-    if transitions <= t {
+    if b.transitions <= t {
         return refused(RecordRefusal::Undeclared(k), s);
     }
     let e = s.events;
@@ -165,8 +158,7 @@ fn enter_event(
 
 // One more condition.
 fn enter_condition(
-    lim: Limits,
-    places: usize,
+    b: Bounds,
     k: usize,
     p: usize,
     producer: Slot,
@@ -174,9 +166,10 @@ fn enter_condition(
     s: Counts,
     rec: &mut [u8],
 ) -> RecordRead
-    requires { ⌜ (lim .conditions ≤ 512) × (places ≤ 32) × Fits s (now rec) ⌝ }
-    ensures { λ r. ⌜ ((N : Net) → placesOf N ≡ places → Enters s (now (rec .entry)) (enterCondition lim N k (conditionIn p producer consumer)) r (now (rec .exit))) ⌝ }
+    requires { ⌜ Room b × Fits s (now rec) ⌝ }
+    ensures { λ r. ⌜ ((N : Net) (marks : List ℕ) → placesOf N ≡ b .places → Enters s (now (rec .entry)) marks (enterCondition (b .limits) N k (conditionIn p producer consumer)) r (now (rec .exit)) marks) ⌝ }
 {
+    let lim = b.limits;
     if s.marks != 0 {
         return refused(RecordRefusal::Malformed(k), s);
     }
@@ -184,7 +177,7 @@ fn enter_condition(
         return refused(RecordRefusal::LimitPassed(k), s);
     }
     let n = s.events;
-    if !((p < places) & event_below(n, producer) & event_below(n, consumer)) {
+    if !((p < b.places) & event_below(n, producer) & event_below(n, consumer)) {
         return refused(RecordRefusal::Undeclared(k), s);
     }
     let c = s.conditions;
@@ -194,35 +187,20 @@ fn enter_condition(
     entered(n, c + 1, s.marks)
 }
 
-// Whether bit i of a byte is set.
-fn is_set(b: u8, i: usize) -> bool
-    requires { ⌜ i < 8 ⌝ }
-    ensures { λ r. ⌜ r ≡ bitOf b i ⌝ }
-{
-    (b >> i) % 2 == 1
-}
-
-// A byte with bit i, which was not set.
-fn with_bit(b: u8, i: usize) -> u8
-    requires { ⌜ (i < 8) × (bitOf b i ≡ false) ⌝ }
-    ensures { λ r. ⌜ r ≡ b + 2 ^ i ⌝ }
-{
-    b + (1u8 << i)
-}
-
 // One more mark.
 fn enter_mark(
-    lim: Limits,
+    b: Bounds,
     x: MarkKind,
     k: usize,
     c: usize,
     e: usize,
     s: Counts,
-    rec: &mut [u8],
+    marks: &mut [u64],
 ) -> RecordRead
-    requires { ⌜ (lim .marks ≤ 4096) × Fits s (now rec) ⌝ }
-    ensures { λ r. ⌜ Enters s (now (rec .entry)) (enterMark lim k (markOf x c e)) r (now (rec .exit)) ⌝ }
+    requires { ⌜ Room b × (s .events ≤ 128) × Spans s (now marks) ⌝ }
+    ensures { λ r. ⌜ ((rec : List ℕ) → Enters s rec (now (marks .entry)) (enterMark (b .limits) k (markOf x c e)) r rec (now (marks .exit))) ⌝ }
 {
+    let lim = b.limits;
     if lim.marks <= s.marks {
         return refused(RecordRefusal::LimitPassed(k), s);
     }
@@ -232,72 +210,62 @@ fn enter_mark(
     if s.events <= e {
         return refused(RecordRefusal::Undeclared(k), s);
     }
-    let at = MARKED + 64 * e + c / 8;
-    let i = c % 8;
-    let b = rec[at];
-    if is_set(b, i) {
+    if related(marks, c, e) {
         return refused(RecordRefusal::MarkedAlready(k), s);
     }
-    let q = s.marks;
-    rec[at] = with_bit(b, i);
-    rec[KINDS + q] = kind_code(x);
-    rec[EVENTS + q] = e as u8;
-    rec[LOWS + q] = (c % 256) as u8;
-    rec[HIGHS + q] = (c / 256) as u8;
-    entered(s.events, s.conditions, q + 1)
+    raise(marks, c, e, is_after(x));
+    entered(s.events, s.conditions, s.marks + 1)
 }
 
 // What a line says is entered.
 fn enter_row(
-    lim: Limits,
-    places: usize,
-    transitions: usize,
+    b: Bounds,
     k: usize,
     w: Row,
     s: Counts,
     rec: &mut [u8],
+    marks: &mut [u64],
 ) -> RecordRead
-    requires { ⌜ Room lim places transitions × Fits s (now rec) ⌝ }
-    ensures { λ r. ⌜ ((N : Net) → Declares places transitions N → Enters s (now (rec .entry)) (enterRow lim N k w) r (now (rec .exit))) ⌝ }
+    requires { ⌜ Room b × Fits s (now rec) × Spans s (now marks) ⌝ }
+    ensures { λ r. ⌜ ((N : Net) → Declares b N → Enters s (now (rec .entry)) (now (marks .entry)) (enterRow (b .limits) N k w) r (now (rec .exit)) (now (marks .exit))) ⌝ }
 {
     let first = w.first;
     let second = w.second;
     let third = w.third;
-    let a = number_in(first);
-    let b = number_in(second);
+    let x = number_in(first);
+    let y = number_in(second);
     if is_one(Class::LetterE, w) {
-        return enter_event(lim, transitions, k, a, s, rec);
+        return enter_event(b, k, x, s, rec);
     }
     if is_three(Class::LetterC, w) {
-        return enter_condition(lim, places, k, a, second, third, s, rec);
+        return enter_condition(b, k, x, second, third, s, rec);
     }
     if is_two(Class::LetterB, w) {
-        return enter_mark(lim, MarkKind::Before, k, a, b, s, rec);
+        return enter_mark(b, MarkKind::Before, k, x, y, s, marks);
     }
     if is_two(Class::LetterA, w) {
-        return enter_mark(lim, MarkKind::After, k, a, b, s, rec);
+        return enter_mark(b, MarkKind::After, k, x, y, s, marks);
     }
     refused(RecordRefusal::Malformed(k), s)
 }
 
 // A line is entered, if it is ended.
 fn enter_line(
-    lim: Limits,
-    places: usize,
-    transitions: usize,
+    b: Bounds,
     k: usize,
     l: &[u8],
     ended: bool,
     s: Counts,
     rec: &mut [u8],
+    marks: &mut [u64],
 ) -> RecordRead
-    requires { ⌜ Room lim places transitions × Fits s (now rec) ⌝ }
-    ensures { λ r. ⌜ ((N : Net) → Declares places transitions N → Enters s (now (rec .entry)) (enterLine lim N k (lineOf (now (l .entry)) ended)) r (now (rec .exit))) ⌝ }
+    requires { ⌜ Room b × Fits s (now rec) × Spans s (now marks) ⌝ }
+    ensures { λ r. ⌜ ((N : Net) → Declares b N → Enters s (now (rec .entry)) (now (marks .entry)) (enterLine (b .limits) N k (lineOf (now (l .entry)) ended)) r (now (rec .exit)) (now (marks .exit))) ⌝ }
 {
     if !ended {
         return refused(RecordRefusal::Malformed(k), s);
     }
-    enter_row(lim, places, transitions, k, row_of(4, l), s, rec)
+    enter_row(b, k, row_of(4, l), s, rec, marks)
 }
 
 // A line that was entered, and where the next one starts.
@@ -308,7 +276,7 @@ pub struct Took {
 
 // Whether the letter is one of the two kinds of marks.
 fn mark_letter(b: u8) -> bool
-    ensures { λ r. ⌜ (r ≡ true → Opens b) ⌝ }
+    ensures { λ r. ⌜ (r ≡ true → MarkLetter b) ⌝ }
 {
     if b == b'B' {
         return true;
@@ -316,33 +284,59 @@ fn mark_letter(b: u8) -> bool
     b == b'A'
 }
 
-// The line that starts at a position is entered. A plain line is read in one walk; any other goes to the readers of lines and
-// fields, and so does every malformed one.
-fn enter_at(
-    lim: Limits,
-    places: usize,
-    transitions: usize,
+// The kind of mark that a letter of the two stands for.
+fn kind_of(b: u8) -> MarkKind
+    ensures { λ r. ⌜ r ≡ kindBy b ⌝ }
+{
+    if b == b'A' {
+        MarkKind::After
+    } else {
+        MarkKind::Before
+    }
+}
+
+// The line that starts at a position is entered by the readers of lines and fields, whatever it is.
+fn enter_any(
+    b: Bounds,
     k: usize,
     text: &[u8],
     at: usize,
     s: Counts,
     rec: &mut [u8],
+    marks: &mut [u64],
 ) -> Took
-    requires { ⌜ (at < length (now text)) × Room lim places transitions × Fits s (now rec) ⌝ }
-    ensures { λ r. ⌜ Takes lim places transitions (now (text .entry)) at k s (now (rec .entry)) r (now (rec .exit)) ⌝ }
+    requires { ⌜ (at < length (now text)) × Room b × Fits s (now rec) × Spans s (now marks) ⌝ }
+    ensures { λ r. ⌜ Takes b (now (text .entry)) at k s (now (rec .entry)) (now (marks .entry)) r (now (rec .exit)) (now (marks .exit)) ⌝ }
+{
+    let line = line_at(text, at);
+    let end = line.end;
+    let step = enter_line(b, k, &text[at..end], line.ended, s, rec, marks);
+    Took {
+        step,
+        next: line.next,
+    }
+}
+
+// The line that starts at a position is entered. A plain line is read in one walk; any other goes to the readers of lines and
+// fields, and so does every malformed one.
+fn enter_at(
+    b: Bounds,
+    k: usize,
+    text: &[u8],
+    at: usize,
+    s: Counts,
+    rec: &mut [u8],
+    marks: &mut [u64],
+) -> Took
+    requires { ⌜ (at < length (now text)) × Room b × Fits s (now rec) × Spans s (now marks) ⌝ }
+    ensures { λ r. ⌜ Takes b (now (text .entry)) at k s (now (rec .entry)) (now (marks .entry)) r (now (rec .exit)) (now (marks .exit)) ⌝ }
 {
     let letter = text[at];
     if mark_letter(letter) {
         let f = two_at(4, text, at);
         if at < f.next {
-            if letter == b'B' {
-                let step = enter_mark(lim, MarkKind::Before, k, f.a, f.b, s, rec);
-                return Took { step, next: f.next };
-            }
-            if letter == b'A' {
-                let step = enter_mark(lim, MarkKind::After, k, f.a, f.b, s, rec);
-                return Took { step, next: f.next };
-            }
+            let step = enter_mark(b, kind_of(letter), k, f.a, f.b, s, marks);
+            return Took { step, next: f.next };
         }
     }
     if letter == b'C' {
@@ -350,45 +344,24 @@ fn enter_at(
         if at < f.next {
             let producer = f.b;
             let consumer = f.c;
-            let step = enter_condition(lim, places, k, f.a, producer, consumer, s, rec);
+            let step = enter_condition(b, k, f.a, producer, consumer, s, rec);
             return Took { step, next: f.next };
         }
     }
     if letter == b'E' {
         let f = one_at(4, text, at);
         if at < f.next {
-            let step = enter_event(lim, transitions, k, f.a, s, rec);
+            let step = enter_event(b, k, f.a, s, rec);
             return Took { step, next: f.next };
         }
     }
-    let line = line_at(text, at);
-    let end = line.end;
-    let step = enter_line(
-        lim,
-        places,
-        transitions,
-        k,
-        &text[at..end],
-        line.ended,
-        s,
-        rec,
-    );
-    Took {
-        step,
-        next: line.next,
-    }
+    enter_any(b, k, text, at, s, rec, marks)
 }
 
-// The record that a text declares, in bytes that are all zero before.
-pub fn read_record(
-    lim: Limits,
-    places: usize,
-    transitions: usize,
-    text: &[u8],
-    rec: &mut [u8],
-) -> RecordRead
-    requires { ⌜ Room lim places transitions × Blank (now rec) ⌝ }
-    ensures { λ r. ⌜ ReadsRecord lim places transitions (now (text .entry)) r (now (rec .exit)) ⌝ }
+// The record that a text declares, in bytes and in words for its marks that are all zero before.
+pub fn read_record(b: Bounds, text: &[u8], rec: &mut [u8], marks: &mut [u64]) -> RecordRead
+    requires { ⌜ Room b × (1664 ≤ length (now rec)) × Blank (now text) (now marks) ⌝ }
+    ensures { λ r. ⌜ ReadsRecord b (now (text .entry)) r (now (rec .exit)) (now (marks .exit)) × (goesOf (r .answer) ≡ true → 4 * r .counts .conditions ≤ length (now (marks .exit))) ⌝ }
 {
     let mut s = Counts {
         events: 0,
@@ -398,7 +371,7 @@ pub fn read_record(
     let mut k: usize = 1;
     let mut at: usize = 0;
     while at < text.len() {
-        let took = enter_at(lim, places, transitions, k, text, at, s, rec);
+        let took = enter_at(b, k, text, at, s, rec, marks);
         let step = took.step;
         let answer = step.answer;
         s = step.counts;
@@ -409,19 +382,4 @@ pub fn read_record(
         at = took.next;
     }
     entered(s.events, s.conditions, s.marks)
-}
-
-fn wide(b: u8) -> usize
-    ensures { λ r. ⌜ (r ≡ b) × (r < 256) ⌝ }
-{
-    b as usize
-}
-
-// The condition of mark i.
-pub fn condition_of(rec: &[u8], i: usize) -> usize
-    requires { ⌜ (i < 4096) × (18048 ≤ length (now rec)) ⌝ }
-    ensures { λ r. ⌜ r ≡ conditionOf (now (rec .entry)) i ⌝ }
-{
-    let low = wide(rec[LOWS + i]);
-    low + 256 * wide(rec[HIGHS + i])
 }

@@ -18,10 +18,9 @@ use Rattle.lists.specs.Laws
 use Rattle.lists.specs.Tables.{table-same}
 use Rattle.columns.specs.Columns.{column, column-at}
 use Rattle.bit_sets.specs.Bits.{bit}
-use Rattle.record.specs.Holds.{kindCode, noMark}
 use Rattle.record_lines.specs.Lines.{cellAt, dueAt, earlierAt, kindIf, markBytes}
 use Rattle.recording.specs.Bytes.{joinedTo, eventBytes, conditionBytes, marksBytes, historyBytes, CodedTo, Writable}
-use Rattle.recording.specs.Notes.{noteOf, notesOf, notesTo, historyNotes, NotesHistory, noteIf, notesIf, Puts, Room, textOf}
+use Rattle.recording.specs.Notes.{noteOf, notesOf, notesTo, historyNotes, noteIf, notesIf, Puts, Room, textOf}
 use Rattle.recording.specs.Sets.{bitAt, Placed, WatchedBy}
 use Rattle.recording.specs.declared.Ends.{Ends}
 use Rattle.recording.proofs.Words.{at-most, Left, lowest, lowest-word, left-within, skipped, left-rest, rest-less, nothing-left}
@@ -42,69 +41,59 @@ module _ (rec ks : List ℕ) (e c : ℕ) where
   unfolding noteIf
   note-other d h = rw (ne-eqb (getD rec (640 + c) 0) e d, h)
 
--- marks noted do not change what the marks are made of
-module _ (old new : List ℕ) (kept : (i : ℕ) → i < 1664 → getD new i 0 ≡ getD old i 0) (ks : List ℕ) (e : ℕ) where
-  pub note-kept : (b c : ℕ) → c < 512 → noteIf b new ks e c ≡ noteIf b old ks e c
-  unfolding noteIf
-  note-kept b c h = rw (kept (640 + c) (omega arith), kept (1152 + c) (omega arith))
-
-  pub notes-kept : (w at : ℕ → ℕ) (n : ℕ) → ((i : ℕ) → i < n → at i < 512) → notesIf w new ks e at n ≡ notesIf w old ks e at n
-  unfolding notesIf
-  notes-kept w at n h = ap flat (table-same (λ i. noteIf (w i) new ks e (at i)) (λ i. noteIf (w i) old ks e (at i)) n (λ i l. note-kept (w i) (at i) (h i l)))
-
 -- ---- the marks of a word, from its lowest bit on
 
 module _ (word : ℕ) (rec ks : List ℕ) (e first : ℕ) where
   abbrev here : ℕ → List Mark
   here i = noteIf (bit word i) rec ks e (first + i)
 
-  pub word-none : (a : Ends) (out : List ℕ) → Puts (notesIf (bit word) rec ks e (λ i. first + i) 0) a out rec a out rec
+  pub word-none : (a : Ends) (out words : List ℕ) → Puts (notesIf (bit word) rec ks e (λ i. first + i) 0) a out words a out words
   unfolding notesIf
-  word-none a out = parts-begin here a out rec
+  word-none a out words = parts-begin here a out words
 
   -- bits that are not set add nothing
-  word-skip : {a b : Ends} {out mid rem : List ℕ} (d i : ℕ) → d ≤ i → ((j : ℕ) → d ≤ j → j < i → bit word j ≡ 0)
-      → Puts (notesIf (bit word) rec ks e (λ j. first + j) d) a out rec b mid rem → Puts (notesIf (bit word) rec ks e (λ j. first + j) i) a out rec b mid rem
+  word-skip : {a b : Ends} {out mid words rem : List ℕ} (d i : ℕ) → d ≤ i → ((j : ℕ) → d ≤ j → j < i → bit word j ≡ 0)
+      → Puts (notesIf (bit word) rec ks e (λ j. first + j) d) a out words b mid rem → Puts (notesIf (bit word) rec ks e (λ j. first + j) i) a out words b mid rem
   unfolding notesIf
   word-skip d i h z x =
       let q : d + (i - d) ≡ i = omega arith in
       puts-as (parts-skip here d (i - d) (λ j l u. note-unset rec ks e (first + j) (z j l (omega arith))) ∙ ap (λ (n : ℕ). flat (map here (upTo n))) q) x
 
   module _ (few : first + 64 ≤ 512) {bits d i : ℕ} (L : Left word bits d) (t : i ≡ trailingZeros 64 bits) (z : bits ≡ 0 → ⊥)
-      {a b : Ends} {out mid rem : List ℕ} (x : Puts (notesIf (bit word) rec ks e (λ j. first + j) d) a out rec b mid rem) where
+      {a b : Ends} {out mid words rem : List ℕ} (x : Puts (notesIf (bit word) rec ks e (λ j. first + j) d) a out words b mid rem) where
     low : (i < 64) × (bit bits i ≡ 1)
     low = lowest L t z
 
     set : bit word i ≡ 1
     set = lowest-word L t (low .1)
 
-    at-lowest : Puts (notesIf (bit word) rec ks e (λ j. first + j) i) a out rec b mid rem
+    at-lowest : Puts (notesIf (bit word) rec ks e (λ j. first + j) i) a out words b mid rem
     at-lowest = word-skip d i (left-within L t (low .1)) (skipped L t (low .1)) x
 
-    same : noteIf 1 rem ks e (first + i) ≡ here i
-    same = note-kept rec rem (x .kept) ks e 1 (first + i) (omega (arith, low .0)) ∙ ap (λ (n : ℕ). noteIf n rec ks e (first + i)) (sym set)
+    same : noteIf 1 rec ks e (first + i) ≡ here i
+    same = ap (λ (n : ℕ). noteIf n rec ks e (first + i)) (sym set)
 
     -- what the mark at the lowest bit asks for
-    pub word-room : ((j : ℕ) → j < 64 → bit word j ≡ 1 → getD rec (1152 + (first + j)) 0 ≤ 128) → Room (notesIf (bit word) rec ks e (λ j. first + j) 64) a out rec
-        → (first + i < 512) × (getD rem (1152 + (first + i)) 0 ≤ 128) × Room (noteIf 1 rem ks e (first + i)) b mid rem
+    pub word-room : ((j : ℕ) → j < 64 → bit word j ≡ 1 → getD rec (1152 + (first + j)) 0 ≤ 128) → Room (notesIf (bit word) rec ks e (λ j. first + j) 64) a out words
+        → (first + i < 512) × (getD rec (1152 + (first + i)) 0 ≤ 128) × Room (noteIf 1 rec ks e (first + i)) b mid rem
     unfolding notesIf
     word-room c R = (
       omega (arith, low .0),
-      omega (arith, x .kept (1152 + (first + i)) (omega (arith, low .0)), c i (low .0) set),
+      c i (low .0) set,
       room-as (sym same) (parts-room here i 64 at-lowest (low .0) R),
     )
 
     -- the mark is put, and its bit is cleared
-    pub word-next : {c : Ends} {new ren : List ℕ} → Puts (noteIf 1 rem ks e (first + i)) b mid rem c new ren
-        → (n : ℕ) × (n ≤ 64) × Left word (bitAnd bits (bitXor bits ((1 * 2 ^ i) % 2 ^ 64))) n × Puts (notesIf (bit word) rec ks e (λ j. first + j) n) a out rec c new ren
+    pub word-next : {c : Ends} {new ren : List ℕ} → Puts (noteIf 1 rec ks e (first + i)) b mid rem c new ren
+        → (n : ℕ) × (n ≤ 64) × Left word (bitAnd bits (bitXor bits ((1 * 2 ^ i) % 2 ^ 64))) n × Puts (notesIf (bit word) rec ks e (λ j. first + j) n) a out words c new ren
     unfolding notesIf
     word-next y = (i + 1, omega (arith, low .0), left-rest L t (low .1) (low .0), parts-next here i at-lowest (puts-as same y))
 
     pub word-less : bitAnd bits (bitXor bits ((1 * 2 ^ i) % 2 ^ 64)) < bits
     word-less = rest-less L t (low .1) (low .0)
 
-  pub word-end : {bits d : ℕ} {a b : Ends} {out mid rem : List ℕ} → Left word bits d → d ≤ 64 → bits ≡ 0
-      → Puts (notesIf (bit word) rec ks e (λ j. first + j) d) a out rec b mid rem → Puts (notesIf (bit word) rec ks e (λ j. first + j) 64) a out rec b mid rem
+  pub word-end : {bits d : ℕ} {a b : Ends} {out mid words rem : List ℕ} → Left word bits d → d ≤ 64 → bits ≡ 0
+      → Puts (notesIf (bit word) rec ks e (λ j. first + j) d) a out words b mid rem → Puts (notesIf (bit word) rec ks e (λ j. first + j) 64) a out words b mid rem
   word-end {d = d} L h z x = word-skip d 64 h (λ j l u. nothing-left L z j l) x
 
 -- ---- the words of a row
@@ -125,35 +114,34 @@ row-word watched rec ks e t w =
     ∙ ap (λ (ws : List (List Mark)). flat (map f (upTo (64 * w))) ++ flat ws) (table-same (λ i. f (64 * w + i)) (λ i. noteIf (bit (getD watched (8 * t + w) 0) i) rec ks e (64 * w + i)) 64 (λ i l. ap (λ (b : ℕ). noteIf b rec ks e (64 * w + i)) (word-bit watched t w i l)))
 
 module _ (watched rec ks : List ℕ) (e t : ℕ) where
-  pub row-none : (a : Ends) (out : List ℕ) → Puts (notesIf (bitAt watched t) rec ks e (λ c. c) (64 * 0)) a out rec a out rec
+  pub row-none : (a : Ends) (out words : List ℕ) → Puts (notesIf (bitAt watched t) rec ks e (λ c. c) (64 * 0)) a out words a out words
   unfolding notesIf
-  row-none a out = parts-begin (λ c. noteIf (bitAt watched t c) rec ks e c) a out rec
+  row-none a out words = parts-begin (λ c. noteIf (bitAt watched t c) rec ks e c) a out words
 
-  module _ (w : ℕ) (h : w < 8) {a b : Ends} {out mid rem : List ℕ} (x : Puts (notesIf (bitAt watched t) rec ks e (λ c. c) (64 * w)) a out rec b mid rem) where
+  module _ (w : ℕ) (h : w < 8) where
     abbrev word : ℕ
     word = getD watched (8 * t + w) 0
 
-    word-kept : notesIf (bit word) rem ks e (λ i. 64 * w + i) 64 ≡ notesIf (bit word) rec ks e (λ i. 64 * w + i) 64
-    word-kept = notes-kept rec rem (x .kept) ks e (bit word) (λ i. 64 * w + i) 64 (λ i l. omega arith)
-
-    pub row-low : ((c : ℕ) → c < 512 → bitAt watched t c ≡ 1 → getD rec (1152 + c) 0 ≤ 128) → (i : ℕ) → i < 64 → bit word i ≡ 1 → getD rem (1152 + (64 * w + i)) 0 ≤ 128
-    row-low g i l b = omega (arith, x .kept (1152 + (64 * w + i)) (omega arith), g (64 * w + i) (omega arith) (word-bit watched t w i l ∙ b))
+    pub row-low : ((c : ℕ) → c < 512 → bitAt watched t c ≡ 1 → getD rec (1152 + c) 0 ≤ 128) → (i : ℕ) → i < 64 → bit word i ≡ 1 → getD rec (1152 + (64 * w + i)) 0 ≤ 128
+    row-low g i l b = g (64 * w + i) (omega arith) (word-bit watched t w i l ∙ b)
 
     -- there is room for the marks of the next word
-    pub row-room : Room (notesIf (bitAt watched t) rec ks e (λ c. c) 512) a out rec → Room (notesIf (bit word) rem ks e (λ i. 64 * w + i) 64) b mid rem
+    pub row-room : {a b : Ends} {out mid words rem : List ℕ} → Puts (notesIf (bitAt watched t) rec ks e (λ c. c) (64 * w)) a out words b mid rem → Room (notesIf (bitAt watched t) rec ks e (λ c. c) 512) a out words
+        → Room (notesIf (bit word) rec ks e (λ i. 64 * w + i) 64) b mid rem
     unfolding notesIf
-    row-room R =
+    row-room x R =
         let f : ℕ → List Mark = λ c. noteIf (bitAt watched t c) rec ks e c in
         let q : 64 * w + 64 + (512 - (64 * w + 64)) ≡ 512 = omega arith in
         let whole = room-as (ap (λ (k : ℕ). flat (map f (upTo k))) (sym q) ∙ parts-behind f (64 * w + 64) (512 - (64 * w + 64))) R in
-        room-as (sym word-kept) (room-behind x (room-as (row-word watched rec ks e t w) (room-before _ whole)))
+        room-behind x (room-as (row-word watched rec ks e t w) (room-before _ whole))
 
-    pub row-next : {c : Ends} {new ren : List ℕ} → Puts (notesIf (bit word) rem ks e (λ i. 64 * w + i) 64) b mid rem c new ren → Puts (notesIf (bitAt watched t) rec ks e (λ c. c) (64 * (w + 1))) a out rec c new ren
-    row-next y =
+    pub row-next : {a b c : Ends} {out mid new words rem ren : List ℕ} → Puts (notesIf (bitAt watched t) rec ks e (λ c. c) (64 * w)) a out words b mid rem → Puts (notesIf (bit word) rec ks e (λ i. 64 * w + i) 64) b mid rem c new ren
+        → Puts (notesIf (bitAt watched t) rec ks e (λ c. c) (64 * (w + 1))) a out words c new ren
+    row-next x y =
         let q : 64 * w + 64 ≡ 64 * (w + 1) = omega arith in
-        puts-as (sym (row-word watched rec ks e t w) ∙ ap (notesIf (bitAt watched t) rec ks e (λ c. c)) q) (puts-after x (puts-as word-kept y))
+        puts-as (sym (row-word watched rec ks e t w) ∙ ap (notesIf (bitAt watched t) rec ks e (λ c. c)) q) (puts-after x y)
 
-  pub row-end : {w : ℕ} {a b : Ends} {out mid rem : List ℕ} → w ≡ 8 → Puts (notesIf (bitAt watched t) rec ks e (λ c. c) (64 * w)) a out rec b mid rem → Puts (notesIf (bitAt watched t) rec ks e (λ c. c) 512) a out rec b mid rem
+  pub row-end : {w : ℕ} {a b : Ends} {out mid words rem : List ℕ} → w ≡ 8 → Puts (notesIf (bitAt watched t) rec ks e (λ c. c) (64 * w)) a out words b mid rem → Puts (notesIf (bitAt watched t) rec ks e (λ c. c) 512) a out words b mid rem
   row-end q x = puts-as (ap (λ (n : ℕ). notesIf (bitAt watched t) rec ks e (λ c. c) (64 * n)) q) x
 
 -- ---- the bytes of a record as columns
@@ -217,41 +205,36 @@ module _ (arcs ks : List ℕ) (n : ℕ) {sets rec : List ℕ} {m : ℕ} (P : Pla
   abbrev to-event : ℕ → List Mark
   to-event = notesTo (column 2048 1024 arcs) (column 0 128 rec) ks (column 128 512 rec) (column 640 512 rec) (column 1152 512 rec) m
 
-  pub marks-none : (a : Ends) (out : List ℕ) → Puts (to-event 0) a out rec a out rec
+  pub marks-none : (a : Ends) (out words : List ℕ) → Puts (to-event 0) a out words a out words
   unfolding notesTo
-  marks-none a out = parts-begin of-event a out rec
+  marks-none a out words = parts-begin of-event a out words
 
-  module _ (e : ℕ) (l : e < n) {a b : Ends} {out mid rem : List ℕ} (x : Puts (to-event e) a out rec b mid rem) where
+  module _ (e : ℕ) (l : e < n) where
     abbrev t : ℕ
-    t = getD rem e 0
+    t = getD rec e 0
 
     le : e < 128
     le = omega (arith, H .events)
 
-    is : t ≡ getD rec e 0
-    is = x .kept e (omega (arith, le))
-
     pub marks-row : t < 32
-    marks-row = omega (arith, is, H .low e l, event-byte rec e le)
+    marks-row = omega (arith, H .low e l, event-byte rec e le)
 
     module _ (watched : List ℕ) (W : WatchedBy arcs sets t 32 watched) where
-      row-same : notesIf (bitAt watched t) rem ks e (λ c. c) 512 ≡ of-event e
-      row-same =
-          notes-kept rec rem (x .kept) ks e (bitAt watched t) (λ c. c) 512 (λ c h. h)
-          ∙ row-notes P W (H .conditions) (placed-low rec m (H .conditions) (H .coded)) ks e le is marks-row
+      row-same : notesIf (bitAt watched t) rec ks e (λ c. c) 512 ≡ of-event e
+      row-same = row-notes P W (H .conditions) (placed-low rec m (H .conditions) (H .coded)) ks e le refl marks-row
 
-      pub marks-low : (c : ℕ) → c < 512 → bitAt watched t c ≡ 1 → getD rem (1152 + c) 0 ≤ 128
-      marks-low c h q = let u = watched-low P W c h q in omega (arith, x .kept (1152 + c) (omega arith), H .coded c u .consumer, column-at 1152 512 rec c h)
+      pub marks-low : (c : ℕ) → c < 512 → bitAt watched t c ≡ 1 → getD rec (1152 + c) 0 ≤ 128
+      marks-low c h q = let u = watched-low P W c h q in omega (arith, H .coded c u .consumer, column-at 1152 512 rec c h)
 
-      pub marks-room : Room (to-event n) a out rec → Room (notesIf (bitAt watched t) rem ks e (λ c. c) 512) b mid rem
+      pub marks-room : {a b : Ends} {out mid words rem : List ℕ} → Puts (to-event e) a out words b mid rem → Room (to-event n) a out words → Room (notesIf (bitAt watched t) rec ks e (λ c. c) 512) b mid rem
       unfolding notesTo
-      marks-room R = room-as (sym row-same) (parts-room of-event e n x l R)
+      marks-room x R = room-as (sym row-same) (parts-room of-event e n x l R)
 
-      pub marks-next : {c : Ends} {new ren : List ℕ} → Puts (notesIf (bitAt watched t) rem ks e (λ c. c) 512) b mid rem c new ren → Puts (to-event (e + 1)) a out rec c new ren
+      pub marks-next : {a b c : Ends} {out mid new words rem ren : List ℕ} → Puts (to-event e) a out words b mid rem → Puts (notesIf (bitAt watched t) rec ks e (λ c. c) 512) b mid rem c new ren → Puts (to-event (e + 1)) a out words c new ren
       unfolding notesTo
-      marks-next y = parts-next of-event e x (puts-as row-same y)
+      marks-next x y = parts-next of-event e x (puts-as row-same y)
 
-  pub marks-end : {e : ℕ} {a b : Ends} {out mid rem : List ℕ} → e ≡ n → Puts (to-event e) a out rec b mid rem → Puts (historyNotes (column 2048 1024 arcs) (historyAt n m rec ks [])) a out rec b mid rem
+  pub marks-end : {e : ℕ} {a b : Ends} {out mid words rem : List ℕ} → e ≡ n → Puts (to-event e) a out words b mid rem → Puts (historyNotes (column 2048 1024 arcs) (historyAt n m rec ks [])) a out words b mid rem
   unfolding historyNotes
   marks-end q x = puts-as (ap to-event q) x
 
@@ -292,29 +275,3 @@ history-length hs h =
     let es = joinedTo (eventBytes (h .transitions)) (h .events) in
     let cs = joinedTo (conditionBytes (h .places) (h .producers) (h .consumers)) (h .conditions) in
     omega (arith, ap length (history-text hs h), length-append (es ++ cs) (textOf (historyNotes hs h)), length-append es cs)
-
--- the history is noted
-module _ {hs rec ks out new ren : List ℕ} {at n m : ℕ} {r : Ends} (few : n ≤ 128) (most : m ≤ 512) where
-  pub noted : 18048 ≤ length rec → Puts (historyNotes hs (historyAt n m rec ks [])) (record { at = at; marks = 0 }) out rec r new ren
-      → NotesHistory hs (historyAt n m rec ks []) (record { events = n; conditions = m; marks = r .marks }) rec ren
-  unfolding column
-  noted long x =
-      let ws = historyNotes hs (historyAt n m rec ks []) in
-      let N = x .noted long in
-      record {
-        long = x .long;
-        events = refl;
-        conditions = refl;
-        marks = omega (arith, x .next);
-        transition = λ e l. x .kept e (omega arith) ∙ sym (event-byte rec e (omega arith));
-        place = λ c l. x .kept (128 + c) (omega arith) ∙ sym (column-at 128 512 rec c (omega arith));
-        producer = λ c l. x .kept (640 + c) (omega arith) ∙ sym (column-at 640 512 rec c (omega arith));
-        consumer = λ c l. x .kept (1152 + c) (omega arith) ∙ sym (column-at 1152 512 rec c (omega arith));
-        kind = λ i l. entry (λ w. kindCode (w .kind)) 1664 ws (N .kinds) i (omega (arith, x .next));
-        event = λ i l. entry (λ w. w .event) 5760 ws (N .events) i (omega (arith, x .next));
-        low = λ i l. entry (λ w. w .condition % 256) 9856 ws (N .lows) i (omega (arith, x .next));
-        high = λ i l. entry (λ w. w .condition / 256) 13952 ws (N .highs) i (omega (arith, x .next));
-      }
-    where
-      entry : (f : Mark → ℕ) (o : ℕ) (ws : List Mark) → column o (0 + length ws) ren ≡ column o 0 rec ++ map f ws → (i : ℕ) → i < length ws → getD ren (o + i) 0 ≡ f (getD ws i noMark)
-      entry f o ws e i l = sym (column-at o (0 + length ws) ren i (omega arith)) ∙ ap (λ (xs : List ℕ). getD xs i 0) e ∙ Laws.getD-map-in f ws i 0 noMark l

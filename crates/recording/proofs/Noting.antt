@@ -1,95 +1,55 @@
 -- Marks written and noted one after the other.
-use Prim.Native.Nat.{ℕ, zero, suc, _+_, _-_, _*_, _/_, _%_, _≤_, _<_}
+use Prim.Native.Nat.{ℕ, zero, suc, _+_, _≤_, _<_, max}
 use mathlib.Core.Path.{_≡_, refl, sym, ap, _∙_, subst}
+use mathlib.Core.Bool.{Bool, true, false, true≢false}
 use mathlib.Core.List.{List, [], _∷_, _++_, map, map-append, append-nil, append-assoc}
-use native.Mathlib.Nat.{add-zero}
-use native.Mathlib.Numerals.{add-one}
+use native.Mathlib.Nat.{add-zero, max-zero}
 use native.Mathlib.Omega.{arith}
-use lib.ListN.{length, getD, set, take, drop, length-set, length-append, length-drop}
-use lib.Seq.{getD-set-other, drop-set-add, take-suc-set}
+use lib.ListN.{length, length-append}
 use Rattle.spec.specs.Lists.{upTo, flat}
-use Rattle.spec.specs.Record.{Mark, markLine, markLineOf}
+use Rattle.spec.specs.Record.{Mark, markLine, markLineOf, isAt}
 use Rattle.lists.specs.Laws
 use Rattle.lists.specs.Parts.{parts-none, parts-more, parts-within}
-use Rattle.columns.specs.Columns.{column, store-below, store-past}
 use Rattle.writing.specs.Written.{Wrote}
 use Rattle.writing.proofs.Laws.{none, after, wrote-length}
-use Rattle.record.specs.Holds.{kindCode}
-use Rattle.recording.specs.Notes.{Notes, NotesMark, Puts, Room, textOf}
+use Rattle.reach.specs.Rows.{cellOf, way, Raised}
+use Rattle.record_lines.specs.Lines.{kindIf}
+use Rattle.record.specs.Holds.{kindCode, markValue}
+use Rattle.record.proofs.Marks.{value-append, value-one, says-here, says-away, at-both, at-own}
+use Rattle.recording.specs.Notes.{NotesMarks, Puts, Room, textOf}
 use Rattle.recording.specs.declared.Ends.{Ends}
 
 -- ---- one mark
 
--- one entry behind a column
-column-more : (at k : ℕ) (xs : List ℕ) (v : ℕ) → at + k < length xs → column at (k + 1) (set xs (at + k) v) ≡ column at k xs ++ v ∷ []
-unfolding column
-column-more at k xs v h = rw (add-one k) (ap (take (suc k)) (drop-set-add at xs k v) ∙ take-suc-set (drop at xs) k v (omega (arith, length-drop at xs)))
+pub noting : (w : Mark) {b b′ : List ℕ} → Raised b (w .condition) (w .event) (kindCode (w .kind)) b′ → NotesMarks (w ∷ []) b b′
+noting w {b} {b′} r = record { long = r .long; sub = λ h c. r .sub c (h c); cell = λ l c e. go c e (isAt c e w) refl }
+  where
+    go : (c e : ℕ) (t : Bool) → isAt c e w ≡ t → cellOf b′ c e ≡ max (cellOf b c e) (markValue (w ∷ []) c e)
+    go c e true q =
+        let p = at-both w c e q in
+        rw (← p .0, ← p .1) (r .here ∙ omega (arith, value-one w (w .condition) (w .event), says-here w (w .condition) (w .event) (at-own w _ _ refl refl)))
+    go c e false q = r .other c e (λ z. true≢false (sym (at-own w c e (z .0) (z .1)) ∙ q)) ∙ omega (arith, value-one w c e, says-away w c e q)
 
--- four stores
-module _ (b : List ℕ) (k x g l q : ℕ) (u : k < 4096) (long : 18048 ≤ length b) where
-  abbrev s1 : List ℕ
-  s1 = set b (1664 + k) x
+-- the way of a mark's number
+pub after-code : (b : Bool) → way b ≡ kindCode (kindIf b)
+after-code true = refl
+after-code false = refl
 
-  abbrev s2 : List ℕ
-  s2 = set s1 (5760 + k) g
-
-  abbrev s3 : List ℕ
-  s3 = set s2 (9856 + k) l
-
-  abbrev s4 : List ℕ
-  s4 = set s3 (13952 + k) q
-
-  notes-here : (w : Mark) → x ≡ kindCode (w .kind) → g ≡ w .event → l ≡ w .condition % 256 → q ≡ w .condition / 256 → Notes k (w ∷ []) b s4
-  notes-here w hx hg hl hq = record {
-    kinds = store-past 1664 (k + 1) s3 (13952 + k) q (omega arith) ∙ store-past 1664 (k + 1) s2 (9856 + k) l (omega arith) ∙ store-past 1664 (k + 1) s1 (5760 + k) g (omega arith)
-        ∙ column-more 1664 k b x (omega arith) ∙ ap (λ (v : ℕ). column 1664 k b ++ v ∷ []) hx;
-    events = store-past 5760 (k + 1) s3 (13952 + k) q (omega arith) ∙ store-past 5760 (k + 1) s2 (9856 + k) l (omega arith)
-        ∙ column-more 5760 k s1 g (omega (arith, length-set b (1664 + k) x)) ∙ ap (λ (xs : List ℕ). xs ++ g ∷ []) (store-below 5760 k b (1664 + k) x (omega arith)) ∙ ap (λ (v : ℕ). column 5760 k b ++ v ∷ []) hg;
-    lows = store-past 9856 (k + 1) s3 (13952 + k) q (omega arith)
-        ∙ column-more 9856 k s2 l (omega (arith, length-set s1 (5760 + k) g, length-set b (1664 + k) x))
-        ∙ ap (λ (xs : List ℕ). xs ++ l ∷ []) (store-below 9856 k s1 (5760 + k) g (omega arith) ∙ store-below 9856 k b (1664 + k) x (omega arith)) ∙ ap (λ (v : ℕ). column 9856 k b ++ v ∷ []) hl;
-    highs = column-more 13952 k s3 q (omega (arith, length-set s2 (9856 + k) l, length-set s1 (5760 + k) g, length-set b (1664 + k) x))
-        ∙ ap (λ (xs : List ℕ). xs ++ q ∷ []) (store-below 13952 k s2 (9856 + k) l (omega arith) ∙ store-below 13952 k s1 (5760 + k) g (omega arith) ∙ store-below 13952 k b (1664 + k) x (omega arith))
-        ∙ ap (λ (v : ℕ). column 13952 k b ++ v ∷ []) hq;
-  }
-
-  before : (i : ℕ) → i < 1664 → getD s4 i 0 ≡ getD b i 0
-  before i h = getD-set-other s3 (13952 + k) i q 0 (omega arith) ∙ getD-set-other s2 (9856 + k) i l 0 (omega arith) ∙ getD-set-other s1 (5760 + k) i g 0 (omega arith) ∙ getD-set-other b (1664 + k) i x 0 (omega arith)
-
-  pub noting : (w : Mark) → x ≡ kindCode (w .kind) → g ≡ w .event → l ≡ w .condition % 256 → q ≡ w .condition / 256 → NotesMark k w b s4
-  noting w hx hg hl hq = record {
-    long = length-set s3 (13952 + k) q ∙ length-set s2 (9856 + k) l ∙ length-set s1 (5760 + k) g ∙ length-set b (1664 + k) x;
-    kept = before;
-    noted = λ h. notes-here w hx hg hl hq;
-  }
-
-pub unnoted : (k : ℕ) (w : Mark) (b : List ℕ) → length b < 18048 → NotesMark k w b b
-unnoted k w b s = record { long = refl; kept = λ i h. refl; noted = λ h. absurd (omega arith) }
+pub unnoted : (ws : List Mark) (b : List ℕ) → length b < 2048 → NotesMarks ws b b
+unnoted ws b s = record { long = refl; sub = λ h. h; cell = λ l. absurd (omega arith) }
 
 -- ---- marks behind marks
 
--- a column that grows by two lists
-grown : (f : Mark → ℕ) (o k : ℕ) (old mid new : List ℕ) (us vs : List Mark) → column o (k + length us) mid ≡ column o k old ++ map f us
-    → column o (k + length us + length vs) new ≡ column o (k + length us) mid ++ map f vs → column o (k + length (us ++ vs)) new ≡ column o k old ++ map f (us ++ vs)
-grown f o k old mid new us vs a b =
-    let e : k + length (us ++ vs) ≡ k + length us + length vs = omega (arith, length-append us vs) in
-    rw (e, map-append f us vs) (b ∙ ap (λ (xs : List ℕ). xs ++ map f vs) a ∙ append-assoc (column o k old) (map f us) (map f vs))
+notes-none : (b : List ℕ) → NotesMarks [] b b
+unfolding markValue
+notes-none b = record { long = refl; sub = λ h. h; cell = λ l c e. sym (max-zero (cellOf b c e)) }
 
-notes-none : (k : ℕ) (b : List ℕ) → Notes k [] b b
-notes-none k b = record { kinds = same 1664; events = same 5760; lows = same 9856; highs = same 13952 }
-  where
-    same : (o : ℕ) → column o (k + 0) b ≡ column o k b ++ []
-    same o = ap (λ (n : ℕ). column o n b) (add-zero k) ∙ sym (append-nil (column o k b))
-
-notes-after : {old mid new : List ℕ} {us vs : List Mark} (k r : ℕ) → r ≡ k + length us → Notes k us old mid → Notes r vs mid new → Notes k (us ++ vs) old new
-notes-after {old} {mid} {new} {us} {vs} k r e a b =
-    let c = subst (λ (i : ℕ). Notes i vs mid new) e b in
-    record {
-      kinds = grown (λ w. kindCode (w .kind)) 1664 k old mid new us vs (a .kinds) (c .kinds);
-      events = grown (λ w. w .event) 5760 k old mid new us vs (a .events) (c .events);
-      lows = grown (λ w. w .condition % 256) 9856 k old mid new us vs (a .lows) (c .lows);
-      highs = grown (λ w. w .condition / 256) 13952 k old mid new us vs (a .highs) (c .highs);
-    }
+notes-after : {old mid new : List ℕ} {us vs : List Mark} → NotesMarks us old mid → NotesMarks vs mid new → NotesMarks (us ++ vs) old new
+notes-after {us = us} {vs} a b = record {
+  long = b .long ∙ a .long;
+  sub = λ h. b .sub (a .sub h);
+  cell = λ l c e. omega (arith, a .cell l c e, b .cell (omega (arith, a .long)) c e, value-append us vs c e);
+}
 
 text-after : (us vs : List Mark) → textOf us ++ textOf vs ≡ textOf (us ++ vs)
 text-after us vs = sym (ap flat (map-append markLine us vs) ∙ Laws.flat-append (map markLine us) (map markLine vs))
@@ -100,15 +60,13 @@ text-one w = append-nil (markLine w)
 
 pub puts-none : (a : Ends) (out rec : List ℕ) → Puts [] a out rec a out rec
 unfolding flat
-puts-none a out rec = record { text = none out (a .at); next = sym (add-zero (a .marks)); long = refl; kept = λ i h. refl; noted = λ l. notes-none (a .marks) rec }
+puts-none a out rec = record { text = none out (a .at); next = sym (add-zero (a .marks)); noted = notes-none rec }
 
 pub puts-after : {us vs : List Mark} {a b c : Ends} {out mid new rec rem ren : List ℕ} → Puts us a out rec b mid rem → Puts vs b mid rem c new ren → Puts (us ++ vs) a out rec c new ren
-puts-after {us} {vs} {a} {b} x y = record {
+puts-after {us} {vs} x y = record {
   text = rw (← text-after us vs) (after (x .text) (y .text));
   next = omega (arith, x .next, y .next, length-append us vs);
-  long = y .long ∙ x .long;
-  kept = λ i h. y .kept i h ∙ x .kept i h;
-  noted = λ l. notes-after (a .marks) (b .marks) (x .next) (x .noted l) (y .noted (omega (arith, x .long)));
+  noted = notes-after (x .noted) (y .noted);
 }
 
 pub puts-as : {us vs : List Mark} {a b : Ends} {out mid rec rem : List ℕ} → us ≡ vs → Puts us a out rec b mid rem → Puts vs a out rec b mid rem
@@ -122,14 +80,14 @@ pub room-before : {us : List Mark} (vs : List Mark) {a : Ends} {out rec : List �
 room-before {us} vs R = record {
   text = omega (arith, R .text, ap length (text-after us vs), length-append (textOf us) (textOf vs));
   marks = omega (arith, R .marks, length-append us vs);
-  long = R .long;
+  sub = R .sub;
 }
 
 pub room-behind : {us vs : List Mark} {a b : Ends} {out mid rec rem : List ℕ} → Puts us a out rec b mid rem → Room (us ++ vs) a out rec → Room vs b mid rem
 room-behind {us} {vs} x R = record {
   text = omega (arith, R .text, x .text .next, wrote-length (x .text), ap length (text-after us vs), length-append (textOf us) (textOf vs));
   marks = omega (arith, R .marks, x .next, length-append us vs);
-  long = omega (arith, R .long, x .long);
+  sub = x .noted .sub (R .sub);
 }
 
 -- a mark is written and noted
@@ -138,9 +96,9 @@ module _ (w : Mark) {a : Ends} where
   unfolding markLine
   room-one R = omega (arith, R .text, ap length (text-one w))
 
-  pub puts-one : {r : ℕ} {out new rec ren : List ℕ} → Wrote out (a .at) (markLineOf (w .kind) (w .condition) (w .event)) r new → NotesMark (a .marks) w rec ren → Puts (w ∷ []) a out rec (record { at = r; marks = a .marks + 1 }) new ren
+  pub puts-one : {r : ℕ} {out new rec ren : List ℕ} → Wrote out (a .at) (markLineOf (w .kind) (w .condition) (w .event)) r new → NotesMarks (w ∷ []) rec ren → Puts (w ∷ []) a out rec (record { at = r; marks = a .marks + 1 }) new ren
   unfolding markLine
-  puts-one x n = record { text = rw (text-one w) x; next = refl; long = n .long; kept = n .kept; noted = n .noted }
+  puts-one x n = record { text = rw (text-one w) x; next = refl; noted = n }
 
 -- ---- part by part
 
@@ -164,7 +122,7 @@ module _ (f : ℕ → List Mark) where
   parts-room i n x l h = record {
     text = omega (arith, h .text, x .text .next, wrote-length (x .text), ap length (text-parts i), ap length (text-parts n), parts-within (λ j. textOf (f j)) i n l);
     marks = omega (arith, h .marks, x .next, parts-within f i n l);
-    long = omega (arith, h .long, x .long);
+    sub = x .noted .sub (h .sub);
   }
 
   -- parts that are empty add nothing

@@ -1,5 +1,5 @@
--- Marks written, and noted in the bytes of a record.
-use Prim.Native.Nat.{ℕ, _+_, _/_, _%_, _≤_, _<_}
+-- Marks written, and noted in the words of a record.
+use Prim.Native.Nat.{ℕ, _+_, _≤_, max}
 use mathlib.Core.Path.{_≡_}
 use mathlib.Core.Bool.{not, _&&_, cond}
 use mathlib.Core.List.{List, [], _∷_, _++_, map}
@@ -8,10 +8,9 @@ use lib.ListN.{length, getD}
 use Rattle.playing.specs.Holds.{History}
 use Rattle.spec.specs.Lists.{upTo, flat}
 use Rattle.spec.specs.Record.{Mark, markLine}
-use Rattle.columns.specs.Columns.{column}
 use Rattle.writing.specs.Written.{Wrote}
-use Rattle.record.specs.Holds.{kindCode, noMark}
-use Rattle.record.specs.declared.Counts.{Counts}
+use Rattle.reach.specs.Rows.{Sub, rowOf, cellOf}
+use Rattle.record.specs.Holds.{markValue}
 use Rattle.record_lines.specs.Lines.{dueAt, earlierAt, kindIf}
 use Rattle.recording.specs.Bytes.{historyBytes}
 use Rattle.recording.specs.declared.Ends.{Ends}
@@ -30,53 +29,29 @@ notesTo hs ts ks ps gs fs m n = flat (map (notesOf hs ts ks ps gs fs m) (upTo n)
 unfoldable pub historyNotes : List ℕ → History → List Mark
 historyNotes hs h = notesTo hs (h .transitions) (h .steps) (h .places) (h .producers) (h .consumers) (h .conditions) (h .events)
 
--- the history is noted in the bytes of a record
-pub record NotesHistory (hs : List ℕ) (h : History) (s : Counts) (old new : List ℕ) : Type 0 where
-  pub long : length new ≡ length old
-  pub events : s .events ≡ h .events
-  pub conditions : s .conditions ≡ h .conditions
-  pub marks : s .marks ≡ length (historyNotes hs h)
-  pub transition : (e : ℕ) → e < h .events → getD new e 0 ≡ getD (h .transitions) e 0
-  pub place : (c : ℕ) → c < h .conditions → getD new (128 + c) 0 ≡ getD (h .places) c 0
-  pub producer : (c : ℕ) → c < h .conditions → getD new (640 + c) 0 ≡ getD (h .producers) c 0
-  pub consumer : (c : ℕ) → c < h .conditions → getD new (1152 + c) 0 ≡ getD (h .consumers) c 0
-  pub kind : (i : ℕ) → i < s .marks → getD new (1664 + i) 0 ≡ kindCode (getD (historyNotes hs h) i noMark .kind)
-  pub event : (i : ℕ) → i < s .marks → getD new (5760 + i) 0 ≡ getD (historyNotes hs h) i noMark .event
-  pub low : (i : ℕ) → i < s .marks → getD new (9856 + i) 0 ≡ getD (historyNotes hs h) i noMark .condition % 256
-  pub high : (i : ℕ) → i < s .marks → getD new (13952 + i) 0 ≡ getD (historyNotes hs h) i noMark .condition / 256
-
 -- ---- as they are written and noted
 
--- these marks stand behind the first k
-pub record Notes (k : ℕ) (ws : List Mark) (old new : List ℕ) : Type 0 where
-  pub kinds : column 1664 (k + length ws) new ≡ column 1664 k old ++ map (λ w. kindCode (w .kind)) ws
-  pub events : column 5760 (k + length ws) new ≡ column 5760 k old ++ map (λ w. w .event) ws
-  pub lows : column 9856 (k + length ws) new ≡ column 9856 k old ++ map (λ w. w .condition % 256) ws
-  pub highs : column 13952 (k + length ws) new ≡ column 13952 k old ++ map (λ w. w .condition / 256) ws
-
--- so mark w, where the bytes have room for marks; what stands before the marks is as it was
-pub record NotesMark (k : ℕ) (w : Mark) (old new : List ℕ) : Type 0 where
+-- where there are words for marks, these marks are noted there
+pub record NotesMarks (ws : List Mark) (old new : List ℕ) : Type 0 where
   pub long : length new ≡ length old
-  pub kept : (i : ℕ) → i < 1664 → getD new i 0 ≡ getD old i 0
-  pub noted : 18048 ≤ length old → Notes k (w ∷ []) old new
+  pub sub : ((c : ℕ) → Sub (rowOf old c)) → (c : ℕ) → Sub (rowOf new c)
+  pub cell : 2048 ≤ length old → (c e : ℕ) → cellOf new c e ≡ max (cellOf old c e) (markValue ws c e)
 
 -- the lines of marks
 abbrev pub textOf : List Mark → List ℕ
 textOf ws = flat (map markLine ws)
 
--- these marks are written and, where the bytes have room for marks, noted; what stands before the marks is as it was
-pub record Puts (ws : List Mark) (a : Ends) (out rec : List ℕ) (b : Ends) (out′ rec′ : List ℕ) : Type 0 where
+-- these marks are written and noted
+pub record Puts (ws : List Mark) (a : Ends) (out words : List ℕ) (b : Ends) (out′ words′ : List ℕ) : Type 0 where
   pub text : Wrote out (a .at) (textOf ws) (b .at) out′
   pub next : b .marks ≡ a .marks + length ws
-  pub long : length rec′ ≡ length rec
-  pub kept : (i : ℕ) → i < 1664 → getD rec′ i 0 ≡ getD rec i 0
-  pub noted : 18048 ≤ length rec → Notes (a .marks) ws rec rec′
+  pub noted : NotesMarks ws words words′
 
 -- there is room for these marks
-pub record Room (ws : List Mark) (a : Ends) (out rec : List ℕ) : Type 0 where
+pub record Room (ws : List Mark) (a : Ends) (out words : List ℕ) : Type 0 where
   pub text : a .at + length (textOf ws) ≤ length out
   pub marks : a .marks + length ws ≤ 4096
-  pub long : 1664 ≤ length rec
+  pub sub : (c : ℕ) → Sub (rowOf words c)
 
 -- event e's mark at condition c, by a record's bytes, if b is 1 and e did not produce the condition
 unfoldable pub noteIf : ℕ → List ℕ → List ℕ → ℕ → ℕ → List Mark
@@ -88,8 +63,8 @@ notesIf w rec ks e at n = flat (map (λ i. noteIf (w i) rec ks e (at i)) (upTo n
 
 -- ---- the whole record
 
--- the record of a history is written from the start of the buffer and, where the bytes have room for marks, noted
-pub record Recorded (hs : List ℕ) (h : History) (out rec : List ℕ) (r : Ends) (out′ rec′ : List ℕ) : Type 0 where
+-- the record of a history is written from the start of the buffer, and its marks are noted
+pub record Recorded (hs : List ℕ) (h : History) (out words : List ℕ) (r : Ends) (out′ words′ : List ℕ) : Type 0 where
   pub text : Wrote out 0 (historyBytes hs h) (r .at) out′
-  pub long : length rec′ ≡ length rec
-  pub noted : 18048 ≤ length rec → NotesHistory hs h (record { events = h .events; conditions = h .conditions; marks = r .marks }) rec rec′
+  pub count : r .marks ≡ length (historyNotes hs h)
+  pub noted : NotesMarks (historyNotes hs h) words words′

@@ -31,7 +31,7 @@ pub fn replay(net: &[u8], text: &[u8], arrangement: &[u8], out: &mut [u16]) -> R
     }
     let mut tokens = [0u16; 32];
     let mut arcs = [0u8; 3072];
-    let mut rec = [0u8; 26240];
+    let mut rec = [0u8; 1664];
     let mut w = [0u64; 512];
     let accepted = accept(net, text, bench(), &mut tokens, &mut arcs, &mut rec, &mut w);
     let verdict = accepted.verdict;

@@ -1,21 +1,24 @@
 -- Entries of the table raised one after the other.
-use mathlib.Core.Path.{_≡_, refl, sym, ap, _∙_, subst}
-use Prim.Native.Nat.{ℕ, _+_, _≤_, _<_, max}
+use mathlib.Core.Path.{_≡_, refl, sym, ap, ap₂, _∙_, subst}
+use mathlib.Core.Logic.{_≢_, inl, inr}
+use Prim.Native.Nat.{ℕ, _+_, _-_, _*_, _≤_, _<_, min, max}
 use native.Mathlib.Nat.{max-zero}
 use native.Mathlib.Decide.{ℕ-discrete}
 use native.Mathlib.Numerals.{add-one}
 use native.Mathlib.Omega.{arith}
-use mathlib.Core.Bool.{Bool, true, false, cond, and-false, true≢false}
+use mathlib.Core.Bool.{Bool, true, false, cond, and-false}
 use mathlib.Core.List.{List}
 use lib.ListN.{getD}
 use lib.Dec.{eqb}
-use borrow.Author.Tests.{eq-eqb, ne-eqb, eqb-true}
+use borrow.Author.Tests.{eq-eqb, ne-eqb}
 use Rattle.spec.specs.Lists.{upTo, from, greatest}
-use Rattle.order.specs.Below.{maxBelow, max-suc}
-use Rattle.reach.specs.Rows.{cellOf, way, Raised as RaisedOne}
+use Rattle.order.specs.Below.{maxBelow, max-suc, sumBelow, sum-lt}
+use Rattle.bit_sets.specs.Sets.{has, First, has-most}
+use Rattle.bit_sets.specs.declared.Set.{Set}
+use Rattle.reach.specs.Rows.{Sub, rowOf, cellOf, valueOf, Good, Put, Raised as RaisedOne}
+use Rattle.reach.specs.declared.Row.{Row}
 use Rattle.record.specs.declared.Counts.{Counts}
-use Rattle.record.specs.Holds.{conditionOf}
-use Rattle.row_pairs.specs.Relation.{pairIn, conditionPairIn, markPairIn, Ended, overall, relationIn, Raised, Filled}
+use Rattle.row_pairs.specs.Relation.{pairIn, beforesIn, aftersIn, after, before, conditionPairIn, markPairIn, overall, relationIn, Raised, Filled}
 
 -- ---- one entry
 
@@ -35,9 +38,10 @@ pub raise-none : (t : List ℕ) (e f v : ℕ) → 128 ≤ max e f → Raised t (
 raise-none t e f v h = record { long = refl; good = λ g. g; cell = λ i j k l. omega (arith, pair-away e f v i j (λ z. omega (arith, z .0, z .1))) }
 
 pub raise-one : (w w′ : List ℕ) (e f v : ℕ) → RaisedOne w e f v w′ → Raised w (pairIn e f v) w′
+unfolding Good
 raise-one w w′ e f v r = record {
   long = r .long;
-  good = λ _. r .good;
+  good = λ g i l. r .sub i (g i l);
   cell = λ i j k l. elim (ℕ-discrete i e) [
     | yes x ↦ elim (ℕ-discrete j f) [
       | yes y ↦ rw (x, y) (r .here ∙ ap (max (cellOf w e f)) (sym (pair-here e f v)))
@@ -69,36 +73,126 @@ pub condition-raised : {t t′ : List ℕ} (rec : List ℕ) (c : ℕ) {e f : ℕ
 unfolding conditionPairIn
 condition-raised rec c he hf r = raised-as (λ i j _. rw (he, hf) refl) r
 
--- the pair that the tests for B and for A pick is that of the mark; where both fail it is of no event
-picked : (before after : Bool) → (before ≡ true → after ≡ false) → (e p q i j : ℕ) → i < 128
-    → pairIn (cond before e (cond after q 128)) (cond before p e) (way after) i j ≡ cond before (pairIn e p 1 i j) (cond after (pairIn q e 2 i j) 0)
-picked true true h e p q i j l = absurd (true≢false (h refl))
-picked true false h e p q i j l = refl
-picked false true h e p q i j l = refl
-picked false false h e p q i j l = pair-away 128 e 1 i j (λ z. omega (arith, z .0))
+-- a number that is no event has no pairs
+pub afters-none : (t : List ℕ) (f : ℕ) (a : ℕ → ℕ) → 128 ≤ f → Raised t (aftersIn f a) t
+unfolding aftersIn
+afters-none t f a h = record { long = refl; good = λ g. g; cell = λ i j k l. rw (ne-eqb f i (omega arith)) (sym (max-zero _)) }
 
-pub mark-raised : {t t′ : List ℕ} (rec : List ℕ) (k : ℕ) {e c p q n from to : ℕ} → e ≡ getD rec (5760 + k) 0 → c ≡ conditionOf rec k → p ≡ getD rec (640 + c) 0 → q ≡ getD rec (1152 + c) 0
-    → n ≡ cond (eqb (getD rec (1664 + k) 0) 2) q 128 → from ≡ cond (eqb (getD rec (1664 + k) 0) 1) e n → to ≡ cond (eqb (getD rec (1664 + k) 0) 1) p e
-    → Raised t (pairIn from to (way (eqb (getD rec (1664 + k) 0) 2))) t′ → Raised t (markPairIn rec k) t′
-unfolding markPairIn
-mark-raised rec k he hc hp hq hn hf ht r =
-    let x = getD rec (1664 + k) 0 in
-    raised-as (λ i j l. rw (hf, hn, ht, hp, hq, he, hc) (picked (eqb x 1) (eqb x 2) (λ y. ne-eqb x 2 (λ z. omega (arith, eqb-true x 1 y))) _ _ _ i j l)) r
+pub befores-none : (t : List ℕ) (f : ℕ) (b : ℕ → ℕ) → 128 ≤ f → Raised t (beforesIn f b) t
+unfolding beforesIn
+befores-none t f b h = record { long = refl; good = λ g. g; cell = λ i j k l. rw (ne-eqb f j (omega arith)) (sym (max-zero _)) }
 
--- a mark whose pair is one of events has the event that its kind asks for
-pub mark-ended : (rec : List ℕ) (k : ℕ) {e c p q n from to : ℕ} → e ≡ getD rec (5760 + k) 0 → c ≡ conditionOf rec k → p ≡ getD rec (640 + c) 0 → q ≡ getD rec (1152 + c) 0
-    → n ≡ cond (eqb (getD rec (1664 + k) 0) 2) q 128 → from ≡ cond (eqb (getD rec (1664 + k) 0) 1) e n → to ≡ cond (eqb (getD rec (1664 + k) 0) 1) p e
-    → (from < 128) × (to < 128) → Ended rec k
-mark-ended rec k he hc hp hq hn hf ht b =
-    let x = getD rec (1664 + k) 0 in record {
-      before = λ y. rw (← hc, ← hp) (rw (ht, eq-eqb x 1 y) at (b .1));
-      after = λ y. rw (← hc, ← hq) (rw (hf, ne-eqb x 1 (λ z. omega (arith, y, z)), hn, eq-eqb x 2 y) at (b .0));
-    }
+-- a set joined into both sets of row f
+pub afters-put : {w w′ : List ℕ} (f : ℕ) (a : Set) (r s : Row) → f < 128 → Good w → r ≡ rowOf w f → ((e : ℕ) → has (s .path) e ≡ max (has (r .path) e) (has a e)) → ((e : ℕ) → has (s .strict) e ≡ max (has (r .strict) e) (has a e))
+    → Put w f s w′ → Raised w (aftersIn f (has a)) w′
+unfolding Good aftersIn cellOf valueOf Sub
+afters-put {w} {w′} f a r s l g e p q u = record {
+  long = u .long;
+  good = λ h i k. elim (ℕ-discrete i f) [
+    | yes y ↦ rw (y, u .here) (λ j. omega (arith, p j, q j, sub j))
+    | no d ↦ rw (u .other i d) (h i k)
+  ];
+  cell = λ i j k m. elim (ℕ-discrete i f) [
+    | yes y ↦ rw (y, u .here, eq-eqb f f refl, ← e) (omega (arith, p j, q j, sub j, has-most (r .path) j, has-most a j))
+    | no d ↦ rw (u .other i d, ne-eqb f i (λ z. d (sym z))) (sym (max-zero _))
+  ];
+}
+  where
+    sub : (j : ℕ) → has (r .strict) j ≤ has (r .path) j
+    sub j = rw e (g f l j)
+
+-- ---- the events of a set, one after the other
+
+-- the rows have the pairs of those events of a set that are not in the rest
+pub record Befores (w₀ : List ℕ) (f : ℕ) (a rest : Set) (w : List ℕ) : Type 0 where
+  pub raised : Raised w₀ (beforesIn f (λ e. has a e - has rest e)) w
+  pub inside : (e : ℕ) → has rest e ≤ has a e
+
+pub first-in : (a : Set) {r : ℕ} → First a r → r < 128 → has a r ≡ 1
+first-in a (inl p) l = p .1
+first-in a (inr p) l = absurd (omega (arith, p .0))
+
+pub first-none : (a : Set) {r : ℕ} → First a r → 128 ≤ r → (f : ℕ) → f < 128 → has a f ≡ 0
+first-none a (inl p) l = absurd (omega (arith, p .0))
+first-none a (inr p) l = p .1
+
+pub befores-begun : (w : List ℕ) (f : ℕ) (a : Set) → Befores w f a a w
+unfolding beforesIn
+befores-begun w f a = record { raised = record { long = refl; good = λ g. g; cell = λ i j k l. omega (arith, none (eqb f j) (has a i)) }; inside = λ e. omega arith }
+  where
+    none : (b : Bool) (x : ℕ) → cond b (x - x) 0 ≡ 0
+    none true x = omega arith
+    none false x = refl
+
+module _ {w₀ w : List ℕ} {f : ℕ} (e : ℕ) {a rest : Set} (o rest′ : Set) (h : Befores w₀ f a rest w) (q : has rest e ≡ 1) (ho : (has o e ≡ 1) × ((g : ℕ) → g ≢ e → has o g ≡ 0)) (hr : (g : ℕ) → has rest′ g ≡ min (has rest g) (1 - has o g)) where
+  pub befores-less : e < 128 → sumBelow 128 (has rest′) < sumBelow 128 (has rest)
+  befores-less l = sum-lt 128 (has rest′) (has rest) (λ g m. omega (arith, hr g)) e l (omega (arith, hr e, ho .0))
+
+  pub befores-more : {w′ : List ℕ} → RaisedOne w e f 1 w′ → Befores w₀ f a rest′ w′
+  unfolding beforesIn
+  befores-more {w′} r =
+      let p = raise-one w w′ e f 1 r in
+      record {
+        raised = record { long = p .long ∙ h .raised .long; good = λ g. p .good (h .raised .good g); cell = λ i j k l. omega (arith, p .cell i j k l, h .raised .cell i j k l, joined i j) };
+        inside = λ g. omega (arith, hr g, h .inside g);
+      }
+    where
+      joined : (i j : ℕ) → beforesIn f (λ g. has a g - has rest′ g) i j ≡ max (beforesIn f (λ g. has a g - has rest g) i j) (pairIn e f 1 i j)
+      joined i j = elim (ℕ-discrete i e) [
+        | yes y ↦ elim (ℕ-discrete f j) [
+          | yes z ↦ rw (y, ← z, eq-eqb f f refl, pair-here e f 1) (omega (arith, q, hr e, ho .0, h .inside e, has-most a e))
+          | no d ↦ rw (ne-eqb f j d, pair-away e f 1 i j (λ z. d (sym (z .1)))) refl
+        ]
+        | no d ↦ rw (pair-away e f 1 i j (λ z. d (z .0))) (ap (λ (x : ℕ). cond (eqb f j) (has a i - x) 0) (omega (arith, hr i, ho .1 i d, has-most rest i)) ∙ sym (max-zero _))
+      ]
+
+pub befores-end : {w₀ w : List ℕ} {f : ℕ} {a rest : Set} → Befores w₀ f a rest w → ((e : ℕ) → e < 128 → has rest e ≡ 0) → Raised w₀ (beforesIn f (has a)) w
+unfolding beforesIn
+befores-end {f} {a} {rest} h z = raised-as (λ i j k. ap (λ (x : ℕ). cond (eqb f j) x 0) (omega (arith, z i k))) (h .raised)
+
+-- ---- the pairs of the marks at a condition
+
+module _ (rec words : List ℕ) (c : ℕ) {r : Row} (hr : r ≡ rowOf words c) (g : Sub (rowOf words c)) where
+  -- what the sets of the condition's row have
+  after-has : (e : ℕ) → has (r .strict) e ≡ after (cellOf words c e)
+  unfolding cellOf valueOf Sub
+  after-has e = rw hr (omega (arith, g e, has-most (rowOf words c .path) e))
+
+  before-has : (e : ℕ) → min (has (r .path) e) (1 - has (r .strict) e) ≡ before (cellOf words c e)
+  unfolding cellOf valueOf Sub
+  before-has e = rw hr (omega (arith, g e, has-most (rowOf words c .path) e))
+
+  cell-none : (e : ℕ) → has (r .path) e ≡ 0 → cellOf words c e ≡ 0
+  unfolding cellOf valueOf Sub
+  cell-none e z = omega (arith, g e, rw hr at z)
+
+  pub row-none : (t : List ℕ) → ((e : ℕ) → has (r .path) e ≡ 0) → Raised t (markPairIn rec words c) t
+  unfolding markPairIn aftersIn beforesIn
+  row-none t z = record { long = refl; good = λ x. x; cell = λ i j k l. rw (cell-none j (z j), cell-none i (z i)) (omega (arith, nothing (eqb (getD rec (1152 + c) 0) i), nothing (eqb (getD rec (640 + c) 0) j))) }
+    where
+      nothing : (b : Bool) → _≡_ {A = ℕ} (cond b 0 0) 0
+      nothing true = refl
+      nothing false = refl
+
+  pub row-raised : {t t′ t″ : List ℕ} {p q : ℕ} (b : Set) → q ≡ getD rec (1152 + c) 0 → p ≡ getD rec (640 + c) 0 → ((e : ℕ) → has b e ≡ min (has (r .path) e) (1 - has (r .strict) e))
+      → Raised t (aftersIn q (has (r .strict))) t′ → Raised t′ (beforesIn p (has b)) t″ → Raised t (markPairIn rec words c) t″
+  unfolding markPairIn aftersIn beforesIn
+  row-raised {p} {q} b hq hp hb x y = record {
+    long = y .long ∙ x .long;
+    good = λ z. y .good (x .good z);
+    cell = λ i j k l. omega (
+      arith,
+      x .cell i j k l,
+      y .cell i j k l,
+      ap₂ (λ (u v : ℕ). cond (eqb u i) (2 * v) 0) hq (after-has j),
+      ap₂ (λ (u v : ℕ). cond (eqb u j) v 0) hp (hb i ∙ before-has i),
+    );
+  }
 
 -- the marks' pairs in rows that had none, then the conditions'
-pub filled : {t₁ t₂ : List ℕ} (s : Counts) (rec : List ℕ) → ((i j : ℕ) → i < 128 → j < 128 → cellOf t₁ i j ≡ overall (markPairIn rec) (s .marks) i j) → Raised t₁ (overall (conditionPairIn rec) (s .conditions)) t₂ → Filled t₁ (relationIn s rec) t₂
+pub filled : {t₁ t₂ : List ℕ} (s : Counts) (rec words : List ℕ) → ((i j : ℕ) → i < 128 → j < 128 → cellOf t₁ i j ≡ overall (markPairIn rec words) (s .conditions) i j) → Raised t₁ (overall (conditionPairIn rec) (s .conditions)) t₂ → Filled t₁ (relationIn s rec words) t₂
 unfolding relationIn
-filled s rec m a = record {
+filled s rec words m a = record {
   long = a .long;
   good = a .good;
   cell = λ i j k l. omega (arith, a .cell i j k l, m i j k l);

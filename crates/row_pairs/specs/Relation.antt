@@ -1,6 +1,6 @@
--- The pairs of a record as a relation with the values 0, 1, 2, from its bytes, and what raising entries of the rows leaves behind.
+-- The pairs of a record as a relation with the values 0, 1, 2, from its bytes and words, and what raising entries of the rows leaves behind.
 use mathlib.Core.Path.{_≡_}
-use Prim.Native.Nat.{ℕ, _+_, _*_, _<_, max}
+use Prim.Native.Nat.{ℕ, _+_, _-_, _*_, _<_, min, max}
 use mathlib.Core.Bool.{_&&_, cond}
 use mathlib.Core.List.{List}
 use lib.ListN.{length, getD}
@@ -8,7 +8,6 @@ use lib.Dec.{eqb}
 use Rattle.order.specs.Below.{maxBelow}
 use Rattle.reach.specs.Rows.{cellOf, Good}
 use Rattle.record.specs.declared.Counts.{Counts}
-use Rattle.record.specs.Holds.{conditionOf}
 
 -- v for e and f, else 0
 unfoldable pub pairIn : ℕ → ℕ → ℕ → ℕ → ℕ → ℕ
@@ -18,24 +17,31 @@ pairIn e f v i j = cond (eqb e i && eqb f j) v 0
 unfoldable pub conditionPairIn : List ℕ → ℕ → ℕ → ℕ → ℕ
 conditionPairIn rec c i j = pairIn (getD rec (640 + c) 0) (getD rec (1152 + c) 0) 2 i j
 
--- mark i: under B the event to the producer is weak, under A the consumer to the event is strict
-unfoldable pub markPairIn : List ℕ → ℕ → ℕ → ℕ → ℕ
-markPairIn rec k i j =
-    cond (eqb (getD rec (1664 + k) 0) 1) (pairIn (getD rec (5760 + k) 0) (getD rec (640 + conditionOf rec k) 0) 1 i j)
-    (cond (eqb (getD rec (1664 + k) 0) 2) (pairIn (getD rec (1152 + conditionOf rec k) 0) (getD rec (5760 + k) 0) 2 i j) 0)
+-- a weak pair of each event of a set and f, and a strict pair of f and each event of a set
+unfoldable pub beforesIn : ℕ → (ℕ → ℕ) → ℕ → ℕ → ℕ
+beforesIn f b i j = cond (eqb f j) (b i) 0
 
--- mark k has the event that its kind asks for: under B a producer, under A a consumer
-pub record Ended (rec : List ℕ) (k : ℕ) : Type 0 where
-  pub before : getD rec (1664 + k) 0 ≡ 1 → getD rec (640 + conditionOf rec k) 0 < 128
-  pub after : getD rec (1664 + k) 0 ≡ 2 → getD rec (1152 + conditionOf rec k) 0 < 128
+unfoldable pub aftersIn : ℕ → (ℕ → ℕ) → ℕ → ℕ → ℕ
+aftersIn f a i j = cond (eqb f i) (2 * a j) 0
+
+-- what a mark's number says: A is 2, and B is 1
+abbrev pub after : ℕ → ℕ
+after v = v - 1
+
+abbrev pub before : ℕ → ℕ
+before v = min v (2 - v)
+
+-- the marks at condition c: under B the event to the producer is weak, under A the consumer to the event is strict
+unfoldable pub markPairIn : List ℕ → List ℕ → ℕ → ℕ → ℕ → ℕ
+markPairIn rec words c i j = max (aftersIn (getD rec (1152 + c) 0) (λ e. after (cellOf words c e)) i j) (beforesIn (getD rec (640 + c) 0) (λ e. before (cellOf words c e)) i j)
 
 -- the greatest that the first n say
 unfoldable pub overall : (ℕ → ℕ → ℕ → ℕ) → ℕ → ℕ → ℕ → ℕ
 overall v n i j = maxBelow n (λ k. v k i j)
 
 -- all pairs
-unfoldable pub relationIn : Counts → List ℕ → ℕ → ℕ → ℕ
-relationIn s rec i j = max (overall (conditionPairIn rec) (s .conditions) i j) (overall (markPairIn rec) (s .marks) i j)
+unfoldable pub relationIn : Counts → List ℕ → List ℕ → ℕ → ℕ → ℕ
+relationIn s rec words i j = max (overall (conditionPairIn rec) (s .conditions) i j) (overall (markPairIn rec words) (s .conditions) i j)
 
 -- ---- the rows
 

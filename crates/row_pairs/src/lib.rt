@@ -1,17 +1,23 @@
-// The pairs of a record, from its bytes, in rows of bits.
+// The pairs of a record, from its bytes and words, in rows of bits.
 ghost use mathlib.Core.Path.{_≡_};
-ghost use mathlib.Core.Bool.{true, cond};
-ghost use Prim.Native.Nat.{ℕ, _<_, _≤_};
-ghost use Rattle.reach.specs.Rows.{Good, way};
+ghost use Prim.Native.Nat.{ℕ, _*_, _+_, _<_, _≤_};
+ghost use Rattle.bit_sets.specs.Sets.{has};
+ghost use Rattle.reach.specs.Rows.{Good, Sub, rowOf, way};
 ghost use lib.ListN.{length};
-ghost use Rattle.record.specs.Holds.{conditionOf};
-ghost use Rattle.row_pairs.specs.Relation.{pairIn, conditionPairIn, markPairIn, Ended, overall, Raised};
+ghost use Rattle.row_pairs.specs.Relation.{pairIn, beforesIn, aftersIn, conditionPairIn, markPairIn, overall, Raised};
+use bit_sets::Set;
+use bit_sets::first;
+use bit_sets::is_none;
+use bit_sets::less;
+use bit_sets::one;
+use bit_sets::union;
+use reach::Row;
+use reach::put_row;
 use reach::raise;
+use reach::row_at;
+use reach::row_in;
 use record::CONSUMERS;
-use record::EVENTS;
-use record::KINDS;
 use record::PRODUCERS;
-use record::condition_of;
 
 fn wide(b: u8) -> usize
     ensures { λ r. ⌜ (r ≡ b) × (r < 256) ⌝ }
@@ -19,63 +25,86 @@ fn wide(b: u8) -> usize
     b as usize
 }
 
-// The entry of e and f is that of one pair or more, where both are events; whether they are.
-fn raise_pair(w: &mut [u64; 512], e: usize, f: usize, strict: bool) -> bool
+// The entry of e and f is that of a strict pair, where both are events.
+fn raise_pair(w: &mut [u64; 512], e: usize, f: usize)
     requires { ⌜ (length (now w) ≡ 512) × Good (now w) ⌝ }
-    ensures { λ r. ⌜ Raised (now (w .entry)) (pairIn e f (way strict)) (now (w .exit)) × (r ≡ true → (e < 128) × (f < 128)) ⌝ }
+    ensures { λ _. ⌜ Raised (now (w .entry)) (pairIn e f 2) (now (w .exit)) ⌝ }
 {
     if 128 <= e {
-        return false;
+        return;
     }
     if 128 <= f {
-        return false;
+        return;
     }
-    raise(w, e, f, strict);
-    true
+    raise(w, e, f, true);
 }
 
 // The pairs of the conditions.
 pub fn raise_conditions(rec: &[u8], m: usize, w: &mut [u64; 512])
-    requires { ⌜ (m ≤ 512) × (18048 ≤ length (now rec)) × (length (now w) ≡ 512) × Good (now w) ⌝ }
+    requires { ⌜ (m ≤ 512) × (1664 ≤ length (now rec)) × (length (now w) ≡ 512) × Good (now w) ⌝ }
     ensures { λ _. ⌜ Raised (now (w .entry)) (overall (conditionPairIn (now (rec .entry))) m) (now (w .exit)) ⌝ }
 {
     let mut c: usize = 0;
     while c < m {
-        let _raised = raise_pair(w, wide(rec[PRODUCERS + c]), wide(rec[CONSUMERS + c]), true);
+        raise_pair(w, wide(rec[PRODUCERS + c]), wide(rec[CONSUMERS + c]));
         c += 1;
     }
 }
 
-// The first of two numbers, or the second one.
-fn pick(first: bool, x: usize, y: usize) -> usize
-    ensures { λ r. ⌜ r ≡ cond first x y ⌝ }
+// A strict pair of f and each event of a set, where f is an event: the set joins the row of f.
+fn raise_afters(w: &mut [u64; 512], f: usize, set: Set)
+    requires { ⌜ (length (now w) ≡ 512) × Good (now w) ⌝ }
+    ensures { λ _. ⌜ Raised (now (w .entry)) (aftersIn f (has set)) (now (w .exit)) ⌝ }
 {
-    if first { x } else { y }
+    if 128 <= f {
+        return;
+    }
+    let row = row_at(w, f);
+    let path = union(row.path, set);
+    let strict = union(row.strict, set);
+    put_row(w, f, Row { path, strict });
 }
 
-// The pair of mark i; whether it has one. Its kind picks numbers and no way through the code, as no kind can be foreseen from the marks before it; 128 is no event.
-pub fn raise_mark(rec: &[u8], i: usize, w: &mut [u64; 512]) -> bool
-    requires { ⌜ (i < 4096) × (conditionOf (now rec) i < 512) × (18048 ≤ length (now rec)) × (length (now w) ≡ 512) × Good (now w) ⌝ }
-    ensures { λ r. ⌜ Raised (now (w .entry)) (markPairIn (now (rec .entry)) i) (now (w .exit)) × (r ≡ true → Ended (now (rec .entry)) i) ⌝ }
+// A weak pair of each event of a set and f, where f is an event.
+fn raise_befores(w: &mut [u64; 512], f: usize, set: Set)
+    requires { ⌜ (length (now w) ≡ 512) × Good (now w) ⌝ }
+    ensures { λ _. ⌜ Raised (now (w .entry)) (beforesIn f (has set)) (now (w .exit)) ⌝ }
 {
-    let k = rec[KINDS + i];
-    let e = wide(rec[EVENTS + i]);
-    let c = condition_of(rec, i);
-    let producer = wide(rec[PRODUCERS + c]);
-    let consumer = wide(rec[CONSUMERS + c]);
-    let from = pick(k == 1, e, pick(k == 2, consumer, 128));
-    let to = pick(k == 1, producer, e);
-    raise_pair(w, from, to, k == 2)
+    if 128 <= f {
+        return;
+    }
+    let mut rest = set;
+    let mut e = first(rest);
+    while e < 128 {
+        raise(w, e, f, false);
+        rest = less(rest, one(e));
+        e = first(rest);
+    }
+}
+
+// The pairs of the marks at condition c.
+fn raise_row(rec: &[u8], marks: &[u64], c: usize, w: &mut [u64; 512])
+    requires { ⌜ (c < 512) × (1664 ≤ length (now rec)) × (4 * c + 4 ≤ length (now marks)) × Sub (rowOf (now marks) c) × (length (now w) ≡ 512) × Good (now w) ⌝ }
+    ensures { λ _. ⌜ Raised (now (w .entry)) (markPairIn (now (rec .entry)) (now (marks .entry)) c) (now (w .exit)) ⌝ }
+{
+    let row = row_in(marks, c);
+    let path = row.path;
+    let strict = row.strict;
+    if is_none(path) {
+        return;
+    }
+    raise_afters(w, wide(rec[CONSUMERS + c]), strict);
+    raise_befores(w, wide(rec[PRODUCERS + c]), less(path, strict));
 }
 
 // The pairs of the marks.
-pub fn raise_marks(rec: &[u8], k: usize, w: &mut [u64; 512])
-    requires { ⌜ (k ≤ 4096) × ((i : ℕ) → i < k → conditionOf (now rec) i < 512) × (18048 ≤ length (now rec)) × (length (now w) ≡ 512) × Good (now w) ⌝ }
-    ensures { λ _. ⌜ Raised (now (w .entry)) (overall (markPairIn (now (rec .entry))) k) (now (w .exit)) ⌝ }
+pub fn raise_marks(rec: &[u8], marks: &[u64], m: usize, w: &mut [u64; 512])
+    requires { ⌜ (m ≤ 512) × (1664 ≤ length (now rec)) × (4 * m ≤ length (now marks)) × ((c : ℕ) → Sub (rowOf (now marks) c)) × (length (now w) ≡ 512) × Good (now w) ⌝ }
+    ensures { λ _. ⌜ Raised (now (w .entry)) (overall (markPairIn (now (rec .entry)) (now (marks .entry))) m) (now (w .exit)) ⌝ }
 {
-    let mut i: usize = 0;
-    while i < k {
-        let _raised = raise_mark(rec, i, w);
-        i += 1;
+    let mut c: usize = 0;
+    while c < m {
+        raise_row(rec, marks, c, w);
+        c += 1;
     }
 }

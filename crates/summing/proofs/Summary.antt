@@ -45,7 +45,7 @@ module _ (net text : List ℕ) where
 
 -- ---- a record that is held by bytes
 
-module _ {s : Counts} {rec t : List ℕ} {g : ℕ} (K : Noted s rec) (O : Ordered (K .run) t g) where
+module _ {s : Counts} {rec words t : List ℕ} {g : ℕ} (K : Noted s rec words) (O : Ordered (K .run) t g) where
   pub noted-order : Ready (s .events) t × Order (s .events) (cellOf t)
   noted-order = (subst (λ (n : ℕ). Ready n t) (sym (K .held .bytes .events)) (O .order .ready), order-held (K .net) (K .run) (K .held .wellFormed) (K .process) (s .events) t (K .held .bytes .events) (O .order))
 

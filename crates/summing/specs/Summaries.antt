@@ -7,5 +7,5 @@ use Rattle.record.specs.declared.Counts.{Counts}
 use Rattle.held.specs.Noted.{Noted}
 
 -- the summary of the record is written from n on
-abbrev pub Counted : Counts → List ℕ → ℕ → List ℕ → ℕ → List ℕ → Type 0
-Counted s rec n old r new = (K : Noted s rec) → Wrote old n (summary (K .run)) r new
+abbrev pub Counted : Counts → List ℕ → List ℕ → ℕ → List ℕ → ℕ → List ℕ → Type 0
+Counted s rec words n old r new = (K : Noted s rec words) → Wrote old n (summary (K .run)) r new

@@ -27,13 +27,13 @@ fn lines_of(w: &[u64; 512], n: usize) -> usize
     line_count(&a[0..n])
 }
 
-// `Z,events,conditions,pairs,lines` from n on, of the record that the bytes hold: no text is read.
-pub fn put_counts(s: Counts, rec: &[u8], out: &mut [u8], n: usize) -> usize
-    requires { ⌜ (n + 19 ≤ length (now out)) × Noted s (now rec) ⌝ }
-    ensures { λ r. ⌜ Counted s (now (rec .entry)) n (now (out .entry)) r (now (out .exit)) ⌝ }
+// `Z,events,conditions,pairs,lines` from n on, of the record that the bytes and words hold: no text is read.
+pub fn put_counts(s: Counts, rec: &[u8], marks: &[u64], out: &mut [u8], n: usize) -> usize
+    requires { ⌜ (n + 19 ≤ length (now out)) × Noted s (now rec) (now marks) ⌝ }
+    ensures { λ r. ⌜ Counted s (now (rec .entry)) (now (marks .entry)) n (now (out .entry)) r (now (out .exit)) ⌝ }
 {
     let mut w = [0u64; 512];
-    let _low = order(s, rec, &mut w);
+    let _low = order(s, rec, marks, &mut w);
     let events = s.events;
     let fields = [
         Field::Number(events),

@@ -1,6 +1,7 @@
 -- Invariant: the marks at the conditions of the first w words are put.
 use Prim.Native.Nat.{ℕ, _+_, _*_, _-_, _≤_}
 use native.Mathlib.Omega.{arith}
+use lib.ListN.{getD}
 use Rattle.writing.proofs.Laws.{wrote-length}
 use Rattle.recording.specs.Notes.{Puts, notesIf}
 use Rattle.recording.specs.Sets.{bitAt}
@@ -9,29 +10,32 @@ use Rattle.recording.proofs.put_row.Statement.{statement}
 use Rattle.recording.proofs.put_row.Tie as tie
 
 abbrev Inv-loop : tie.InvT-loop
-Inv-loop out₀ rec₀ steps e watched t next₀ w₀ out rec next w = (w ≤ 8) × Puts (notesIf (bitAt watched t) rec₀ steps e (λ c. c) (64 * w)) next₀ out₀ rec₀ next out rec
+Inv-loop out₀ marks₀ rec steps e watched t next₀ w₀ out marks next w = (w ≤ 8) × Puts (notesIf (bitAt watched t) rec steps e (λ c. c) (64 * w)) next₀ out₀ marks₀ next out marks
 
 abbrev μ-loop : tie.MeasureT-loop
-μ-loop out₀ rec₀ steps e watched t next₀ w₀ out rec next w = 8 - w
+μ-loop out₀ marks₀ rec steps e watched t next₀ w₀ out marks next w = 8 - w
 
 pub put-row-spec : {M : Type 1} → statement M
 put-row-spec = tie.close (tie.spec Inv-loop μ-loop
-    (λ c. (omega arith, row-none _ _ _ _ _ _ _))
     (λ c. omega arith)
+    (λ c. omega (arith, c .before .before .before .before .pre .2))
+    (λ c. (omega arith, row-none _ _ _ _ _ _ _ _))
+    (λ c. omega (arith, c .before .before .before .before .before .before .pre .2))
+    (λ c. omega (arith, c .before .before .before .before .before .before .pre .2))
+    (λ c. omega (arith, c .before .before .before .before .before .before .pre .2))
+    (λ c. omega (arith, c .before .before .before .before .before .before .pre .2))
     (λ c. omega arith)
-    (λ c. omega arith)
-    (λ c. omega arith)
-    (λ c. omega arith)
-    (λ c κs. let l = c .before .before .before .before in let s = c .before .before .before .before .before .before .before in let v = l .loop .inv in (
+    (λ c κs. let l = c .before .before .before .before in let s = c .before .before .before .before .before .before .before .before .before in let v = l .loop .inv in let t = getD (s .args .rec .now) (s .args .e) 0 in (
       s .pre .0,
       omega arith,
-      row-low (s .args .watched .now) (s .args .rec .now) (s .args .steps .now) (s .args .e) (s .args .t) (l .loop .w) (omega arith) (v .1) (s .pre .2),
-      row-room (s .args .watched .now) (s .args .rec .now) (s .args .steps .now) (s .args .e) (s .args .t) (l .loop .w) (omega arith) (v .1) (s .pre .3),
+      s .pre .1,
+      row-low (s .args .watched .now) (s .args .rec .now) (s .args .steps .now) (s .args .e) t (l .loop .w) (omega arith) (s .pre .3),
+      row-room (s .args .watched .now) (s .args .rec .now) (s .args .steps .now) (s .args .e) t (l .loop .w) (omega arith) (v .1) (s .pre .4),
     ))
     (λ c. omega arith)
     (λ c. omega arith)
-    (λ c. let l = c .before .before .before .before .before .before .before .before .before in let s = c .before .before .before .before .before .before .before .before .before .before .before .before in let v = l .loop .inv in
-    (omega arith, row-next (s .args .watched .now) (s .args .rec .now) (s .args .steps .now) (s .args .e) (s .args .t) (l .loop .w) (omega arith) (v .1) (c .before .before .before .before .put-word .ensures)))
+    (λ c. let l = c .before .before .before .before .before .before .before .before .before in let s = c .before .before .before .before .before .before .before .before .before .before .before .before .before .before in let v = l .loop .inv in
+    (omega arith, row-next (s .args .watched .now) (s .args .rec .now) (s .args .steps .now) (s .args .e) (getD (s .args .rec .now) (s .args .e) 0) (l .loop .w) (omega arith) (v .1) (c .before .before .before .before .put-word .ensures)))
     (λ c. wrote-length (c .before .loop .inv .1 .text))
-    (λ c. c .before .loop .inv .1 .long)
+    (λ c. c .before .loop .inv .1 .noted .long)
     (λ c. let v = c .before .loop .inv in row-end _ _ _ _ _ (omega arith) (v .1)))

@@ -8,18 +8,16 @@ use Rattle.row_pairs.proofs.raise_marks.Statement.{statement}
 use Rattle.row_pairs.proofs.raise_marks.Tie as tie
 
 abbrev Inv-loop : tie.InvT-loop
-Inv-loop rec k t₀ i₀ t i = (i ≤ k) × (length t ≡ length t₀) × Raised t₀ (overall (markPairIn rec) i) t
+Inv-loop rec marks m w₀ c₀ w c = (c ≤ m) × (length w ≡ length w₀) × Raised w₀ (overall (markPairIn rec marks) c) w
 
 abbrev μ-loop : tie.MeasureT-loop
-μ-loop rec k t₀ i₀ t i = k - i
+μ-loop rec marks m w₀ c₀ w c = m - c
 
 pub raise-marks-spec : {M : Type 1} → statement M
 raise-marks-spec = tie.close (tie.spec Inv-loop μ-loop
     (λ c. (omega arith, refl, overall-none _ _))
-    (λ c κs. let l = c .before .before in let s = l .before .before in
-    (omega arith, s .pre .1 (l .loop .i) (c .before .loop-test .taken), s .pre .2, omega (arith, s .pre .3), l .loop .inv .2 .good (s .pre .4)))
+    (λ c κs. let v = c .before .before .loop .inv in let p = c .before .before .before .before .before .pre in (omega arith, p .1, omega arith, p .3 _, omega (arith, p .4), v .2 .good (p .5)))
     (λ c. omega arith)
     (λ c. omega arith)
-    (λ c. let l = c .before .before .before in
-    (omega arith, omega (arith, c .raise-mark .ensures .0 .long), overall-more _ (l .loop .inv .2) (c .raise-mark .ensures .0)))
+    (λ c. (omega arith, omega (arith, c .raise-row .ensures .long), overall-more _ (c .before .before .before .loop .inv .2) (c .raise-row .ensures)))
     (λ c. overall-end _ _ (omega arith) (c .before .loop .inv .2)))

@@ -1,0 +1,30 @@
+-- Invariant: the pairs of those events of the set that are not in the rest are in the rows, and e is of the rest, or 128. The measure is how many are left.
+use mathlib.Core.Path.{_≡_}
+use native.Mathlib.Omega.{arith}
+use lib.ListN.{length}
+use Rattle.order.specs.Below.{sumBelow}
+use Rattle.bit_sets.specs.Sets.{has, First}
+use Rattle.reach.specs.Rows.{Good}
+use Rattle.row_pairs.proofs.Raising.{Befores, befores-none, befores-begun, befores-less, befores-more, befores-end, first-in, first-none}
+use Rattle.row_pairs.proofs.raise_befores.Statement.{statement}
+use Rattle.row_pairs.proofs.raise_befores.Tie as tie
+
+abbrev Inv-loop : tie.InvT-loop
+Inv-loop w₀ f rest₀ e₀ w rest e = (length w ≡ 512) × First rest e × Befores w₀ f rest₀ rest w
+
+abbrev μ-loop : tie.MeasureT-loop
+μ-loop w₀ f rest₀ e₀ w rest e = sumBelow 128 (has rest)
+
+pub raise-befores-spec : {M : Type 1} → statement M
+unfolding Good
+raise-befores-spec = tie.close (tie.spec Inv-loop μ-loop
+    (λ c. befores-none _ _ _ (c .if1 .taken))
+    (λ c κs. tt)
+    (λ c. (c .before .before .pre .0, c .first .ensures, befores-begun _ _ _))
+    (λ c κs. let l = c .before .loop-test .taken in let v = c .before .before .loop .inv in (omega (arith, v .0), c .before .before .before .before .if1 .left, v .2 .raised .good (c .before .before .before .before .before .pre .1) _ l))
+    (λ c κs. c .before .before .loop-test .taken)
+    (λ c κs. tt)
+    (λ c κs. tt)
+    (λ c. let l = c .before .before .before .before .before .loop-test .taken in let v = c .before .before .before .before .before .before .loop .inv in befores-less _ _ _ (v .2) (first-in _ (v .1) l) (c .before .before .one .ensures) (c .before .less .ensures) l)
+    (λ c. let l = c .before .before .before .before .before .loop-test .taken in let v = c .before .before .before .before .before .before .loop .inv in (omega (arith, c .before .before .before .raise .ensures .long, v .0), c .first2 .ensures, befores-more _ _ _ (v .2) (first-in _ (v .1) l) (c .before .before .one .ensures) (c .before .less .ensures) (c .before .before .before .raise .ensures)))
+    (λ c. let v = c .before .loop .inv in befores-end (v .2) (first-none _ (v .1) (c .loop-test .left))))
