@@ -22,12 +22,12 @@ use Rattle.runs.specs.Sources.{between, condition-pair, before-pair, after-pair
 use Rattle.runs.specs.Values.{weight, valueAt, pairAt, pair-above}
 use Rattle.net.specs.declared.Net.{Net}
 use Rattle.reach.specs.Rows.{cellOf}
-use Rattle.record.specs.Holds.{eventCode, kindCode, HoldsMarks}
-use Rattle.record.proofs.Marks.{kind-some, at-own, value-found, value-once}
-use Rattle.record.specs.declared.Counts.{Counts}
-use Rattle.held.specs.Held.{Held}
+use Rattle.record_columns.specs.Layout.{eventCode, kindCode, HoldsMarks}
+use Rattle.record_columns.proofs.Marks.{kind-some, at-own, value-found, value-once}
+use Rattle.record_columns.specs.declared.Counts.{Counts}
+use Rattle.representation.specs.Held.{Held}
 use Rattle.row_pairs.specs.Relation.{pairIn, conditionPairIn, aftersIn, beforesIn, after, before, markPairIn, overall, relationIn}
-use Rattle.held.proofs.Codes.{in-record}
+use Rattle.representation.proofs.Codes.{in-record}
 
 -- ---- a pair
 

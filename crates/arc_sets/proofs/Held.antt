@@ -10,7 +10,7 @@ use Rattle.spec.specs.Lists.{asCount}
 use Rattle.spec.specs.Net.{Net, joined, takes, makes, inhibits}
 use Rattle.spec.specs.declared.ArcKind.the-variants.{Input, Output, Inhibitor}
 use Rattle.columns.specs.Columns.{column, column-at}
-use Rattle.net.specs.Holds.{Cells}
+use Rattle.net.specs.NetArrays.{Cells}
 use Rattle.bit_sets.specs.Bits.{bit}
 use Rattle.arc_sets.specs.Sets.{RowSet, SetsOf, Arcs, ArcsAt, arcAt, HoldsArcs}
 

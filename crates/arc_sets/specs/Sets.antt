@@ -7,7 +7,7 @@ use lib.ListN.{length, getD}
 use Rattle.spec.specs.Lists.{asCount}
 use Rattle.spec.specs.Net.{Net, places, takes, makes, inhibits}
 use Rattle.columns.specs.Columns.{column}
-use Rattle.net.specs.Holds.{Cells}
+use Rattle.net.specs.NetArrays.{Cells}
 use Rattle.bit_sets.specs.Bits.{bit}
 
 -- the places p below m of which the array has something at row + p

@@ -7,13 +7,13 @@ ghost use Rattle.runs.specs.Flows.{flow, flows};
 ghost use Rattle.runs.specs.Consume.{made-of};
 ghost use Rattle.columns.specs.Columns.{column};
 ghost use Rattle.arc_sets.specs.Sets.{arcAt, Within};
-ghost use Rattle.steps.specs.Holds.{IsStep, Within32};
+ghost use Rattle.steps.specs.StepArrays.{IsStep, Within32};
 ghost use Rattle.conditions.specs.Conditions.{tokensOf, FirstFree, fresh, ReadyAt, TookAt, MadeAt};
 use arc_sets::MADE;
 use arc_sets::lowest;
-use record::CONSUMERS;
-use record::PLACES;
-use record::PRODUCERS;
+use record_columns::CONSUMERS;
+use record_columns::PLACES;
+use record_columns::PRODUCERS;
 use steps::wide;
 
 // How far a run has come, beside the arrays that hold it: the line of the log that is next, its events and its conditions,

@@ -11,8 +11,8 @@ use lib.Dec.{ltb, leb·suc-suc}
 use borrow.Author.Tests.{lt-ltb}
 use Rattle.spec.specs.Text.{isA, Line, onFirst, linesOf}
 use Rattle.spec.specs.declared.Class.the-variants.{LineEnd}
-use Rattle.classes.specs.Scan.{before}
-use Rattle.classes.proofs.Scans.{before-zero, before-suc, within, beyond, width}
+use Rattle.byte_classes.specs.Scan.{before}
+use Rattle.byte_classes.proofs.Scans.{before-zero, before-suc, within, beyond, width}
 use Rattle.lines.specs.Lines.{endFrom, spanTo, lineOf, LineTo, LineAt}
 use Rattle.lines.specs.declared.Span.{Span}
 

@@ -7,7 +7,7 @@ use lib.ListN.{length, drop, take}
 use lib.Dec.{ltb}
 use Rattle.spec.specs.Text.{Line, linesOf}
 use Rattle.spec.specs.declared.Class.the-variants.{LineEnd}
-use Rattle.classes.specs.Scan.{before}
+use Rattle.byte_classes.specs.Scan.{before}
 use Rattle.lines.specs.declared.Span.{Span}
 
 -- where the line ends that starts at a position

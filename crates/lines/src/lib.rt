@@ -3,7 +3,7 @@ ghost use mathlib.Core.Path.{_≡_};
 ghost use Prim.Native.Nat.{_<_, _≤_, max};
 ghost use lib.ListN.{length};
 ghost use Rattle.lines.specs.Lines.{endFrom, spanTo, LineAt};
-use classes::end_of;
+use byte_classes::end_of;
 use spec::Class;
 
 // A line of a text: it ends before `end`, and the next one starts at `next`.

@@ -10,14 +10,14 @@ use lib.Seq.{ext-getD, getD-take, length-take-le}
 use Rattle.spec.specs.Lists.{count, sumOf}
 use Rattle.spec.specs.Net.{Net, places}
 use Rattle.spec.specs.Building.{start, initialOf}
-use Rattle.steps.specs.Holds.{HoldsMarking}
+use Rattle.steps.specs.StepArrays.{HoldsMarking}
 use Rattle.runs.specs.Built.{good-start, start-count, blank as blankCondition}
 use Rattle.lists.specs.Stretch.{MappedFrom}
 use Rattle.columns.specs.Columns.{column, column-length, column-at}
-use Rattle.tallying.specs.Tally.{heldIn, watchedFrom, ownAll, tallyAt, Tallied}
-use Rattle.playing.specs.Holds.{History, Starts}
-use Rattle.judging.specs.Holds.{HoldsRun}
-use Rattle.logs.specs.Holds.{Beginnable}
+use Rattle.run_counts.specs.Tally.{heldIn, watchedFrom, ownAll, tallyAt, Tallied}
+use Rattle.history.specs.HistoryColumns.{History, Starts}
+use Rattle.log_steps.specs.RunArrays.{HoldsRun}
+use Rattle.logs.specs.LogRun.{Beginnable}
 
 module _ {m : ℕ} {tokens : List ℕ} (N : Net) (h : HoldsMarking m tokens (N .tokens)) where
   pub tokens-are : take m tokens ≡ N .tokens

@@ -10,7 +10,7 @@ use lib.ListN.{length, getD, take}
 use Rattle.spec.specs.Answer.{Answer, gives, refuses, _>>=_, _>>_, refuse_at_when_}
 use Rattle.spec.specs.Lists.{In, any}
 use Rattle.spec.specs.Text.{Line}
-use Rattle.forms.proofs.Ties.{numbers-are}
+use Rattle.line_forms.proofs.Ties.{numbers-are}
 use Rattle.spec.specs.Net.{Net, places}
 use Rattle.spec.specs.Step.{short, inhibited}
 use Rattle.spec.specs.Record.{bench}
@@ -19,7 +19,7 @@ use Rattle.lists.specs.Laws
 use Rattle.lines.specs.Agree.{Agrees, giving, refusing}
 use Rattle.runs.specs.Built.{Good}
 use Rattle.arc_sets.specs.Sets.{HoldsArcs}
-use Rattle.steps.specs.Holds.{IsStep, HoldsMarking, Playable, MovedBy}
+use Rattle.steps.specs.StepArrays.{IsStep, HoldsMarking, Playable, MovedBy}
 use Rattle.steps.specs.Judged.{numbersIn, readStep, countStep, judgeStep, lineAt, stepRefused, stepAnswer, nothing}
 use Rattle.steps.specs.declared.StepAnswer.{StepAnswer}
 use Rattle.steps.specs.declared.StepAnswer.the-variants.{Goes, Refused}
@@ -29,12 +29,12 @@ use Rattle.step_lines.specs.Lines.{Enabled, LineAt}
 use Rattle.step_lines.specs.declared.StepLine.{StepLine}
 use Rattle.step_lines.proofs.Lines.{refused-not, refuses-not}
 use Rattle.conditions.specs.declared.Extent.{Extent}
-use Rattle.judging.specs.Holds.{Run, HoldsRun, BuildsOn, buildStep, logAnswer, logRefused}
-use Rattle.judging.specs.declared.LogAnswer.{LogAnswer}
-use Rattle.judging.specs.declared.LogAnswer.the-variants.{Refused as LogRefused}
-use Rattle.judging.specs.declared.LogRefusal.the-variants.{Step}
-use Rattle.judging.proofs.Reaching.{events-held, conditions-held}
-use Rattle.logs.specs.Holds.{HoldsAt, positionOf, LinesOn}
+use Rattle.log_steps.specs.RunArrays.{Run, HoldsRun, BuildsOn, buildStep, logAnswer, logRefused}
+use Rattle.log_steps.specs.declared.LogAnswer.{LogAnswer}
+use Rattle.log_steps.specs.declared.LogAnswer.the-variants.{Refused as LogRefused}
+use Rattle.log_steps.specs.declared.LogRefusal.the-variants.{Step}
+use Rattle.log_steps.proofs.Reaching.{events-held, conditions-held}
+use Rattle.logs.specs.LogRun.{HoldsAt, positionOf, LinesOn}
 
 -- ---- the parts of a line
 

@@ -13,7 +13,7 @@ use Rattle.lines.specs.Lines.{LineTo}
 use Rattle.lines.proofs.Answers.{isGiven}
 use Rattle.lines.proofs.ByLines.{Running, begun, turn, stop, done}
 use Rattle.arc_sets.specs.Sets.{Within, HoldsArcs}
-use Rattle.steps.specs.Holds.{HoldsMarking, Playable, MovedBy}
+use Rattle.steps.specs.StepArrays.{HoldsMarking, Playable, MovedBy}
 use Rattle.steps.specs.Judged.{stepAnswer, nothing}
 use Rattle.steps.specs.declared.StepAnswer.{StepAnswer}
 use Rattle.steps.specs.declared.StepAnswer.the-variants.{Goes, Refused}
@@ -23,13 +23,13 @@ use Rattle.step_lines.specs.Lines.{Readable, Enabled, LineAt}
 use Rattle.step_lines.specs.declared.StepLine.{StepLine}
 use Rattle.step_lines.proofs.Lines.{refused-not, refuses-not}
 use Rattle.conditions.specs.declared.Extent.{Extent}
-use Rattle.judging.specs.Holds.{Run, runAt, HoldsRun, Reached, Buildable, BuiltOn, logAnswer, logRefused}
-use Rattle.judging.specs.declared.Played.{Played}
-use Rattle.judging.specs.declared.LogAnswer.{LogAnswer}
-use Rattle.judging.specs.declared.LogAnswer.the-variants.{Goes as LogGoes, Refused as LogRefused}
-use Rattle.judging.specs.declared.LogRefusal.{LogRefusal}
-use Rattle.judging.specs.declared.LogRefusal.the-variants.{Step, OverConditions, OverMarks}
-use Rattle.logs.specs.Holds.{positionOf, HoldsAt, HoldsAny, Begun, LinesOn, PlaysLog, PlayedLog}
+use Rattle.log_steps.specs.RunArrays.{Run, runAt, HoldsRun, Reached, Buildable, BuiltOn, logAnswer, logRefused}
+use Rattle.log_steps.specs.declared.Played.{Played}
+use Rattle.log_steps.specs.declared.LogAnswer.{LogAnswer}
+use Rattle.log_steps.specs.declared.LogAnswer.the-variants.{Goes as LogGoes, Refused as LogRefused}
+use Rattle.log_steps.specs.declared.LogRefusal.{LogRefusal}
+use Rattle.log_steps.specs.declared.LogRefusal.the-variants.{Step, OverConditions, OverMarks}
+use Rattle.logs.specs.LogRun.{positionOf, HoldsAt, HoldsAny, Begun, LinesOn, PlaysLog, PlayedLog}
 use Rattle.logs.proofs.Lines.{refused-on, enabled-on, playable-on, stepped-on}
 
 -- a refusal of a log gives nothing

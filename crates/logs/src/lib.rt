@@ -1,13 +1,13 @@
 // The lines of a log, judged and played one after the other from the initial marking.
 ghost use mathlib.Core.Path.{_≡_};
-ghost use Rattle.logs.specs.Holds.{positionOf, Begun, PlayedLog, Beginnable, BeginsAt};
+ghost use Rattle.logs.specs.LogRun.{positionOf, Begun, PlayedLog, Beginnable, BeginsAt};
 use conditions::Extent;
-use judging::LogAnswer;
-use judging::LogRefusal;
-use judging::Played;
-use judging::build_step;
-use judging::refused;
-use playing::start;
+use log_steps::LogAnswer;
+use log_steps::LogRefusal;
+use log_steps::Played;
+use log_steps::build_step;
+use log_steps::refused;
+use history::start;
 use step_lines::judge_line;
 use steps::Position;
 use steps::StepAnswer;

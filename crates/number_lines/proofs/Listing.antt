@@ -12,16 +12,16 @@ use lib.Seq.{take-suc-set}
 use borrow.Author.Tests.{le-leb, lt-leb, eq-eqb}
 use Rattle.spec.specs.Lists.{any, every}
 use Rattle.spec.specs.Text.{classOf}
-use Rattle.forms.specs.Rows.{aNumber, valueOf, isList, valuesOf}
+use Rattle.line_forms.specs.Rows.{aNumber, valueOf, isList, valuesOf}
 use Rattle.spec.specs.Classes.{classCode, alike}
 use Rattle.spec.specs.declared.Class.{Class}
-use Rattle.forms.specs.declared.Slot.{Slot}
-use Rattle.forms.specs.declared.Slot.the-variants.{Number}
+use Rattle.line_forms.specs.declared.Slot.{Slot}
+use Rattle.line_forms.specs.declared.Slot.the-variants.{Number}
 use Rattle.lists.specs.Laws.{here, leb-max}
 use Rattle.lines.specs.Lines.{lineOf, LineTo}
 use Rattle.digits.specs.Digits.{between, Stands, IsField}
-use Rattle.plain.specs.Plain.{Opens, PlainLine}
-use Rattle.plain.proofs.Plain.{Tail, last-field, more-fields, plain-line}
+use Rattle.plain_lines.specs.Plain.{Opens, PlainLine}
+use Rattle.plain_lines.proofs.Plain.{Tail, last-field, more-fields, plain-line}
 use Rattle.number_lines.specs.declared.Listed.{Listed}
 use Rattle.number_lines.specs.Numbers.{Few, Puts, Listing, ListAt}
 

@@ -7,7 +7,7 @@ use lib.Dec.{leb}
 use lib.ListN.{length, take, set, drop}
 use Rattle.spec.specs.Lists.{In, any}
 use Rattle.spec.specs.Text.{linesOf, mostDigits}
-use Rattle.forms.specs.Rows.{isList, valuesOf}
+use Rattle.line_forms.specs.Rows.{isList, valuesOf}
 use Rattle.spec.specs.declared.Class.{Class}
 use Rattle.lines.specs.Lines.{lineOf}
 use Rattle.number_lines.specs.declared.Listed.{Listed}

@@ -16,12 +16,12 @@ use Rattle.spec.specs.Replaying.{missing, groupsLine, readArrangement}
 use Rattle.lists.specs.Search.{first-same}
 use Rattle.lines.specs.Agree.{Agrees, giving, refusing}
 use Rattle.lines.proofs.Answers.{isGiven}
-use Rattle.arrangements.specs.Lined.{TellsOrder, Stands, Lined, FindsBroken}
-use Rattle.arrangements.specs.Arrangement.{answerOf, linesPlayed, goesOf, unlessBroken, ReadsLines, missingIn, finished}
-use Rattle.arrangements.specs.declared.ArrangementAnswer.{ArrangementAnswer}
-use Rattle.arrangements.specs.declared.ArrangementAnswer.the-variants.{Keeps, Malformed, Unknown, Repeated, Broken, Missing}
-use Rattle.arrangements.specs.declared.LinesRead.{LinesRead}
-use Rattle.arrangements.proofs.Reading.{events-few, lines-few}
+use Rattle.arrangement_reader.specs.Lined.{TellsOrder, Stands, Lined, FindsBroken}
+use Rattle.arrangement_reader.specs.Arrangement.{answerOf, linesPlayed, goesOf, unlessBroken, ReadsLines, missingIn, finished}
+use Rattle.arrangement_reader.specs.declared.ArrangementAnswer.{ArrangementAnswer}
+use Rattle.arrangement_reader.specs.declared.ArrangementAnswer.the-variants.{Keeps, Malformed, Unknown, Repeated, Broken, Missing}
+use Rattle.arrangement_reader.specs.declared.LinesRead.{LinesRead}
+use Rattle.arrangement_reader.proofs.Reading.{events-few, lines-few}
 use Rattle.played_lines.specs.Lines.{Arranged, JudgesLines}
 
 pub goes-given : (a : ArrangementAnswer) → isGiven (answerOf a) ≡ goesOf a

@@ -9,11 +9,11 @@ use Rattle.spec.specs.Record.{RunRecord, transitionOf}
 use Rattle.spec.specs.Replaying.{readArrangement}
 use Rattle.columns.specs.Columns.{column}
 use Rattle.lines.specs.Agree.{Agrees}
-use Rattle.net.specs.Holds.{Cells}
-use Rattle.rows.specs.Rows.{outputsAt}
-use Rattle.arrangements.specs.Lined.{TellsOrder, Ordered}
-use Rattle.arrangements.specs.Arrangement.{answerOf, linesPlayed}
-use Rattle.arrangements.specs.declared.ArrangementAnswer.{ArrangementAnswer}
+use Rattle.net.specs.NetArrays.{Cells}
+use Rattle.marking_rows.specs.Rows.{outputsAt}
+use Rattle.arrangement_reader.specs.Lined.{TellsOrder, Ordered}
+use Rattle.arrangement_reader.specs.Arrangement.{answerOf, linesPlayed}
+use Rattle.arrangement_reader.specs.declared.ArrangementAnswer.{ArrangementAnswer}
 
 -- the lines of an arrangement of n events, in an array
 pub record Arranged (n : ℕ) (gs : List (List ℕ)) (lined : List ℕ) : Type 0 where

@@ -3,15 +3,15 @@ ghost use mathlib.Core.Path.{_≡_};
 ghost use Prim.Native.Nat.{_≤_};
 ghost use lib.ListN.{replicate};
 ghost use Rattle.reach.specs.Rows.{Good};
-ghost use Rattle.rows.specs.Rows.{linedSize};
+ghost use Rattle.marking_rows.specs.Rows.{linedSize};
 ghost use Rattle.played_lines.specs.Lines.{JudgesLines};
-use arrangements::ArrangementAnswer;
-use arrangements::finish;
-use arrangements::first_broken;
-use arrangements::goes;
-use arrangements::read_lines;
+use arrangement_reader::ArrangementAnswer;
+use arrangement_reader::finish;
+use arrangement_reader::first_broken;
+use arrangement_reader::goes;
+use arrangement_reader::read_lines;
 use reach::WORDS;
-use rows::LINED;
+use marking_rows::LINED;
 
 // The lines of a text, of the n events whose closed order is in the rows of bits w. Where they are an arrangement,
 // the array has them: their events one after the other, and at 128 + k how many the first k lines have.

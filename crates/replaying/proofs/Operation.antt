@@ -23,16 +23,16 @@ use Rattle.accepting.specs.declared.Refusal.{Refusal}
 use Rattle.accepting.specs.declared.Verdict.the-variants.{Given, Refused}
 use Rattle.accepting.specs.declared.Accepted.{Accepted}
 use Rattle.accepting.proofs.Accepting.{accepted-process}
-use Rattle.arrangements.specs.Arrangement.{answerOf, linesPlayed, linesIn, goesOf}
+use Rattle.arrangement_reader.specs.Arrangement.{answerOf, linesPlayed, linesIn, goesOf}
 use Rattle.reach.specs.Rows.{Good}
-use Rattle.arrangements.specs.Lined.{TellsOrder}
-use Rattle.rows.specs.Rows.{Playable, PutsRows}
+use Rattle.arrangement_reader.specs.Lined.{TellsOrder}
+use Rattle.marking_rows.specs.Rows.{Playable, PutsRows}
 use Rattle.played_lines.specs.Lines.{Arranged, JudgesLines, Describes}
 use Rattle.replaying.specs.Replaying.{Replays}
-use Rattle.arrangements.specs.declared.ArrangementAnswer.{ArrangementAnswer}
+use Rattle.arrangement_reader.specs.declared.ArrangementAnswer.{ArrangementAnswer}
 use Rattle.replaying.specs.declared.ReplayAnswer.the-variants.{BufferShort, Refused as ReplayRefused, Lines}
 use Rattle.replaying.proofs.Telling.{tells-order}
-use Rattle.arrangements.specs.declared.ArrangementAnswer.the-variants.{Keeps as KeepsLines, Malformed, Unknown, Repeated, Broken, Missing}
+use Rattle.arrangement_reader.specs.declared.ArrangementAnswer.the-variants.{Keeps as KeepsLines, Malformed, Unknown, Repeated, Broken, Missing}
 use Rattle.played_lines.proofs.Judging.{goes-given}
 use Rattle.played_lines.proofs.Markings.{rows-held}
 

@@ -12,7 +12,7 @@ use Rattle.reach.specs.Rows.{cellOf}
 use Rattle.lists.specs.Laws.{same-tests}
 use Rattle.runs.specs.Values.{orderOf, strict-order, weak-order}
 use Rattle.runs.specs.Closure.{strict-is, weak-is}
-use Rattle.arrangements.specs.Lined.{TellsOrder}
+use Rattle.arrangement_reader.specs.Lined.{TellsOrder}
 
 pub tells-order : (N : Net) (R : RunRecord) → WellFormed N R → {n : ℕ} {t : List ℕ} → n ≡ length (R .events)
     → ((d e : ℕ) → d < length (R .events) → e < length (R .events) → cellOf t d e ≡ orderOf R d e) → TellsOrder n t R

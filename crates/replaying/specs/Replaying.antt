@@ -7,7 +7,7 @@ use Rattle.spec.specs.Replaying.{Replayed}
 use Rattle.spec.specs.Buffer.{replayLeaves}
 use Rattle.spec.specs.Values.{replayValues}
 use Rattle.accepting.specs.Accepting.{refusedBy}
-use Rattle.arrangements.specs.Arrangement.{answerOf}
+use Rattle.arrangement_reader.specs.Arrangement.{answerOf}
 use Rattle.replaying.specs.declared.ReplayAnswer.{ReplayAnswer}
 use Rattle.replaying.specs.declared.ReplayAnswer.the-variants.{BufferShort, Refused, Lines}
 

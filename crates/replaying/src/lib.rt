@@ -7,12 +7,12 @@ use accepting::Refusal;
 use accepting::Verdict;
 use accepting::accept;
 use accepting::bench;
-use arrangements::ArrangementAnswer;
-use arrangements::goes;
-use arrangements::lines_in;
+use arrangement_reader::ArrangementAnswer;
+use arrangement_reader::goes;
+use arrangement_reader::lines_in;
 use bytes::bytes_at;
 use played_lines::judge_lines;
-use rows::put_rows;
+use marking_rows::put_rows;
 
 // What replaying answers: that the buffer is short, why the net or the record is refused, or the answer to the arrangement.
 pub enum ReplayAnswer {

@@ -17,7 +17,7 @@ use Rattle.bit_sets.specs.Sets.{has, First, has-most}
 use Rattle.bit_sets.specs.declared.Set.{Set}
 use Rattle.reach.specs.Rows.{Sub, rowOf, cellOf, valueOf, Good, Put, Raised as RaisedOne}
 use Rattle.reach.specs.declared.Row.{Row}
-use Rattle.record.specs.declared.Counts.{Counts}
+use Rattle.record_columns.specs.declared.Counts.{Counts}
 use Rattle.row_pairs.specs.Relation.{pairIn, beforesIn, aftersIn, after, before, conditionPairIn, markPairIn, overall, relationIn, Raised, Filled}
 
 -- ---- one entry

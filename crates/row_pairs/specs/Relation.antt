@@ -7,7 +7,7 @@ use lib.ListN.{length, getD}
 use lib.Dec.{eqb}
 use Rattle.order.specs.Below.{maxBelow}
 use Rattle.reach.specs.Rows.{cellOf, Good}
-use Rattle.record.specs.declared.Counts.{Counts}
+use Rattle.record_columns.specs.declared.Counts.{Counts}
 
 -- v for e and f, else 0
 unfoldable pub pairIn : ℕ → ℕ → ℕ → ℕ → ℕ → ℕ

@@ -16,8 +16,8 @@ use reach::put_row;
 use reach::raise;
 use reach::row_at;
 use reach::row_in;
-use record::CONSUMERS;
-use record::PRODUCERS;
+use record_columns::CONSUMERS;
+use record_columns::PRODUCERS;
 
 fn wide(b: u8) -> usize
     ensures { λ r. ⌜ (r ≡ b) × (r < 256) ⌝ }

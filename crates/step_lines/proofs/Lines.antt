@@ -12,18 +12,18 @@ use Rattle.spec.specs.Answer.{Answer, gives, refuses, _>>=_, _>>_, refuse_at_wh
 use Rattle.spec.specs.Lists.{In, any}
 use Rattle.spec.specs.Text.{Line, mostDigits, named, inDigits, classOf, isA}
 use Rattle.spec.specs.Classes.{alike}
-use Rattle.forms.specs.Rows.{isList}
-use Rattle.forms.proofs.Ties.{list-line, list-some}
+use Rattle.line_forms.specs.Rows.{isList}
+use Rattle.line_forms.proofs.Ties.{list-line, list-some}
 use Rattle.spec.specs.Net.{Net}
 use Rattle.spec.specs.Building.{isStepLine}
 use Rattle.lists.specs.Laws
 use Rattle.lines.specs.Agree.{Agrees, giving, refusing}
 use Rattle.lines.specs.Lines.{lineOf}
-use Rattle.plain.specs.Plain.{Opens}
+use Rattle.plain_lines.specs.Plain.{Opens}
 use Rattle.number_lines.specs.Numbers.{Begins}
 use Rattle.number_lines.proofs.Lines.{few-known}
 use Rattle.arc_sets.specs.Sets.{HoldsArcs}
-use Rattle.steps.specs.Holds.{IsStep, HoldsMarking}
+use Rattle.steps.specs.StepArrays.{IsStep, HoldsMarking}
 use Rattle.steps.specs.Judged.{numbersIn, readStep, countStep, judgeStep, lineAt, stepRefused, stepAnswer, nothing, Judges}
 use Rattle.steps.specs.declared.Position.{Position}
 use Rattle.steps.specs.declared.StepAnswer.{StepAnswer}

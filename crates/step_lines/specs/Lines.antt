@@ -10,7 +10,7 @@ use Rattle.spec.specs.Net.{Net}
 use Rattle.lines.specs.Agree.{Agrees}
 use Rattle.lines.specs.Lines.{LineTo}
 use Rattle.arc_sets.specs.Sets.{HoldsArcs}
-use Rattle.steps.specs.Holds.{HoldsStep, HoldsMarking}
+use Rattle.steps.specs.StepArrays.{HoldsStep, HoldsMarking}
 use Rattle.steps.specs.Judged.{stepAnswer, nothing, readStep, judgeStep, lineAt}
 use Rattle.steps.specs.declared.Position.{Position}
 use Rattle.steps.specs.declared.StepAnswer.{StepAnswer}

@@ -18,12 +18,12 @@ use Rattle.lists.specs.Laws
 use Rattle.lists.specs.Laws.{in-at, at-in, sumOf-same, in-upTo, upTo-in, length-upTo, getD-table}
 use Rattle.lists.specs.Arrays.{blank}
 use Rattle.lists.specs.Along.{any-agree, some-counted}
-use Rattle.net.specs.Holds.{Holds}
+use Rattle.net.specs.NetArrays.{Holds}
 use Rattle.net.specs.declared.Net.{Net}
 use Rattle.number_lines.specs.Numbers.{Few, Begins}
 use Rattle.bit_sets.specs.Bits.{bit, bit-most}
 use Rattle.arc_sets.specs.Sets.{arcAt, Within, Says, HoldsArcs}
-use Rattle.steps.specs.Holds.{IsStep, HoldsStep, over, Summed, Joined, HoldsMarking, falls, Blocks, Playable, MovedBy}
+use Rattle.steps.specs.StepArrays.{IsStep, HoldsStep, over, Summed, Joined, HoldsMarking, falls, Blocks, Playable, MovedBy}
 use Rattle.steps.specs.Judged.{stepAnswer, judgeStep}
 use Rattle.steps.proofs.Rows.{over-most}
 

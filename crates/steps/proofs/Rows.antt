@@ -13,7 +13,7 @@ use Rattle.lists.specs.Arrays.{blank}
 use Rattle.lists.specs.Along.{sumOf-more}
 use Rattle.bit_sets.specs.Bits.{bit, bit-most, bit-or, bit-zero}
 use Rattle.arc_sets.specs.Sets.{arcAt, Within}
-use Rattle.steps.specs.Holds.{IsStep, over, Addable, AddedSet, Summable, Summed, Payable, TakenSet, Paid, Joined, Within32, Playable, MovedBy}
+use Rattle.steps.specs.StepArrays.{IsStep, over, Addable, AddedSet, Summable, Summed, Payable, TakenSet, Paid, Joined, Within32, Playable, MovedBy}
 
 -- ---- sums
 

@@ -10,7 +10,7 @@ use lib.ListN.{length, getD, set, length-set}
 use lib.Seq.{getD-set-same, getD-set-other}
 use Rattle.bit_sets.specs.Bits.{bit, bit-most}
 use Rattle.arc_sets.specs.Walk.{Left, lowest, left-within, lowest-word, skipped, left-rest, rest-less}
-use Rattle.steps.specs.Holds.{Addable, AddedTo, AddedSet, Payable, TakenSet, Within32}
+use Rattle.steps.specs.StepArrays.{Addable, AddedTo, AddedSet, Payable, TakenSet, Within32}
 
 -- a word without bit i
 abbrev pub rest : ℕ → ℕ → ℕ

@@ -8,12 +8,12 @@ use lib.ListN.{length}
 use Rattle.spec.specs.Answer.{Answer, gives, refuses, _>>=_, _>>_, refuse_at_when_}
 use Rattle.spec.specs.Lists.{In, any}
 use Rattle.spec.specs.Text.{Line, mostDigits}
-use Rattle.forms.specs.Rows.{valuesOf}
+use Rattle.line_forms.specs.Rows.{valuesOf}
 use Rattle.spec.specs.Net.{Net}
 use Rattle.spec.specs.Step.{short, inhibited}
 use Rattle.spec.specs.Building.{isStepLine}
 use Rattle.arc_sets.specs.Sets.{HoldsArcs}
-use Rattle.steps.specs.Holds.{HoldsStep, HoldsMarking}
+use Rattle.steps.specs.StepArrays.{HoldsStep, HoldsMarking}
 use Rattle.steps.specs.declared.StepRefusal.{StepRefusal}
 use Rattle.steps.specs.declared.StepRefusal.the-variants.{Malformed, UnknownTransition, OverEvents, TooFewTokens, Inhibited}
 use Rattle.steps.specs.declared.StepAnswer.{StepAnswer}

@@ -4,7 +4,7 @@ ghost use Prim.Native.Nat.{_+_, _≤_};
 ghost use lib.ListN.{length, getD, take};
 ghost use Rattle.lists.specs.Stretch.{MappedFrom};
 ghost use Rattle.arc_sets.specs.Sets.{Within, arcAt};
-ghost use Rattle.steps.specs.Holds.{IsStep, Addable, AddedSet, TakenSet, Summable, Summed, Payable, Paid, Within32, falls, Joined, Blocks, Playable, MovedBy};
+ghost use Rattle.steps.specs.StepArrays.{IsStep, Addable, AddedSet, TakenSet, Summable, Summed, Payable, Paid, Within32, falls, Joined, Blocks, Playable, MovedBy};
 ghost use Rattle.steps.specs.Judged.{Judges};
 use arc_sets::GUARDS;
 use arc_sets::MADE;

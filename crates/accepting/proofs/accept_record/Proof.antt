@@ -2,8 +2,8 @@
 use mathlib.Core.Path.{refl}
 use native.Mathlib.Omega.{arith}
 use borrow.Author.Needs.{needs}
-use Rattle.record.proofs.Reading.{read-case}
-use Rattle.held.proofs.Codes.{sound}
+use Rattle.record_columns.proofs.Reading.{read-case}
+use Rattle.representation.proofs.Codes.{sound}
 use Rattle.accepting.proofs.Accepting.{held, record-stop, record-go}
 use Rattle.accepting.proofs.accept_record.Statement.{statement}
 use Rattle.accepting.proofs.accept_record.Tie as tie

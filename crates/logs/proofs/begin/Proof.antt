@@ -3,7 +3,7 @@ use mathlib.Core.Path.{_≡_, refl, sym, _∙_}
 use native.Mathlib.Omega.{arith}
 use borrow.Author.Needs.{needs}
 use Rattle.columns.specs.Columns.{column-length}
-use Rattle.playing.proofs.Starting.{starts}
+use Rattle.history.proofs.Starting.{starts}
 use Rattle.logs.proofs.Beginning.{begins, put-long, put-marking, put-held, put-blank, put-cursors}
 use Rattle.logs.proofs.begin.Statement.{statement}
 use Rattle.logs.proofs.begin.Tie as tie

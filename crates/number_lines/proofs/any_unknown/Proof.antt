@@ -5,7 +5,7 @@ use borrow.Author.Tests.{le-leb, lt-leb}
 use lib.Dec.{leb}
 use lib.ListN.{length}
 use Rattle.spec.specs.Lists.{any}
-use Rattle.forms.specs.Rows.{valuesOf}
+use Rattle.line_forms.specs.Rows.{valuesOf}
 use Rattle.lists.specs.Along.{any-first, any-next, any-nil}
 use Rattle.fields.specs.Fields.{numbersFrom}
 use Rattle.fields.proofs.Fields.{numbers-first, numbers-none}

@@ -2,7 +2,7 @@ use Prim.Native.Nat.{_+_, _-_, _≤_}
 use mathlib.Core.Path.{_≡_, ap}
 use native.Mathlib.Omega.{arith}
 use lib.ListN.{length}
-use Rattle.forms.specs.Rows.{valuesOf}
+use Rattle.line_forms.specs.Rows.{valuesOf}
 use Rattle.fields.specs.Fields.{numbersFrom}
 use Rattle.fields.proofs.Fields.{numbers-first, numbers-none}
 use Rattle.number_lines.proofs.count_numbers.Statement.{statement}

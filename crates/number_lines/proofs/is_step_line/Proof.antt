@@ -3,7 +3,7 @@ use Rattle.spec.specs.Classes.{alike}
 use Rattle.spec.specs.Text.{named, inDigits, classOf}
 use Rattle.spec.specs.Building.{isStepLine}
 use Rattle.lines.specs.Lines.{lineOf}
-use Rattle.forms.proofs.Ties.{list-line}
+use Rattle.line_forms.proofs.Ties.{list-line}
 use Rattle.number_lines.proofs.is_step_line.Statement.{statement}
 use Rattle.number_lines.proofs.is_step_line.Tie as tie
 

@@ -1,7 +1,7 @@
 use Prim.Native.Nat.{_+_, _-_, _≤_}
 use native.Mathlib.Omega.{arith}
 use lib.ListN.{length}
-use Rattle.forms.specs.Rows.{valuesOf}
+use Rattle.line_forms.specs.Rows.{valuesOf}
 use Rattle.fields.specs.Fields.{numbersFrom}
 use Rattle.fields.proofs.Fields.{numbers-first, numbers-none}
 use Rattle.number_lines.proofs.Lines.{Filled, filled-none, filled-room, filled-more, filled-all}

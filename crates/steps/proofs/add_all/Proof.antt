@@ -4,7 +4,7 @@ use mathlib.Core.Path.{_≡_, refl, sym, ap, _∙_}
 use native.Mathlib.Omega.{arith}
 use lib.ListN.{take}
 use Rattle.arc_sets.specs.Sets.{arcAt}
-use Rattle.steps.specs.Holds.{Summed}
+use Rattle.steps.specs.StepArrays.{Summed}
 use Rattle.steps.proofs.Rows.{summed-none, summed-room, summed-next}
 use Rattle.steps.proofs.add_all.Statement.{statement}
 use Rattle.steps.proofs.add_all.Tie as tie

@@ -3,7 +3,7 @@ use Prim.Native.Nat.{ℕ, _+_, _-_, _≤_}
 use mathlib.Core.Path.{_≡_, refl, sym, ap, _∙_}
 use native.Mathlib.Omega.{arith}
 use Rattle.arc_sets.specs.Walk.{Left, left-all, nothing-left}
-use Rattle.steps.specs.Holds.{AddedTo}
+use Rattle.steps.specs.StepArrays.{AddedTo}
 use Rattle.steps.proofs.Walking.{adding, added-none, added-end}
 use Rattle.steps.proofs.add_set.Statement.{statement}
 use Rattle.steps.proofs.add_set.Tie as tie

@@ -5,7 +5,7 @@ use native.Mathlib.Omega.{arith}
 use mathlib.Core.List.{[]}
 use lib.ListN.{take}
 use Rattle.arc_sets.specs.Sets.{arcAt}
-use Rattle.steps.specs.Holds.{Joined}
+use Rattle.steps.specs.StepArrays.{Joined}
 use Rattle.steps.proofs.Rows.{joined-none, joined-next}
 use Rattle.steps.proofs.guards_of.Statement.{statement}
 use Rattle.steps.proofs.guards_of.Tie as tie

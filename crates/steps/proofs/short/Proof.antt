@@ -8,7 +8,7 @@ use lib.ListN.{getD}
 use borrow.Author.Tests.{lt-ltb, le-ltb}
 use Rattle.spec.specs.Lists.{any, from}
 use Rattle.lists.specs.Search.{any-start, any-hit, any-on, any-end}
-use Rattle.steps.specs.Holds.{falls}
+use Rattle.steps.specs.StepArrays.{falls}
 use Rattle.steps.proofs.short.Statement.{statement}
 use Rattle.steps.proofs.short.Tie as tie
 

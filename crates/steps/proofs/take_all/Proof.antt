@@ -4,7 +4,7 @@ use mathlib.Core.Path.{_≡_, refl, sym, ap, _∙_}
 use native.Mathlib.Omega.{arith}
 use lib.ListN.{take}
 use Rattle.arc_sets.specs.Sets.{arcAt}
-use Rattle.steps.specs.Holds.{Paid}
+use Rattle.steps.specs.StepArrays.{Paid}
 use Rattle.steps.proofs.Rows.{paid-none, paid-room, paid-next}
 use Rattle.steps.proofs.take_all.Statement.{statement}
 use Rattle.steps.proofs.take_all.Tie as tie

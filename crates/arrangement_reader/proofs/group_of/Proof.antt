@@ -1,0 +1,38 @@
+-- The events before place i have been looked at.
+use Prim.Native.Nat.{_-_, _≤_}
+use native.Mathlib.Omega.{arith}
+use lib.ListN.{take, drop}
+use Rattle.arrangement_reader.specs.Lined.{Grouped}
+use Rattle.arrangement_reader.proofs.Lateness.{grouped-none, grouped-more, grouped-end}
+use Rattle.arrangement_reader.proofs.group_of.Statement.{statement}
+use Rattle.arrangement_reader.proofs.group_of.Tie as tie
+
+abbrev Inv-loop : tie.InvT-loop
+Inv-loop w lined from to line₀ path₀ strict₀ i₀ line path strict i = (from ≤ i) × (i ≤ to) × Grouped w (take (i - from) (drop from lined)) (record { line = line; path = path; strict = strict })
+
+abbrev μ-loop : tie.MeasureT-loop
+μ-loop w lined from to line₀ path₀ strict₀ i₀ line path strict i = to - i
+
+pub group-of-spec : {M : Type 1} → statement M
+group-of-spec = tie.close (tie.spec Inv-loop μ-loop
+    (λ c κs. tt)
+    (λ c κs. tt)
+    (λ c κs. tt)
+    (λ c. let s = c .before .before .before in (omega arith, s .pre .0, grouped-none (s .args .w .now) (s .args .lined .now) (s .args .from) (c .before .before .none .ensures) (c .before .none2 .ensures) (c .none3 .ensures)))
+    (λ c. let s = c .before .before .before .before .before in omega (arith, s .pre .1, c .loop-test .taken))
+    (λ c κs. tt)
+    (λ c κs. let l = c .before .before .before in let s = l .before .before .before .before in omega (arith, c .wide .ensures, s .pre .3 (l .loop .i) (c .before .before .loop-test .taken)))
+    (λ c κs. let v = c .before in let l = v .before .before .before in let s = l .before .before .before .before in omega (arith, v .wide .ensures, s .pre .3 (l .loop .i) (v .before .before .loop-test .taken)))
+    (λ c κs. tt)
+    (λ c κs. tt)
+    (λ c κs. tt)
+    (λ c. omega arith)
+    (λ c. omega arith)
+    (λ c. let o = c .before .before .before in let v = o .before .before in let i = v .before .before in let l = i .before in let s = l .before .before .before .before in (
+      omega (arith, l .loop .inv .0),
+      omega (arith, i .loop-test .taken),
+      grouped-more (s .args .w .now) (s .args .lined .now) (s .args .from) (l .loop .i) (v .wide .result) (o .one .result) (l .loop .inv .0) (omega (arith, s .pre .1, s .pre .2, i .loop-test .taken)) (v .wide .ensures)
+          (omega (arith, v .wide .ensures, s .pre .3 (l .loop .i) (i .loop-test .taken))) (o .before .row-at .ensures) (o .one .ensures) (c .before .before .union .ensures) (c .before .union2 .ensures) (c .union3 .ensures) (l .loop .inv .2),
+    ))
+    (λ c. let l = c .before in let s = l .before .before .before .before in
+    grouped-end (s .args .w .now) (s .args .lined .now) (s .args .from) (l .loop .i) (s .args .to) (omega (arith, c .loop-test .left, l .loop .inv .1)) (l .loop .inv .2)))

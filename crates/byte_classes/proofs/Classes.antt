@@ -1,0 +1,120 @@
+-- Laws on the classes of bytes: a byte is a digit by its range, else what the first entry of the list that has it
+-- says, else foreign.
+use Prim.Native.Nat.{ℕ, _-_, _≤_, _<_}
+use mathlib.Core.Path.{_≡_, refl, sym, ap, _∙_}
+use mathlib.Core.Bool.{Bool, true, false, not, _&&_, _||_, cond}
+use mathlib.Core.List.{List, [], _∷_}
+use native.Mathlib.Decide.{ℕ-discrete}
+use native.Mathlib.Omega.{arith}
+use lib.Dec.{leb, eqb}
+use borrow.Author.Tests.{le-leb, leb-true, eq-eqb, eqb-true, ne-eqb}
+use Rattle.spec.specs.Lists.{every}
+use Rattle.spec.specs.declared.Class.{Class}
+use Rattle.spec.specs.declared.Class.the-variants.{Digit, LineEnd, Foreign}
+use Rattle.spec.specs.declared.ByteClass.{ByteClass}
+use Rattle.spec.specs.Text.{named, classNames, inDigits, classOf, digitOf, classAndDigit, isA}
+use Rattle.spec.specs.Classes.{alike}
+use Rattle.lists.specs.Laws.{and-true}
+use Rattle.byte_classes.specs.Scan.{plainByte}
+
+pub not-below : {a b : ℕ} → a < b → b ≤ a → ⊥
+not-below p q = omega arith
+
+pub digit : (b : ℕ) → 48 ≤ b → b ≤ 57 → record { class = Digit; digit = b - 48 } ≡ classAndDigit b
+unfolding classAndDigit classOf digitOf inDigits
+digit b p q = simp le-leb
+
+-- the byte is none of those that the list names
+abbrev pub None : ℕ → List (ℕ × Class) → Type 0
+None b [] = Unit {0}
+None b (n ∷ ns) = (b ≡ n .0 → ⊥) × None b ns
+
+-- the same as the rest of a `match` has it
+abbrev pub Rest : Type 0 → ℕ → List (ℕ × Class) → Type 0
+Rest X b [] = X
+Rest X b (n ∷ ns) = Rest (X × (b ≡ n .0 → ⊥)) b ns
+
+of-rest : (X : Type 0) (b : ℕ) (ns : List (ℕ × Class)) → Rest X b ns → X × None b ns
+of-rest X b [] h = (h, tt)
+of-rest X b (n ∷ ns) h = let r = of-rest (X × (b ≡ n .0 → ⊥)) b ns h in (r .0 .0, (r .0 .1, r .1))
+
+none-named : (b : ℕ) (ns : List (ℕ × Class)) → None b ns → named b ns ≡ Foreign
+unfolding named
+none-named b [] h = refl
+none-named b (n ∷ ns) h = rw (ne-eqb b (n .0) (h .0)) (none-named b ns (h .1))
+
+no-digit : (b : ℕ) → (48 ≤ b → b ≤ 57 → ⊥) → inDigits b ≡ false
+unfolding inDigits
+no-digit b h = go (leb 48 b) (leb b 57) refl refl
+  where
+    go : (s t : Bool) → leb 48 b ≡ s → leb b 57 ≡ t → (s && t) ≡ false
+    go true true p q = absurd (h (leb-true _ _ p) (leb-true _ _ q))
+    go true false p q = refl
+    go false t p q = refl
+
+pub foreign : (b : ℕ) → (48 ≤ b → b ≤ 57 → ⊥) → Rest (Unit {0}) b classNames → plainByte Foreign ≡ classAndDigit b
+unfolding classAndDigit classOf digitOf
+foreign b d h = sym (rw (no-digit b d, none-named b classNames (of-rest (Unit {0}) b classNames h .1)))
+
+pub digit-low : (b : ℕ) → digitOf b ≤ 9
+unfolding digitOf inDigits
+digit-low b = go (leb 48 b) (leb b 57) refl
+  where
+    go : (s t : Bool) → leb b 57 ≡ t → cond (s && t) (b - 48) 0 ≤ 9
+    go true true q = omega (arith, leb-true b 57 q)
+    go true false q = omega arith
+    go false t q = omega arith
+
+-- ---- what the class and the digit of a byte tell, once it has been looked at
+
+module _ {r : ByteClass} (b : ℕ) (e : r ≡ classAndDigit b) where
+  pub told-class : (k : Class) → alike (r .class) k ≡ isA k b
+  unfolding classAndDigit isA
+  told-class k = rw e
+
+  pub told-digit : r .digit ≡ digitOf b
+  unfolding classAndDigit
+  told-digit = ap (λ z. z .digit) e
+
+  pub told-low : r .digit ≤ 9
+  told-low = omega (arith, told-digit, digit-low b)
+
+-- ---- the line end is byte 10
+
+-- a name that is not the class's, but for byte c
+abbrev onlyFor : Class → ℕ → ℕ × Class → Bool
+onlyFor k c n = eqb (n .0) c || not (alike (n .1) k)
+
+-- a list that names the class for no byte but c names it for no other byte
+named-not : (k : Class) (c b : ℕ) (ns : List (ℕ × Class)) → alike Foreign k ≡ false → every (onlyFor k c) ns ≡ true → (b ≡ c → ⊥) → alike (named b ns) k ≡ false
+unfolding named every
+named-not k c b [] f h d = f
+named-not k c b (n ∷ ns) f h d =
+    let a = and-true (onlyFor k c n) (every (onlyFor k c) ns) h in go (eqb b (n .0)) refl (a .0) (named-not k c b ns f (a .1) d)
+  where
+    here : (s t : Bool) → eqb (n .0) c ≡ s → (s || not t) ≡ true → (n .0 ≡ c → ⊥) → t ≡ false
+    here true t q e u = absurd (u (eqb-true (n .0) c q))
+    here false true q e u = sym e
+    here false false q e u = refl
+
+    go : (t : Bool) → eqb b (n .0) ≡ t → onlyFor k c n ≡ true → alike (named b ns) k ≡ false → alike (cond t (n .1) (named b ns)) k ≡ false
+    go true q a r = here (eqb (n .0) c) (alike (n .1) k) refl a (λ e. d (eqb-true b (n .0) q ∙ e))
+    go false q a r = r
+
+end-not : (b : ℕ) → (b ≡ 10 → ⊥) → isA LineEnd b ≡ false
+unfolding isA classOf alike every
+end-not b d = go (inDigits b)
+  where
+    go : (t : Bool) → alike (cond t Digit (named b classNames)) LineEnd ≡ false
+    go true = refl
+    go false = named-not LineEnd 10 b classNames refl refl d
+
+end-is : isA LineEnd 10 ≡ true
+unfolding isA alike classOf named inDigits
+end-is = refl
+
+pub line-end : (b : ℕ) → isA LineEnd b ≡ eqb b 10
+line-end b = elim (ℕ-discrete b 10) [
+  | yes e ↦ ap (isA LineEnd) e ∙ end-is ∙ sym (eq-eqb b 10 e)
+  | no d ↦ end-not b d ∙ sym (ne-eqb b 10 d)
+]

@@ -1,0 +1,15 @@
+use mathlib.Core.Path.{sym}
+use native.Mathlib.Omega.{arith}
+use borrow.Author.Needs.{needs}
+use Rattle.writing.proofs.Laws.{after, wrote-length}
+use Rattle.line_writer.proofs.Lines.{wrote-as, event-pieces, event-size}
+use Rattle.line_writer.proofs.put_event.Statement.{statement}
+use Rattle.line_writer.proofs.put_event.Tie as tie
+
+pub put-event-spec : {M : Type 1} → statement M
+put-event-spec = tie.close (tie.spec
+    (λ c κs. let s = c .before .before in omega (arith, s .pre, event-size (s .args .t)))
+    (λ c κs. let s = c .before .before .before .before .before .before in let a = c .before .before .before .put-byte .ensures in omega (arith, s .pre, event-size (s .args .t), a .next, wrote-length a))
+    (λ c κs. let s = c .before .before .before .before .before .before .before .before .before .before in let a = c .before .before .before .before .before .before .before .put-byte .ensures in let b = c .before .before .before .put-next .ensures in omega (arith, s .pre, event-size (s .args .t), a .next, wrote-length a, b .next, wrote-length b))
+    (λ c. search needs)
+    (λ c. wrote-as (after (c .before .before .before .before .before .before .before .before .before .before .put-byte .ensures) (after (c .before .before .before .before .before .before .put-next .ensures) (c .before .before .put-byte2 .ensures))) (sym (event-pieces (c .before .before .before .before .before .before .before .before .before .before .before .before .before .args .t)))))

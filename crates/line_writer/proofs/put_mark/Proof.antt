@@ -1,0 +1,21 @@
+use mathlib.Core.Path.{sym, ap}
+use mathlib.Core.List.{_∷_, []}
+use native.Mathlib.Omega.{arith}
+use borrow.Author.Needs.{needs}
+use Rattle.writing.proofs.Laws.{after, wrote-length}
+use Rattle.line_writer.proofs.Lines.{wrote-as, mark-pieces, mark-size}
+use Rattle.line_writer.proofs.put_mark.Statement.{statement}
+use Rattle.line_writer.proofs.put_mark.Tie as tie
+
+pub put-mark-spec : {M : Type 1} → statement M
+put-mark-spec = tie.close (tie.spec
+    (λ c κs. tt)
+    (λ c κs. let s = c .before .before .before in omega (arith, s .pre, mark-size (s .args .after) (s .args .c) (s .args .e)))
+    (λ c κs. let s = c .before .before .before .before .before .before .before in let a = c .before .before .before .put-byte .ensures in omega (arith, s .pre, mark-size (s .args .after) (s .args .c) (s .args .e), a .next, wrote-length a))
+    (λ c κs. let s = c .before .before .before .before .before .before .before .before .before .before .before in let a = c .before .before .before .before .before .before .before .put-byte .ensures in let b = c .before .before .before .put-next .ensures in
+    omega (arith, s .pre, mark-size (s .args .after) (s .args .c) (s .args .e), a .next, wrote-length a, b .next, wrote-length b))
+    (λ c κs. let s = c .before .before .before .before .before .before .before .before .before .before .before .before .before .before .before in let a = c .before .before .before .before .before .before .before .before .before .before .before .put-byte .ensures in let b = c .before .before .before .before .before .before .before .put-next .ensures in let d = c .before .before .before .put-next2 .ensures in
+    omega (arith, s .pre, mark-size (s .args .after) (s .args .c) (s .args .e), a .next, wrote-length a, b .next, wrote-length b, d .next, wrote-length d))
+    (λ c. search needs)
+    (λ c. let s = c .before .before .before .before .before .before .before .before .before .before .before .before .before .before .before .before .before .before in let l = c .before .before .before .before .before .before .before .before .before .before .before .before .before .before .before .letter .ensures in
+    wrote-as (after (wrote-as (c .before .before .before .before .before .before .before .before .before .before .before .before .before .before .put-byte .ensures) (ap (λ b. b ∷ []) l)) (after (c .before .before .before .before .before .before .before .before .before .before .put-next .ensures) (after (c .before .before .before .before .before .before .put-next2 .ensures) (c .before .before .put-byte2 .ensures)))) (sym (mark-pieces (s .args .after) (s .args .c) (s .args .e)))))

@@ -1,0 +1,79 @@
+// One step of a log that is enabled, built on the run that the steps before it left.
+ghost use mathlib.Core.Path.{_≡_};
+ghost use Rattle.log_steps.specs.declared.LogAnswer.the-variants.{Refused};
+ghost use Rattle.log_steps.specs.RunArrays.{Buildable, BuiltOn};
+use arc_sets::GUARDS;
+use arc_sets::MADE;
+use conditions::Extent;
+use history::grow;
+use steps::StepRefusal;
+use steps::add_all;
+use run_counts::WATCHED;
+use run_counts::made_all;
+use run_counts::own_all;
+use run_counts::products;
+
+// What a log is refused for: a line as a step, or that its record would be too large; with its line.
+pub enum LogRefusal {
+    Step(StepRefusal),
+    OverConditions(usize),
+    OverMarks(usize),
+}
+
+pub enum LogAnswer {
+    Goes,
+    Refused(LogRefusal),
+}
+
+// The answer, and how far the run has come; a refusal says nothing of the arrays that hold the run.
+pub struct Played {
+    pub answer: LogAnswer,
+    pub run: Extent,
+}
+
+pub fn refused(why: LogRefusal, run: Extent) -> Played
+    ensures { λ s. ⌜ s ≡ record { answer = Refused why; run = run } ⌝ }
+{
+    Played {
+        answer: LogAnswer::Refused(why),
+        run,
+    }
+}
+
+// The next step, which is enabled, is built: 26 and 27.
+pub fn build_step(
+    step: &[u8; 128],
+    count: usize,
+    sets: &[u64; 96],
+    x: Extent,
+    rec: &mut [u8],
+    steps: &mut [u8; 128],
+    counts: &mut [u32; 96],
+) -> Played
+    requires { ⌜ Buildable (now step) count (now sets) x (now rec) (now steps) (now counts) ⌝ }
+    ensures { λ s. ⌜ BuiltOn (now (step .entry)) count (now (sets .entry)) x (now (rec .entry)) (now (steps .entry)) (now (counts .entry)) s (now (rec .exit)) (now (steps .exit)) (now (counts .exit)) ⌝ }
+{
+    let places = x.places;
+    let line = x.line;
+    if 512 < x.conditions + made_all(step, count, sets) {
+        return refused(LogRefusal::OverConditions(line), x);
+    }
+    add_all(step, count, sets, MADE, counts, 0);
+    add_all(step, count, sets, GUARDS, counts, WATCHED);
+    let own = x.own + own_all(step, count, sets);
+    if 4096 + own < products(counts, places) {
+        return refused(LogRefusal::OverMarks(line), x);
+    }
+    let conditions = grow(step, count, sets, x, rec, steps, counts);
+    Played {
+        answer: LogAnswer::Goes,
+        run: Extent {
+            places,
+            transitions: x.transitions,
+            line: line + 1,
+            events: x.events + count,
+            conditions,
+            own,
+        },
+    }
+}

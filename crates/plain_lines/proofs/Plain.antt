@@ -1,0 +1,180 @@
+-- Plain lines, put together from their end: a field and its line end, a field, a comma and what follows, and the letter in front.
+-- Assumes nothing.
+use Prim.Native.Nat.{ℕ, suc, _+_, _-_, _≤_, _<_}
+use mathlib.Core.Path.{_≡_, refl, ap, _∙_}
+use mathlib.Core.Bool.{true, false, _&&_, _||_, not, and-false}
+use mathlib.Core.List.{List, [], _∷_, _++_, map}
+use native.Mathlib.Omega.{arith}
+use lib.ListN.{length, getD, drop}
+use lib.Dec.{leb, eqb}
+use borrow.Author.Tests.{leb-false, eqb-true, not-false}
+use Rattle.spec.specs.Lists.{every}
+use Rattle.spec.specs.Text.{Line, named, inDigits, classOf, digitOf, isA, onFirst, linesOf, needlessZero, isNumber, grow, pieces, isOnly, isDash}
+use Rattle.line_forms.specs.Rows.{slotOf, letterOf, letterIn, slotsOf, rowOf}
+use Rattle.spec.specs.Classes.{alike}
+use Rattle.spec.specs.declared.Class.the-variants.{Comma, LineEnd}
+use Rattle.line_forms.specs.declared.Slot.{Slot}
+use Rattle.line_forms.specs.declared.Slot.the-variants.{Dash, Absent}
+use Rattle.lists.specs.Along.{rest-at}
+use Rattle.lists.specs.Laws.{or-false}
+use Rattle.lines.specs.Lines.{lineOf, LineTo}
+use Rattle.digits.specs.Digits.{between, Stands, Without, IsField}
+use Rattle.digits.proofs.Digits.{parted}
+use Rattle.plain_lines.specs.Plain.{Begins, rowWith, PlainLine, MayRead, ThreeAt}
+
+-- ---- a byte
+
+comma-byte : isA Comma 44 ≡ true
+unfolding isA alike classOf named inDigits
+comma-byte = refl
+
+comma-goes-on : isA LineEnd 44 ≡ false
+unfolding isA alike classOf named inDigits
+comma-goes-on = refl
+
+end-byte : isA LineEnd 10 ≡ true
+unfolding isA alike classOf named inDigits
+end-byte = refl
+
+-- ---- bytes in front of a line, and of a piece
+
+line-grows : (b : ℕ) (bs l : List ℕ) (ls : List Line) → isA LineEnd b ≡ false → linesOf bs ≡ record { bytes = l; ended = true } ∷ ls → linesOf (b ∷ bs) ≡ record { bytes = b ∷ l; ended = true } ∷ ls
+unfolding linesOf onFirst
+line-grows b bs l ls e r = rw (e, r)
+
+lines-grow : (p bs l : List ℕ) (ls : List Line) → Without LineEnd p → linesOf bs ≡ record { bytes = l; ended = true } ∷ ls → linesOf (p ++ bs) ≡ record { bytes = p ++ l; ended = true } ∷ ls
+lines-grow [] bs l ls w r = r
+lines-grow (b ∷ p) bs l ls w r = line-grows b (p ++ bs) (p ++ l) ls (w .0) (lines-grow p bs l ls (w .1) r)
+
+line-ends : (bs : List ℕ) → linesOf (10 ∷ bs) ≡ record { bytes = []; ended = true } ∷ linesOf bs
+unfolding linesOf
+line-ends bs = rw end-byte
+
+line-back : (p bs : List ℕ) → Without LineEnd p → linesOf (p ++ 10 ∷ bs) ≡ record { bytes = p; ended = true } ∷ linesOf bs
+line-back [] bs w = line-ends bs
+line-back (b ∷ p) bs w = line-grows b (p ++ 10 ∷ bs) p (linesOf bs) (w .0) (line-back p bs (w .1))
+
+last-piece : (p : List ℕ) → Without Comma p → pieces p ≡ p ∷ []
+unfolding pieces grow
+last-piece [] w = refl
+last-piece (b ∷ p) w = rw (w .0, last-piece p (w .1))
+
+piece-back : (p bs : List ℕ) → Without Comma p → pieces (p ++ 44 ∷ bs) ≡ p ∷ pieces bs
+unfolding pieces grow
+piece-back [] bs w = rw comma-byte
+piece-back (b ∷ p) bs w = rw (w .0, piece-back p bs (w .1))
+
+-- ---- a line from its end
+
+-- from a position on stand these fields and the line end
+pub record Tail (most : ℕ) (s : List ℕ) (at next : ℕ) (fs : List Slot) : Type 0 where
+  pub bytes : List ℕ
+  pub lines : linesOf (drop at s) ≡ record { bytes = bytes; ended = true } ∷ linesOf (drop next s)
+  pub fields : map (slotOf most) (pieces bytes) ≡ fs
+
+stood : {b : ℕ} {s : List ℕ} {at : ℕ} → Stands b s at → drop at s ≡ b ∷ drop (at + 1) s
+stood {b} {s} {at} h = rest-at s at (h .within) ∙ ap (λ (x : ℕ). x ∷ drop (at + 1) s) (h .byte)
+
+module _ {most : ℕ} {s : List ℕ} {at e : ℕ} {f : Slot} (h : at ≤ e) (p : IsField most (between s at e) f) where
+  pub last-field : Stands 10 s e → Tail most s at (e + 1) (f ∷ [])
+  last-field w = record {
+    bytes = between s at e;
+    lines = ap linesOf (parted s at e h ∙ ap (λ (r : List ℕ). between s at e ++ r) (stood w)) ∙ line-back (between s at e) (drop (e + 1) s) (p .ends);
+    fields = ap (map (slotOf most)) (last-piece (between s at e) (p .commas)) ∙ ap (λ (x : Slot). x ∷ []) (p .field);
+  }
+
+  pub more-fields : {next : ℕ} {fs : List Slot} → Stands 44 s e → Tail most s (e + 1) next fs → Tail most s at next (f ∷ fs)
+  more-fields {next} {fs} w t = record {
+    bytes = between s at e ++ 44 ∷ t .bytes;
+    lines =
+        ap linesOf (parted s at e h ∙ ap (λ (r : List ℕ). between s at e ++ r) (stood w))
+        ∙ lines-grow (between s at e) (44 ∷ drop (e + 1) s) (44 ∷ t .bytes) (linesOf (drop next s)) (p .ends) (line-grows 44 (drop (e + 1) s) (t .bytes) (linesOf (drop next s)) comma-goes-on (t .lines));
+    fields =
+        ap (map (slotOf most)) (piece-back (between s at e) (t .bytes) (p .commas))
+        ∙ ap (λ (x : Slot). x ∷ map (slotOf most) (pieces (t .bytes))) (p .field)
+        ∙ ap (λ (r : List Slot). f ∷ r) (t .fields);
+  }
+
+-- ---- the letter in front
+
+row-with : (most : ℕ) (l : List ℕ) (x : ℕ) {fs : List Slot} → letterIn l ≡ classOf x → slotsOf most l ≡ fs → rowOf most l ≡ rowWith (classOf x) fs
+unfolding rowOf
+row-with most l x e q = rw (e, q)
+
+module _ (x : ℕ) (e : isA Comma x ≡ false) where
+  letter-is : (l : List ℕ) → letterIn (x ∷ 44 ∷ l) ≡ classOf x
+  unfolding letterIn letterOf
+  letter-is l = rw (piece-back (x ∷ []) l (e, tt))
+
+  fields-are : (most : ℕ) (l : List ℕ) (fs : List Slot) → map (slotOf most) (pieces l) ≡ fs → slotsOf most (x ∷ 44 ∷ l) ≡ fs
+  unfolding slotsOf
+  fields-are most l fs q = rw (piece-back (x ∷ []) l (e, tt)) q
+
+  letter-only : letterIn (x ∷ []) ≡ classOf x
+  unfolding letterIn letterOf
+  letter-only = rw (last-piece (x ∷ []) (e, tt))
+
+  fields-no : (most : ℕ) → slotsOf most (x ∷ []) ≡ []
+  unfolding slotsOf
+  fields-no most = rw (last-piece (x ∷ []) (e, tt))
+
+module _ {most : ℕ} {s : List ℕ} {at : ℕ} (b : Begins s at) where
+  pub plain-line : {next : ℕ} {fs : List Slot} → Stands 44 s (at + 1) → Tail most s (at + 2) next fs → PlainLine most s at next fs
+  plain-line {next} {fs} w t = record {
+    bytes = getD s at 0 ∷ 44 ∷ t .bytes;
+    lines =
+        ap linesOf (rest-at s at (b .within) ∙ ap (λ (r : List ℕ). getD s at 0 ∷ r) (stood w))
+        ∙ line-grows (getD s at 0) _ (44 ∷ t .bytes) (linesOf (drop next s)) (b .letter .end) (line-grows 44 _ (t .bytes) (linesOf (drop next s)) comma-goes-on (ap (λ (i : ℕ). linesOf (drop i s)) two ∙ t .lines));
+    letter = letter;
+    fields = fields;
+    row = row-with most _ (getD s at 0) letter fields;
+  }
+    where
+      two : at + 1 + 1 ≡ at + 2
+      two = omega arith
+
+      letter : letterIn (getD s at 0 ∷ 44 ∷ t .bytes) ≡ classOf (getD s at 0)
+      letter = letter-is (getD s at 0) (b .letter .comma) (t .bytes)
+
+      fields : slotsOf most (getD s at 0 ∷ 44 ∷ t .bytes) ≡ fs
+      fields = fields-are (getD s at 0) (b .letter .comma) most (t .bytes) fs (t .fields)
+
+  pub letter-alone : Stands 10 s (at + 1) → PlainLine most s at (at + 2) []
+  letter-alone w = record {
+    bytes = getD s at 0 ∷ [];
+    lines =
+        ap linesOf (rest-at s at (b .within) ∙ ap (λ (r : List ℕ). getD s at 0 ∷ r) (stood w))
+        ∙ line-grows (getD s at 0) _ [] _ (b .letter .end) (line-ends (drop (at + 1 + 1) s))
+        ∙ ap (λ (i : ℕ). record { bytes = getD s at 0 ∷ []; ended = true } ∷ linesOf (drop i s)) two;
+    letter = letter-only (getD s at 0) (b .letter .comma);
+    fields = fields-no (getD s at 0) (b .letter .comma) most;
+    row = row-with most _ (getD s at 0) (letter-only (getD s at 0) (b .letter .comma)) (fields-no (getD s at 0) (b .letter .comma) most);
+  }
+    where
+      two : at + 1 + 1 ≡ at + 2
+      two = omega arith
+
+-- ---- a dash
+
+pub dash-field : (most : ℕ) {s : List ℕ} {at : ℕ} → Stands 45 s at → IsField most (between s at (at + 1)) Dash
+unfolding slotOf isNumber needlessZero digitOf every isDash isOnly isA alike classOf named inDigits
+dash-field most {s} {at} h = let z : at + 1 - at ≡ suc 0 = omega arith in rw (z, stood h) (record { commas = (refl, tt); ends = (refl, tt); field = dashed })
+  where
+    dashed : slotOf most (45 ∷ []) ≡ Dash
+    dashed = rw (and-false (leb 1 1 && leb 1 most && not false))
+
+-- ---- a byte behind what was read
+
+pub behind : {from e b : ℕ} (s : List ℕ) → e < length s → (leb e from || not (eqb (getD s e 0) b)) ≡ false → (from < e) × Stands b s e
+behind {from} {e} {b} s l h = let z = or-false (leb e from) (not (eqb (getD s e 0) b)) h in (leb-false e from (z .0), record { within = l; byte = eqb-true (getD s e 0) b (not-false _ (z .1)) })
+
+-- ---- a line that is read, and one of another form
+
+abbrev pub plain-to : {most : ℕ} {s : List ℕ} {at next : ℕ} {fs : List Slot} → MayRead most s at next fs → at < next → LineTo s at next
+plain-to r h = record { line = lineOf (r .line h .bytes) true; lines = r .line h .lines; on = h; within = omega (arith, r .within) }
+
+pub stays : {most : ℕ} {s : List ℕ} {at : ℕ} {fs : List Slot} → at < length s → MayRead most s at at fs
+stays h = record { within = omega arith; line = λ l. absurd (omega arith) }
+
+pub stays-three : {most : ℕ} {s : List ℕ} {at : ℕ} → at < length s → ThreeAt most s at (record { a = 0; b = Absent; c = Absent; next = at })
+stays-three h = record { read = stays h; second = λ l. absurd (omega arith); third = λ l. absurd (omega arith) }

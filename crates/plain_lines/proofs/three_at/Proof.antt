@@ -1,0 +1,19 @@
+use Prim.Native.Nat.{_-_}
+use native.Mathlib.Omega.{arith}
+use lib.Dec.{leb}
+use lib.ListN.{length}
+use borrow.Author.Needs.{needs}
+use borrow.Author.Tests.{leb-true}
+use Rattle.lists.specs.Laws.{and-true}
+use Rattle.plain_lines.proofs.three_at.Statement.{statement}
+use Rattle.plain_lines.proofs.three_at.Tie as tie
+
+pub three-at-spec : {M : Type 1} → statement M
+three-at-spec = tie.close (tie.spec
+    (λ c. omega (arith, c .before .pre .1 .within))
+    (λ c κs. let s = c .before .before in let l = length (s .args .s .now) - s .args .at in
+    (omega (arith, s .pre .1 .within, leb-true 17 l (and-true (leb 4 (s .args .most)) (leb 17 l) (c .if1 .taken) .1)), s .pre .1))
+    (λ c. let s = c .before .before .before in let l = length (s .args .s .now) - s .args .at in
+    c .three-inside .ensures (s .args .most) (leb-true 4 (s .args .most) (and-true (leb 4 (s .args .most)) (leb 17 l) (c .before .if1 .taken) .0)))
+    (λ c κs. search needs)
+    (λ c. c .three-near-end .ensures))

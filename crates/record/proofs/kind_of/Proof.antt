@@ -1,8 +1,0 @@
-use borrow.Author.Tests.{eq-eqb, ne-eqb}
-use Rattle.record.proofs.kind_of.Statement.{statement}
-use Rattle.record.proofs.kind_of.Tie as tie
-
-pub kind-of-spec : {M : Type 1} → statement M
-kind-of-spec = tie.close (tie.spec
-    (λ c. rw (eq-eqb _ _ (c .if1 .taken)))
-    (λ c. rw (ne-eqb _ _ (c .if1 .left))))

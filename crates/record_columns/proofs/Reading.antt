@@ -1,0 +1,99 @@
+-- The lines of a record text, one after the other.
+use Prim.Native.Nat.{ℕ, _+_, _*_, _≤_}
+use mathlib.Core.Path.{_≡_, refl, _∙_}
+use mathlib.Core.Bool.{true, false}
+use mathlib.Core.List.{List, [], _∷_}
+use types.Run.{OneOf, miss}
+use denote.Enum.Declared.{tagOf}
+use native.Mathlib.Omega.{arith}
+use lib.ListN.{length, getD, replicate, length-replicate}
+use Rattle.spec.specs.Net.{Net, places}
+use Rattle.spec.specs.Record.{RunRecord}
+use Rattle.spec.specs.Checking.{enterLine, emptyRecord}
+use Rattle.lines.proofs.Answers.{isGiven}
+use Rattle.lines.proofs.ByLines.{Running, begun, turn, stop, done}
+use Rattle.bit_sets.specs.Sets.{has, no-words}
+use Rattle.reach.specs.Rows.{Sub, rowOf, cellOf, valueOf}
+use Rattle.record_columns.specs.Layout.{markValue}
+use Rattle.record_columns.specs.Reads.{answerOf, goesOf, Holds, Fits, Spans, Declares, Takes, ReadsRecord}
+use Rattle.record_columns.specs.declared.Bounds.{Bounds}
+use Rattle.record_columns.specs.declared.Counts.{Counts}
+use Rattle.record_columns.specs.declared.Took.{Took}
+use Rattle.record_columns.specs.declared.RecordAnswer.{RecordAnswer}
+use Rattle.record_columns.specs.declared.RecordAnswer.the-variants.{Read, Refused}
+use Rattle.record_columns.proofs.RecordAnswer
+
+pub goes-given : (v : RecordAnswer) → isGiven (answerOf v) ≡ goesOf v
+goes-given Read = refl
+goes-given (Refused x) = refl
+
+-- the two cases of an answer
+pub read-case : (v : RecordAnswer) → OneOf (0 ∷ []) (tagOf RecordAnswer.the-type v) → goesOf v ≡ true
+read-case Read u = refl
+read-case (Refused x) u = absurd (miss (0 ∷ []) 1 tt u)
+
+pub refused-case : (v : RecordAnswer) → OneOf (1 ∷ []) (tagOf RecordAnswer.the-type v) → goesOf v ≡ false
+refused-case Read u = absurd (miss (1 ∷ []) 0 tt u)
+refused-case (Refused x) u = refl
+
+-- ---- the lines so far
+
+-- for every net with so many places and transitions
+abbrev pub Reading : Bounds → List ℕ → ℕ → ℕ → Counts → List ℕ → List ℕ → Type 0
+Reading b text k at s rec words = (N : Net) → Declares b N → Running (enterLine (b .limits) N) text emptyRecord k at (Holds s rec words)
+
+abbrev noCounts : Counts
+noCounts = record { events = 0; conditions = 0; marks = 0 }
+
+zero-row : (words : List ℕ) → ((i : ℕ) → getD words i 0 ≡ 0) → (c e : ℕ) → (has (rowOf words c .path) e ≡ 0) × (has (rowOf words c .strict) e ≡ 0)
+unfolding rowOf
+zero-row words z c e = (no-words _ (z _) (z _) e, no-words _ (z _) (z _) e)
+
+pub entered-none : (b : Bounds) (text rec words : List ℕ) → 1664 ≤ length rec → ((i : ℕ) → getD words i 0 ≡ 0) → Reading b text 1 0 noCounts rec words
+unfolding emptyRecord markValue cellOf valueOf Sub
+entered-none b text rec words long z N d = begun (enterLine (b .limits) N) text (record {
+  columns = record {
+    events = refl;
+    conditions = refl;
+    marks = refl;
+    fewEvents = omega arith;
+    fewConditions = omega arith;
+    long = long;
+    transition = λ e l. absurd (omega arith);
+    place = λ c l. absurd (omega arith);
+    producer = λ c l. absurd (omega arith);
+    consumer = λ c l. absurd (omega arith);
+  };
+  marks = record { sub = λ c e. let q = zero-row words z c e in omega arith; cell = λ c e. let q = zero-row words z c e in omega arith };
+})
+
+-- a net with so many places and transitions
+netOf : ℕ → ℕ → Net
+netOf ps ts = record { tokens = replicate ps 0; transitions = ts; arcs = [] }
+
+declared : (b : Bounds) → Declares b (netOf (b .places) (b .transitions))
+unfolding netOf
+declared b = record { places = length-replicate {A = ℕ} (b .places) 0; transitions = refl }
+
+module _ (b : Bounds) {text : List ℕ} {k at : ℕ} {s : Counts} {rec words : List ℕ} (g : Reading b text k at s rec words) where
+  held : (R : RunRecord) × Holds s rec words R
+  held = let h = g (netOf (b .places) (b .transitions)) (declared b) in (h .state, h .holds)
+
+  pub fits : Fits s rec
+  fits = let h = held .1 .columns in record { events = h .fewEvents; conditions = h .fewConditions; long = h .long }
+
+  pub spans : 4 * s .conditions ≤ length words → Spans s words
+  spans r = record { room = r; sub = held .1 .marks .sub }
+
+  module _ {r : Took} {rec′ words′ : List ℕ} (t : Takes b text at k s rec words r rec′ words′) where
+    pub entered-on : goesOf (r .step .answer) ≡ true → Reading b text (k + 1) (r .next) (r .step .counts) rec′ words′
+    entered-on h N d = turn (g N d) (t .found) (t .enters N d .answers (g N d .state) (g N d .holds)) (goes-given (r .step .answer) ∙ h)
+
+    pub entered-no : goesOf (r .step .answer) ≡ false → ReadsRecord b text (r .step) rec′ words′
+    entered-no h N d = stop (g N d) (t .found) (t .enters N d .answers (g N d .state) (g N d .holds)) (goes-given (r .step .answer) ∙ h)
+
+    pub grown : r .step .counts .conditions ≤ s .conditions + 1
+    grown = t .enters (netOf (b .places) (b .transitions)) (declared b) .grown
+
+  pub entered-all : length text ≤ at → ReadsRecord b text (record { answer = Read; counts = s }) rec words
+  entered-all u N d = done (g N d) u refl (g N d .holds)

@@ -1,0 +1,234 @@
+-- The words of sets of conditions.
+use Prim.Native.Nat.{ℕ, zero, suc, _+_, _-_, _*_, _/_, _%_, _^_, _≤_, _<_, min, max}
+use mathlib.Core.Path.{_≡_, refl, sym, ap, _∙_, subst}
+use mathlib.Core.Logic.{inl, inr}
+use mathlib.Core.List.{List}
+use native.Mathlib.Nat.{one-mul, pow-suc, not-suc-le-zero}
+use native.Mathlib.Decide.{ℕ-discrete, decLt}
+use native.Mathlib.Omega.{arith}
+use lib.Dec.{lit<}
+use lib.Pow.{shl-exact}
+use lib.Bits.{bitAnd, bitOr, bitXor, and-le-l}
+use lib.Count.{trailingZeros, under}
+use lib.ListN.{length, getD, set, length-set}
+use lib.Seq.{getD-set-same, getD-set-other}
+use Rattle.lists.specs.Stretch.{MappedFrom}
+use Rattle.bit_sets.specs.Bits.{bit, bit-most, bit-or, bit-less, bit-zero, bit-suc, bit-low, bit-pow, bit-pow-other, trailing}
+use Rattle.record_writer.specs.Sets.{bitAt, Tells, Placed, Watched, WatchedBy, OthersKept, Ready}
+
+pub at-most : (sets : List ℕ) (r c : ℕ) → bitAt sets r c < 2
+unfolding bitAt
+at-most sets r c = bit-most (getD sets (8 * r + c / 64) 0) (c % 64)
+
+at-none : (sets : List ℕ) → ((i : ℕ) → getD sets i 0 ≡ 0) → (r c : ℕ) → bitAt sets r c ≡ 0
+unfolding bitAt
+at-none sets z r c = ap (λ (w : ℕ). bit w (c % 64)) (z (8 * r + c / 64)) ∙ bit-zero (c % 64)
+
+pub word-one : (k : ℕ) → k < 64 → (1 * 2 ^ k) % 2 ^ 64 ≡ 2 ^ k
+word-one k h = shl-exact 1 k 64 (lit< tt) (omega arith) ∙ one-mul (2 ^ k)
+
+-- ---- the sets of the places
+
+pub placed-none : (rec : List ℕ) {sets : List ℕ} → ((i : ℕ) → getD sets i 0 ≡ 0) → Placed rec 0 sets
+placed-none rec {sets} z = record { tells = λ p c l h. record { holds = λ q. absurd (omega (arith, q .0)); says = λ e. absurd (omega (arith, e, at-none sets z p c)) } }
+
+module _ (rec sets : List ℕ) (n v : ℕ) (h : n < 512) (l : getD rec (128 + n) 0 < 32) (long : length sets ≡ 256)
+    (e : v ≡ bitOr (getD sets (8 * getD rec (128 + n) 0 + n / 64) 0) ((1 * 2 ^ (n % 64)) % 2 ^ 64)) where
+  abbrev here : ℕ
+  here = 8 * getD rec (128 + n) 0 + n / 64
+
+  abbrev entered : List ℕ
+  entered = set sets here v
+
+  entered-bit : (p c : ℕ) → 8 * p + c / 64 ≡ here → bitAt entered p c ≡ max (bitAt sets p c) (bit (2 ^ (n % 64)) (c % 64))
+  unfolding bitAt
+  entered-bit p c q =
+      ap (λ (i : ℕ). bit (getD entered i 0) (c % 64)) q
+      ∙ ap (λ (w : ℕ). bit w (c % 64)) (getD-set-same sets here v 0 (omega arith) ∙ e ∙ ap (bitOr (getD sets here 0)) (word-one (n % 64) (omega arith)))
+      ∙ bit-or (getD sets here 0) (2 ^ (n % 64)) (c % 64)
+      ∙ ap (λ (i : ℕ). max (bit (getD sets i 0) (c % 64)) (bit (2 ^ (n % 64)) (c % 64))) (sym q)
+
+  other-bit : (p c : ℕ) → (8 * p + c / 64 ≡ here → ⊥) → bitAt entered p c ≡ bitAt sets p c
+  unfolding bitAt
+  other-bit p c d = ap (λ (w : ℕ). bit w (c % 64)) (getD-set-other sets here (8 * p + c / 64) v 0 d)
+
+  -- condition n joins the set of its place
+  pub placed-more : Placed rec n sets → Placed rec (n + 1) entered
+  placed-more P = record {
+    tells = λ p c lp lc. elim (ℕ-discrete c n) [
+      | yes q ↦ elim (ℕ-discrete (8 * p + c / 64) here) [
+        | yes w ↦
+            let b : bit (2 ^ (n % 64)) (c % 64) ≡ 1 = ap (λ (i : ℕ). bit (2 ^ (n % 64)) (i % 64)) q ∙ bit-pow (n % 64) in
+            let g : getD rec (128 + c) 0 ≡ getD rec (128 + n) 0 = ap (λ (i : ℕ). getD rec (128 + i) 0) q in
+            record { holds = λ x. omega (arith, entered-bit p c w, at-most sets p c); says = λ x. (omega arith, omega arith) }
+        | no d ↦
+            let g : getD rec (128 + c) 0 ≡ getD rec (128 + n) 0 = ap (λ (i : ℕ). getD rec (128 + i) 0) q in
+            record { holds = λ x. absurd (d (omega (arith, x .1))); says = λ x. absurd (omega (arith, P .tells p c lp lc .says (sym (other-bit p c d) ∙ x) .0)) }
+      ]
+      | no f ↦ let s = same p c f lp lc in record { holds = λ x. s ∙ P .tells p c lp lc .holds (omega (arith, x .0), x .1); says = λ x. let y = P .tells p c lp lc .says (sym s ∙ x) in (omega (arith, y .0), y .1) }
+    ];
+  }
+    where
+      same : (p c : ℕ) → (c ≡ n → ⊥) → p < 32 → c < 512 → bitAt entered p c ≡ bitAt sets p c
+      same p c f lp lc = elim (ℕ-discrete (8 * p + c / 64) here) [
+        | yes w ↦ omega (arith, entered-bit p c w, bit-pow-other (n % 64) (c % 64) (λ g. f (omega arith)))
+        | no d ↦ other-bit p c d
+      ]
+
+pub placed-end : {rec sets : List ℕ} {i : ℕ} (n : ℕ) → i ≡ n → Placed rec i sets → Placed rec n sets
+placed-end {rec} {sets} n e P = subst (λ (k : ℕ). Placed rec k sets) e P
+
+-- ---- the sets of the transitions
+
+pub watched-end : {arcs sets watched : List ℕ} {t i : ℕ} (n : ℕ) → i ≡ n → WatchedBy arcs sets t i watched → WatchedBy arcs sets t n watched
+watched-end {arcs} {sets} {watched} {t} n e W = subst (λ (k : ℕ). WatchedBy arcs sets t k watched) e W
+
+pub others-none : (t : ℕ) (watched : List ℕ) → OthersKept t watched watched
+others-none t watched = record { long = refl; kept = λ r c d h. refl }
+
+module _ {old new : List ℕ} (sets : List ℕ) (t p : ℕ) (m : MappedFrom old (8 * t) 8 (λ w. bitOr (getD old (8 * t + w) 0) (getD sets (8 * p + w) 0)) new) where
+  pub joined : (c : ℕ) → c < 512 → bitAt new t c ≡ max (bitAt old t c) (bitAt sets p c)
+  unfolding bitAt
+  joined c h = ap (λ (w : ℕ). bit w (c % 64)) (m .here (c / 64) (omega arith)) ∙ bit-or (getD old (8 * t + c / 64) 0) (getD sets (8 * p + c / 64) 0) (c % 64)
+
+  pub unjoined : OthersKept t old new
+  unfolding bitAt
+  unjoined = record {
+    long = m .long;
+    kept = λ r c d h. elim (decLt r t) [
+      | yes l ↦ ap (λ (w : ℕ). bit w (c % 64)) (m .before (8 * r + c / 64) (omega arith))
+      | no g ↦ ap (λ (w : ℕ). bit w (c % 64)) (m .beyond (8 * r + c / 64) (omega arith))
+    ];
+  }
+
+module _ {arcs sets : List ℕ} {t : ℕ} where
+  pub watched-none : {watched : List ℕ} → ((c : ℕ) → c < 512 → bitAt watched t c ≡ 0) → WatchedBy arcs sets t 0 watched
+  watched-none z = record { tells = λ c h. record { holds = λ x. absurd (omega (arith, x .1)); says = λ e. absurd (omega (arith, e, z c h)) } }
+
+  -- the set of one place more that inhibits the transition
+  pub watched-more : {old new : List ℕ} {n : ℕ} → 0 < getD arcs (2048 + (32 * t + n)) 0 → ((c : ℕ) → c < 512 → bitAt new t c ≡ max (bitAt old t c) (bitAt sets n c)) → WatchedBy arcs sets t n old → WatchedBy arcs sets t (n + 1) new
+  watched-more {old} {new} {n} g j W = record {
+    tells = λ c h. record {
+      holds = λ x. elim (ℕ-discrete (x .0) n) [
+        | yes q ↦ omega (arith, j c h, at-most old t c, ap (λ (p : ℕ). bitAt sets p c) q, x .3)
+        | no d ↦ omega (arith, j c h, at-most sets n c, W .tells c h .holds (x .0, omega (arith, x .1), x .2, x .3))
+      ];
+      says = λ e. elim (ℕ-discrete (bitAt old t c) 1) [
+        | yes q ↦ let y = W .tells c h .says q in (y .0, omega (arith, y .1), y .2, y .3)
+        | no d ↦ (n, omega arith, g, omega (arith, j c h, e, at-most old t c))
+      ];
+    };
+  }
+
+  -- one that does not
+  pub watched-less : {watched : List ℕ} {n : ℕ} → getD arcs (2048 + (32 * t + n)) 0 ≡ 0 → WatchedBy arcs sets t n watched → WatchedBy arcs sets t (n + 1) watched
+  watched-less {watched} {n} z W = record {
+    tells = λ c h. record {
+      holds = λ x. elim (ℕ-discrete (x .0) n) [
+        | yes q ↦ absurd (omega (arith, z, x .2, ap (λ (p : ℕ). getD arcs (2048 + (32 * t + p)) 0) q))
+        | no d ↦ W .tells c h .holds (x .0, omega (arith, x .1), x .2, x .3)
+      ];
+      says = λ e. let y = W .tells c h .says e in (y .0, omega (arith, y .1), y .2, y .3);
+    };
+  }
+
+pub others-after : {t : ℕ} {old mid new : List ℕ} → OthersKept t old mid → OthersKept t mid new → OthersKept t old new
+others-after a b = record { long = b .long ∙ a .long; kept = λ r c d h. b .kept r c d h ∙ a .kept r c d h }
+
+module _ {arcs sets known watched : List ℕ} where
+  pub ready-none : length known ≡ 32 → length watched ≡ 256 → ((i : ℕ) → getD watched i 0 ≡ 0) → ((i : ℕ) → getD known i 0 ≡ 0) → Ready arcs sets known watched
+  ready-none kl wl z k = record { wide = kl; long = wl; tells = λ t c l h. record { holds = λ x. absurd (x .0 (k t)); says = λ e. absurd (omega (arith, e, at-none watched z t c)) } }
+
+  module _ (t : ℕ) (l : t < 32) (R : Ready arcs sets known watched) where
+    pub ready-empty : getD known t 0 ≡ 0 → (c : ℕ) → c < 512 → bitAt watched t c ≡ 0
+    ready-empty z c h = elim (ℕ-discrete (bitAt watched t c) 1) [
+      | yes q ↦ absurd (R .tells t c l h .says q .0 z)
+      | no d ↦ omega (arith, at-most watched t c)
+    ]
+
+    pub ready-known : (getD known t 0 ≡ 0 → ⊥) → WatchedBy arcs sets t 32 watched
+    ready-known d = record { tells = λ c h. record { holds = λ x. R .tells t c l h .holds (d, x); says = λ e. R .tells t c l h .says e .1 } }
+
+    pub ready-more : {new : List ℕ} → WatchedBy arcs sets t 32 new → OthersKept t watched new → Ready arcs sets (set known t 1) new
+    ready-more {new} W K = record {
+      wide = length-set known t 1 ∙ R .wide;
+      long = K .long ∙ R .long;
+      tells = λ r c lr h. elim (ℕ-discrete r t) [
+        | yes q ↦
+            let k : getD (set known t 1) r 0 ≡ 1 = ap (λ (i : ℕ). getD (set known t 1) i 0) q ∙ getD-set-same known t 1 0 (omega (arith, R .wide)) in
+            rw q (record { holds = λ x. W .tells c h .holds (x .1); says = λ e. (λ z. omega (arith, getD-set-same known t 1 0 (omega (arith, R .wide)), z), W .tells c h .says e) })
+        | no d ↦
+            let k : getD (set known t 1) r 0 ≡ getD known r 0 = getD-set-other known t r 1 0 d in
+            record { holds = λ x. K .kept r c d h ∙ R .tells r c lr h .holds (λ z. x .0 (k ∙ z), x .1); says = λ e. let y = R .tells r c lr h .says (sym (K .kept r c d h) ∙ e) in (λ z. y .0 (sym k ∙ z), y .1) }
+      ];
+    }
+
+-- ---- the bits of a word, from the lowest on
+
+pub trailing-below : (k x f : ℕ) → f < trailingZeros k x → bit x f ≡ 0
+unfolding trailingZeros
+trailing-below zero x f h = absurd (not-suc-le-zero h)
+trailing-below (suc k) x f h = go (x % 2) refl (trailing-below k (x / 2)) f h
+  where
+    go : (d : ℕ) → x % 2 ≡ d → ((f : ℕ) → f < trailingZeros k (x / 2) → bit (x / 2) f ≡ 0) → (f : ℕ) → f < under d (trailingZeros k (x / 2)) → bit x f ≡ 0
+    go (suc d) q b f u = absurd (not-suc-le-zero u)
+    go zero q b zero u = bit-low x ∙ q
+    go zero q b (suc f) u = bit-suc x f ∙ b f (omega arith)
+
+no-bits : (k x : ℕ) → x < 2 ^ k → ((f : ℕ) → f < k → bit x f ≡ 0) → x ≡ 0
+no-bits zero x l z = omega arith
+no-bits (suc k) x l z =
+    let q : 2 ^ suc k ≡ 2 ^ k * 2 = pow-suc 2 k in
+    omega (arith, bit-low x, z 0 (omega arith), no-bits k (x / 2) (omega arith) (λ f h. sym (bit-suc x f) ∙ z (suc f) (omega arith)))
+
+-- bits holds those of word from d on
+pub record Left (word bits d : ℕ) : Type 0 where
+  pub small : bits < 2 ^ 64
+  pub done : (i : ℕ) → i < d → bit bits i ≡ 0
+  pub left : (i : ℕ) → d ≤ i → bit bits i ≡ bit word i
+
+pub left-all : (word : ℕ) → word < 2 ^ 64 → Left word word 0
+left-all word h = record { small = h; done = λ i h. absurd (not-suc-le-zero h); left = λ i h. refl }
+
+module _ {word bits d i : ℕ} (L : Left word bits d) (t : i ≡ trailingZeros 64 bits) where
+  pub lowest : (bits ≡ 0 → ⊥) → (i < 64) × (bit bits i ≡ 1)
+  lowest z = elim (trailing 64 bits) [
+    | inl r ↦ (omega (arith, r .0), ap (bit bits) t ∙ r .1)
+    | inr r ↦ absurd (z (no-bits 64 bits (L .small) (r .1)))
+  ]
+
+  module _ (b : bit bits i ≡ 1) where
+    pub left-within : d ≤ i
+    left-within = elim (decLt i d) [ yes h ↦ absurd (omega (arith, L .done i h)) | no g ↦ omega arith ]
+
+    pub lowest-word : bit word i ≡ 1
+    lowest-word = sym (L .left i left-within) ∙ b
+
+    pub skipped : (j : ℕ) → d ≤ j → j < i → bit word j ≡ 0
+    skipped j h l = sym (L .left j h) ∙ trailing-below 64 bits j (omega arith)
+
+    abbrev rest : ℕ
+    rest = bitAnd bits (bitXor bits ((1 * 2 ^ i) % 2 ^ 64))
+
+    rest-bit : i < 64 → (j : ℕ) → bit rest j ≡ min (bit bits j) (1 - bit (2 ^ i) j)
+    rest-bit h j = ap (λ (z : ℕ). bit (bitAnd bits (bitXor bits z)) j) (word-one i h) ∙ bit-less bits (2 ^ i) j
+
+    pub left-rest : i < 64 → Left word rest (i + 1)
+    left-rest h = record {
+      small = omega (arith, L .small, and-le-l bits (bitXor bits ((1 * 2 ^ i) % 2 ^ 64)));
+      done = λ j l. elim (ℕ-discrete j i) [
+        | yes q ↦ rw q (omega (arith, rest-bit h i, bit-pow i))
+        | no g ↦ omega (arith, rest-bit h j, trailing-below 64 bits j (omega arith))
+      ];
+      left = λ j l. omega (arith, rest-bit h j, bit-pow-other i j (λ q. omega arith), L .left j (omega (arith, left-within)), bit-most bits j);
+    }
+
+    -- the word gets less
+    pub rest-less : i < 64 → rest < bits
+    rest-less h = elim (ℕ-discrete rest bits) [
+      | yes q ↦ absurd (omega (arith, ap (λ (z : ℕ). bit z i) q, rest-bit h i, bit-pow i))
+      | no g ↦ omega (arith, and-le-l bits (bitXor bits ((1 * 2 ^ i) % 2 ^ 64)))
+    ]
+
+pub nothing-left : {word bits d : ℕ} → Left word bits d → bits ≡ 0 → (j : ℕ) → d ≤ j → bit word j ≡ 0
+nothing-left L z j h = sym (L .left j h) ∙ ap (λ (x : ℕ). bit x j) z ∙ bit-zero j

@@ -1,0 +1,32 @@
+-- Invariant: the lines of the events below e are written.
+use Prim.Native.Nat.{_-_, _≤_}
+use mathlib.Core.Path.{_≡_, refl, sym, ap, _∙_}
+use native.Mathlib.Nat.{zero-add}
+use native.Mathlib.Omega.{arith}
+use lib.ListN.{getD}
+use Rattle.spec.specs.Record.{eventLine}
+use Rattle.columns.specs.Columns.{column, column-at}
+use Rattle.writing.specs.Written.{Wrote}
+use Rattle.writing.proofs.Laws.{wrote-length}
+use Rattle.line_writer.proofs.Lines.{wrote-as, room-as}
+use Rattle.record_writer.specs.Bytes.{joinedTo, eventBytes}
+use Rattle.record_writer.proofs.Joining.{wrote-none, wrote-room, wrote-next, wrote-all, event-at}
+use Rattle.record_writer.proofs.put_events.Statement.{statement}
+use Rattle.record_writer.proofs.put_events.Tie as tie
+
+abbrev Inv-loop : tie.InvT-loop
+Inv-loop out₀ at rec n next₀ e₀ out next e = (e ≤ n) × Wrote out₀ at (joinedTo (eventBytes (column 0 128 rec)) e) next out
+
+abbrev μ-loop : tie.MeasureT-loop
+μ-loop out₀ at rec n next₀ e₀ out next e = n - e
+
+pub put-events-spec : {M : Type 1} → statement M
+put-events-spec = tie.close (tie.spec Inv-loop μ-loop
+    (λ c. (omega arith, wrote-none _ _ _))
+    (λ c. omega arith)
+    (λ c κs. let l = c .before .before .before in let s = c .before .before .before .before .before .before in room-as (l .loop .next) (event-at (s .args .rec .now) (l .loop .e) (omega arith)) (wrote-room _ (l .loop .e) (s .args .n) (l .loop .inv .1) (omega arith) (s .pre .2)))
+    (λ c. omega arith)
+    (λ c. omega arith)
+    (λ c. let l = c .before .before .before .before .before .before in let s = c .before .before .before .before .before .before .before .before .before in (omega arith, wrote-next _ (l .loop .e) (l .loop .inv .1) (wrote-as (c .before .before .put-event .ensures) (sym (event-at (s .args .rec .now) (l .loop .e) (omega arith))))))
+    (λ c. wrote-length (c .before .loop .inv .1))
+    (λ c. wrote-all _ (omega arith) (c .before .loop .inv .1)))

@@ -1,0 +1,23 @@
+-- Invariant: the sets of the places below p that inhibit the transition are joined.
+use Prim.Native.Nat.{_-_, _≤_}
+use mathlib.Core.Path.{_∙_}
+use native.Mathlib.Omega.{arith}
+use Rattle.record_writer.specs.Sets.{WatchedBy, OthersKept}
+use Rattle.record_writer.proofs.Words.{watched-none, watched-end, others-none, others-after}
+use Rattle.record_writer.proofs.watch.Statement.{statement}
+use Rattle.record_writer.proofs.watch.Tie as tie
+
+abbrev Inv-loop : tie.InvT-loop
+Inv-loop watched₀ t sets arcs p₀ watched p = (p ≤ 32) × WatchedBy arcs sets t p watched × OthersKept t watched₀ watched
+
+abbrev μ-loop : tie.MeasureT-loop
+μ-loop watched₀ t sets arcs p₀ watched p = 32 - p
+
+pub watch-spec : {M : Type 1} → statement M
+watch-spec = tie.close (tie.spec Inv-loop μ-loop
+    (λ c. (omega arith, watched-none (c .pre .2), others-none _ _))
+    (λ c κs. let l = c .before .before in let s = c .before .before .before in (s .pre .0, omega arith, l .loop .inv .2 .long ∙ s .pre .1, l .loop .inv .1))
+    (λ c. omega arith)
+    (λ c. omega arith)
+    (λ c. let l = c .before .before .before in (omega arith, c .watch-place .ensures .0, others-after (l .loop .inv .2) (c .watch-place .ensures .1)))
+    (λ c. let l = c .before in (watched-end _ (omega arith) (l .loop .inv .1), l .loop .inv .2)))

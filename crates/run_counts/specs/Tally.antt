@@ -1,0 +1,84 @@
+-- What is counted of a run, so that its conditions and its marks are known without building them.
+use Prim.Native.Nat.{ℕ, _+_, _*_, _≤_, _<_}
+use mathlib.Core.Path.{_≡_}
+use mathlib.Core.Bool.{Bool}
+use mathlib.Core.List.{List}
+use lib.Dec.{eqb}
+use lib.ListN.{length, getD}
+use Rattle.spec.specs.Lists.{upTo, count, sumOf, asCount}
+use Rattle.spec.specs.Net.{Net, places, makes, inhibits}
+use Rattle.spec.specs.Record.{Condition}
+use Rattle.spec.specs.Building.{Event, Run}
+use Rattle.columns.specs.Columns.{column}
+use Rattle.arc_sets.specs.Sets.{arcAt}
+use Rattle.steps.specs.StepArrays.{over}
+
+-- the condition is one of place p
+unfoldable pub heldIn : ℕ → Condition → Bool
+heldIn p c = eqb (c .place) p
+
+-- place p inhibits the event
+unfoldable pub watchedFrom : Net → ℕ → Event → Bool
+watchedFrom N p v = inhibits N p (v .transition)
+
+-- how many tokens transition t makes in places that inhibit it
+unfoldable pub ownOf : Net → ℕ → ℕ
+ownOf N t = sumOf (λ p. asCount (inhibits N p t) * makes N t p) (upTo (places N))
+
+unfoldable pub ownAll : Net → List Event → ℕ
+ownAll N es = sumOf (λ v. ownOf N (v .transition)) es
+
+-- ---- by sets and arrays
+
+-- how many places the outputs of transition t have
+unfoldable pub sizeOf : List ℕ → ℕ → ℕ
+sizeOf sets t = sumOf (arcAt sets 32 t) (upTo 64)
+
+-- how many of them inhibit it
+unfoldable pub bothOf : List ℕ → ℕ → ℕ
+bothOf sets t = sumOf (λ p. arcAt sets 64 t p * arcAt sets 32 t p) (upTo 64)
+
+-- what is counted of a run: of each place its conditions and the events that it inhibits, and how often an event made a
+-- condition in a place that inhibits it
+pub record Tally : Type 0 where
+  pub held : List ℕ
+  pub watched : List ℕ
+  pub own : ℕ
+
+-- by columns of the counts
+abbrev pub tallyAt : ℕ → List ℕ → Tally
+tallyAt own counts = record { held = column 0 32 counts; watched = column 32 32 counts; own = own }
+
+-- the entries of two arrays at p, multiplied
+unfoldable pub timesAt : List ℕ → List ℕ → ℕ → ℕ
+timesAt xs ys p = getD xs p 0 * getD ys p 0
+
+-- each of the first n entries is at most b
+abbrev pub AtMost : ℕ → ℕ → List ℕ → Type 0
+AtMost b n xs = (p : ℕ) → p < n → getD xs p 0 ≤ b
+
+-- what adding to a tally relies on
+pub record Small (m : ℕ) (t : Tally) : Type 0 where
+  pub few : m ≤ 32
+  pub longHeld : length (t .held) ≡ 32
+  pub longWatched : length (t .watched) ≡ 32
+  pub held : AtMost 100000 m (t .held)
+  pub watched : AtMost 100000 m (t .watched)
+  pub own : t .own ≤ 1000000000000
+
+-- the tally after a step whose transitions are ts
+pub record Tallies (sets : List ℕ) (m : ℕ) (ts : List ℕ) (t t′ : Tally) : Type 0 where
+  pub longHeld : length (t′ .held) ≡ 32
+  pub longWatched : length (t′ .watched) ≡ 32
+  pub held : (p : ℕ) → p < m → getD (t′ .held) p 0 ≡ getD (t .held) p 0 + over (arcAt sets 32) ts p
+  pub watched : (p : ℕ) → p < m → getD (t′ .watched) p 0 ≡ getD (t .watched) p 0 + over (arcAt sets 64) ts p
+  pub own : t′ .own ≡ t .own + sumOf (bothOf sets) ts
+
+-- ---- the tally of a run
+
+pub record Tallied (N : Net) (r : Run) (t : Tally) : Type 0 where
+  pub longHeld : length (t .held) ≡ 32
+  pub longWatched : length (t .watched) ≡ 32
+  pub held : (p : ℕ) → p < places N → getD (t .held) p 0 ≡ count (heldIn p) (r .conditions)
+  pub watched : (p : ℕ) → p < places N → getD (t .watched) p 0 ≡ count (watchedFrom N p) (r .events)
+  pub own : t .own ≡ ownAll N (r .events)

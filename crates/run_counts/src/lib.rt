@@ -1,0 +1,67 @@
+// What is counted of a run: by place its conditions and the events that the place inhibits, so that its conditions and its
+// marks are known without building them.
+ghost use mathlib.Core.Path.{_≡_};
+ghost use Prim.Native.Nat.{_*_, _≤_};
+ghost use lib.ListN.{take};
+ghost use Rattle.spec.specs.Lists.{sumOf, upTo};
+ghost use Rattle.columns.specs.Columns.{column};
+ghost use Rattle.arc_sets.specs.Sets.{arcAt};
+ghost use Rattle.steps.specs.StepArrays.{IsStep};
+ghost use Rattle.run_counts.specs.Tally.{sizeOf, bothOf, timesAt, AtMost};
+use arc_sets::GUARDS;
+use arc_sets::MADE;
+use arc_sets::size;
+use steps::wide;
+
+// The counts by place stand in one array, 32 entries each: the conditions, the events that the place inhibits, and the first
+// condition that may be free.
+pub const WATCHED: usize = 32;
+
+fn widest(n: u32) -> usize
+    ensures { λ r. ⌜ (r ≡ n) × (r ≤ 4294967295) ⌝ }
+{
+    n as usize
+}
+
+// How many conditions the events of a step make.
+pub fn made_all(step: &[u8; 128], count: usize, sets: &[u64; 96]) -> usize
+    requires { ⌜ IsStep (now step) count ⌝ }
+    ensures { λ r. ⌜ (r ≡ sumOf (sizeOf (now (sets .entry))) (take count (now (step .entry)))) × (r ≤ 64 * count) ⌝ }
+{
+    let mut r: usize = 0;
+    let mut i: usize = 0;
+    while i < count {
+        r += size(sets[MADE + wide(step[i])]);
+        i += 1;
+    }
+    r
+}
+
+// How often they make one in a place that inhibits them.
+pub fn own_all(step: &[u8; 128], count: usize, sets: &[u64; 96]) -> usize
+    requires { ⌜ IsStep (now step) count ⌝ }
+    ensures { λ r. ⌜ (r ≡ sumOf (bothOf (now (sets .entry))) (take count (now (step .entry)))) × (r ≤ 64 * count) ⌝ }
+{
+    let mut r: usize = 0;
+    let mut i: usize = 0;
+    while i < count {
+        let t = wide(step[i]);
+        r += size(sets[MADE + t] & sets[GUARDS + t]);
+        i += 1;
+    }
+    r
+}
+
+// In the first m places, the conditions times the events that the place inhibits.
+pub fn products(counts: &[u32; 96], m: usize) -> usize
+    requires { ⌜ (m ≤ 32) × AtMost 1000000 m (column 0 32 (now counts)) × AtMost 1000000 m (column 32 32 (now counts)) ⌝ }
+    ensures { λ r. ⌜ r ≡ sumOf (timesAt (column 0 32 (now (counts .entry))) (column 32 32 (now (counts .entry)))) (upTo m) ⌝ }
+{
+    let mut r: usize = 0;
+    let mut p: usize = 0;
+    while p < m {
+        r += widest(counts[p]) * widest(counts[WATCHED + p]);
+        p += 1;
+    }
+    r
+}
