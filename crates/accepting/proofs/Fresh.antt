@@ -8,7 +8,7 @@ use Rattle.bit_sets.specs.Sets.{has, no-words}
 use Rattle.lists.specs.Arrays.{blank}
 use Rattle.reach.specs.Rows.{cellOf, Good, rowOf, Sub, valueOf}
 use Rattle.net.specs.NetArrays.{Blank as NetBlank}
-use Rattle.record_columns.specs.Reads.{Blank as RecordBlank}
+use Rattle.record_reader.specs.Reads.{Blank as RecordBlank}
 use Rattle.accepting.specs.Relation.{Blank}
 
 pub fresh-net : NetBlank (replicate 32 0) (replicate 3072 0)

@@ -4,7 +4,7 @@ ghost use Rattle.spec.specs.Answer.{gives, refuses};
 ghost use Rattle.spec.specs.Values.{asNumbers};
 ghost use Rattle.lines.specs.Agree.{refusedAs};
 ghost use Rattle.net.specs.NetArrays.{netRefusal, answerOf as netAnswer};
-ghost use Rattle.record_columns.specs.Reads.{recordRefusal};
+ghost use Rattle.record_columns.specs.Enters.{recordRefusal};
 ghost use Rattle.steps.specs.Judged.{stepRefused};
 ghost use Rattle.log_steps.specs.RunArrays.{logRefused};
 ghost use Rattle.building.specs.Answers.{buildAnswer};

@@ -6,12 +6,12 @@ use arc_sets::GUARDS;
 use arc_sets::MADE;
 use conditions::Extent;
 use history::grow;
-use steps::StepRefusal;
-use steps::add_all;
 use run_counts::WATCHED;
 use run_counts::made_all;
 use run_counts::own_all;
 use run_counts::products;
+use steps::StepRefusal;
+use steps::add_all;
 
 // What a log is refused for: a line as a step, or that its record would be too large; with its line.
 pub enum LogRefusal {

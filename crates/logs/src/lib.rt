@@ -2,12 +2,12 @@
 ghost use mathlib.Core.Path.{_≡_};
 ghost use Rattle.logs.specs.LogRun.{positionOf, Begun, PlayedLog, Beginnable, BeginsAt};
 use conditions::Extent;
+use history::start;
 use log_steps::LogAnswer;
 use log_steps::LogRefusal;
 use log_steps::Played;
 use log_steps::build_step;
 use log_steps::refused;
-use history::start;
 use step_lines::judge_line;
 use steps::Position;
 use steps::StepAnswer;

@@ -10,8 +10,8 @@ use arrangement_reader::finish;
 use arrangement_reader::first_broken;
 use arrangement_reader::goes;
 use arrangement_reader::read_lines;
-use reach::WORDS;
 use marking_rows::LINED;
+use reach::WORDS;
 
 // The lines of a text, of the n events whose closed order is in the rows of bits w. Where they are an arrangement,
 // the array has them: their events one after the other, and at 128 + k how many the first k lines have.

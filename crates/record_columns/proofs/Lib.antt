@@ -1,5 +1,4 @@
 pub mod Marks
 pub mod Stores
 pub mod Steps
-pub mod Plain
-pub mod Reading
+pub mod Answers

@@ -14,15 +14,15 @@ ghost use Rattle.history.specs.HistoryColumns.{historyAt};
 ghost use Rattle.record_writer.specs.Bytes.{joinedTo, eventBytes, conditionBytes, historyBytes, Writable};
 ghost use Rattle.record_writer.specs.Notes.{NotesMarks, Puts, Room, noteIf, notesIf, historyNotes, Recorded};
 ghost use Rattle.record_writer.specs.Sets.{bitAt, Placed, Watched, WatchedBy, OthersKept, Ready};
+use line_writer::earlier;
+use line_writer::put_condition;
+use line_writer::put_event;
+use line_writer::put_mark;
 use reach::raise;
 use record_columns::CONSUMERS;
 use record_columns::Counts;
 use record_columns::PLACES;
 use record_columns::PRODUCERS;
-use line_writer::earlier;
-use line_writer::put_condition;
-use line_writer::put_event;
-use line_writer::put_mark;
 
 // Where the text ends, and how many marks there are.
 pub struct Ends {

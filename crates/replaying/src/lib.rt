@@ -11,8 +11,8 @@ use arrangement_reader::ArrangementAnswer;
 use arrangement_reader::goes;
 use arrangement_reader::lines_in;
 use bytes::bytes_at;
-use played_lines::judge_lines;
 use marking_rows::put_rows;
+use played_lines::judge_lines;
 
 // What replaying answers: that the buffer is short, why the net or the record is refused, or the answer to the arrangement.
 pub enum ReplayAnswer {

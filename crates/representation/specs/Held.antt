@@ -8,7 +8,7 @@ use Rattle.spec.specs.Process.{WellFormed}
 use Rattle.runs.specs.ReadRecord.{MarksOnce}
 use Rattle.net.specs.NetArrays.{Holds}
 use Rattle.net.specs.declared.Net.{Net}
-use Rattle.record_columns.specs.Reads.{Keeps}
+use Rattle.record_columns.specs.Enters.{Keeps}
 use Rattle.record_columns.specs.declared.Counts.{Counts}
 
 pub record Held (net : Net) (s : Counts) (rec : List ℕ) (N : NetD) (R : RunRecord) : Type 0 where

@@ -2,7 +2,7 @@
 use mathlib.Core.Path.{refl}
 use native.Mathlib.Omega.{arith}
 use borrow.Author.Needs.{needs}
-use Rattle.record_columns.proofs.Reading.{read-case}
+use Rattle.record_columns.proofs.Answers.{read-case}
 use Rattle.representation.proofs.Codes.{sound}
 use Rattle.accepting.proofs.Accepting.{held, record-stop, record-go}
 use Rattle.accepting.proofs.accept_record.Statement.{statement}

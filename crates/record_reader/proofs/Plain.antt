@@ -23,10 +23,11 @@ use Rattle.lines.specs.declared.Span.{Span}
 use Rattle.lines.proofs.Lines.{line-to}
 use Rattle.plain_lines.specs.Plain.{Opens, PlainLine, MayRead}
 use Rattle.plain_lines.proofs.Plain.{plain-to}
-use Rattle.record_columns.specs.Reads.{Declares, Enters, Takes, MarkLetter, kindBy, conditionIn, markOf, enterRow}
+use Rattle.record_columns.specs.Enters.{Enters, conditionIn, markOf}
+use Rattle.record_reader.specs.Reads.{Declares, Takes, MarkLetter, kindBy, enterRow}
 use Rattle.record_columns.specs.declared.Bounds.{Bounds}
 use Rattle.record_columns.specs.declared.Counts.{Counts}
 use Rattle.record_columns.specs.declared.RecordRead.{RecordRead}
 
 -- ---- a line by its row
 

@@ -6,9 +6,10 @@ use mathlib.Core.Bool.{true≢false}
 use native.Mathlib.Omega.{arith}
 use borrow.Author.Needs.{needs}
 use lib.ListN.{length}
-use Rattle.record_columns.proofs.Reading.{Reading, entered-none, fits, spans, entered-on, entered-no, grown, entered-all, read-case, refused-case}
-use Rattle.record_columns.proofs.read_record.Statement.{statement}
-use Rattle.record_columns.proofs.read_record.Tie as tie
+use Rattle.record_reader.proofs.Reading.{Reading, entered-none, fits, spans, entered-on, entered-no, grown, entered-all}
+use Rattle.record_columns.proofs.Answers.{read-case, refused-case}
+use Rattle.record_reader.proofs.read_record.Statement.{statement}
+use Rattle.record_reader.proofs.read_record.Tie as tie
 
 abbrev Inv-loop : tie.InvT-loop
 Inv-loop b text rec₀ marks₀ s₀ k₀ at₀ rec marks s k at = (at ≤ length text + 1) × (k ≤ at + 1) × (s .conditions ≤ at) × (s .conditions ≤ length text) × (length rec ≡ length rec₀) × (length marks ≡ length marks₀) × Reading b text k at s rec marks

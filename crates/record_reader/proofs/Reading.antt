@@ -2,39 +2,24 @@
 use Prim.Native.Nat.{ℕ, _+_, _*_, _≤_}
 use mathlib.Core.Path.{_≡_, refl, _∙_}
 use mathlib.Core.Bool.{true, false}
-use mathlib.Core.List.{List, [], _∷_}
-use types.Run.{OneOf, miss}
-use denote.Enum.Declared.{tagOf}
+use mathlib.Core.List.{List, []}
 use native.Mathlib.Omega.{arith}
 use lib.ListN.{length, getD, replicate, length-replicate}
 use Rattle.spec.specs.Net.{Net, places}
 use Rattle.spec.specs.Record.{RunRecord}
 use Rattle.spec.specs.Checking.{enterLine, emptyRecord}
-use Rattle.lines.proofs.Answers.{isGiven}
 use Rattle.lines.proofs.ByLines.{Running, begun, turn, stop, done}
 use Rattle.bit_sets.specs.Sets.{has, no-words}
 use Rattle.reach.specs.Rows.{Sub, rowOf, cellOf, valueOf}
 use Rattle.record_columns.specs.Layout.{markValue}
-use Rattle.record_columns.specs.Reads.{answerOf, goesOf, Holds, Fits, Spans, Declares, Takes, ReadsRecord}
+use Rattle.record_columns.specs.Enters.{goesOf, Holds, Fits, Spans}
+use Rattle.record_reader.specs.Reads.{Declares, Takes, ReadsRecord}
 use Rattle.record_columns.specs.declared.Bounds.{Bounds}
 use Rattle.record_columns.specs.declared.Counts.{Counts}
-use Rattle.record_columns.specs.declared.Took.{Took}
-use Rattle.record_columns.specs.declared.RecordAnswer.{RecordAnswer}
-use Rattle.record_columns.specs.declared.RecordAnswer.the-variants.{Read, Refused}
+use Rattle.record_reader.specs.declared.Took.{Took}
+use Rattle.record_columns.specs.declared.RecordAnswer.the-variants.{Read}
 use Rattle.record_columns.proofs.RecordAnswer
-
-pub goes-given : (v : RecordAnswer) → isGiven (answerOf v) ≡ goesOf v
-goes-given Read = refl
-goes-given (Refused x) = refl
-
--- the two cases of an answer
-pub read-case : (v : RecordAnswer) → OneOf (0 ∷ []) (tagOf RecordAnswer.the-type v) → goesOf v ≡ true
-read-case Read u = refl
-read-case (Refused x) u = absurd (miss (0 ∷ []) 1 tt u)
-
-pub refused-case : (v : RecordAnswer) → OneOf (1 ∷ []) (tagOf RecordAnswer.the-type v) → goesOf v ≡ false
-refused-case Read u = absurd (miss (1 ∷ []) 0 tt u)
-refused-case (Refused x) u = refl
+use Rattle.record_columns.proofs.Answers.{goes-given}
 
 -- ---- the lines so far
 

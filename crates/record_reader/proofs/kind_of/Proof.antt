@@ -1,6 +1,6 @@
 use borrow.Author.Tests.{eq-eqb, ne-eqb}
-use Rattle.record_columns.proofs.kind_of.Statement.{statement}
-use Rattle.record_columns.proofs.kind_of.Tie as tie
+use Rattle.record_reader.proofs.kind_of.Statement.{statement}
+use Rattle.record_reader.proofs.kind_of.Tie as tie
 
 pub kind-of-spec : {M : Type 1} → statement M
 kind-of-spec = tie.close (tie.spec

@@ -1,7 +1,7 @@
 use native.Mathlib.Omega.{arith}
-use Rattle.record_columns.proofs.Plain.{line-takes}
-use Rattle.record_columns.proofs.enter_any.Statement.{statement}
-use Rattle.record_columns.proofs.enter_any.Tie as tie
+use Rattle.record_reader.proofs.Plain.{line-takes}
+use Rattle.record_reader.proofs.enter_any.Statement.{statement}
+use Rattle.record_reader.proofs.enter_any.Tie as tie
 
 pub enter-any-spec : {M : Type 1} → statement M
 enter-any-spec = tie.close (tie.spec

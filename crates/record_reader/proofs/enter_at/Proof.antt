@@ -3,10 +3,11 @@ use native.Mathlib.Omega.{arith}
 use lib.ListN.{getD}
 use Rattle.spec.specs.Checking.{enterEvent, enterCondition, enterMark}
 use Rattle.plain_lines.specs.Plain.{Opens}
-use Rattle.record_columns.specs.Reads.{kindBy, conditionIn, markOf}
-use Rattle.record_columns.proofs.Plain.{opens-event, opens-condition, opens-mark, event-line, condition-line, mark-line, plain-takes}
-use Rattle.record_columns.proofs.enter_at.Statement.{statement}
-use Rattle.record_columns.proofs.enter_at.Tie as tie
+use Rattle.record_columns.specs.Enters.{conditionIn, markOf}
+use Rattle.record_reader.specs.Reads.{kindBy}
+use Rattle.record_reader.proofs.Plain.{opens-event, opens-condition, opens-mark, event-line, condition-line, mark-line, plain-takes}
+use Rattle.record_reader.proofs.enter_at.Statement.{statement}
+use Rattle.record_reader.proofs.enter_at.Tie as tie
 
 pub enter-at-spec : {M : Type 1} → statement M
 enter-at-spec = tie.close (tie.spec

@@ -2,9 +2,9 @@ use mathlib.Core.Path.{refl}
 use native.Mathlib.Omega.{arith}
 use borrow.Author.Tests.{not-true, not-false}
 use Rattle.lines.specs.Agree.{refusing}
-use Rattle.record_columns.proofs.Plain.{ended-entered, unended-refused}
-use Rattle.record_columns.proofs.enter_line.Statement.{statement}
-use Rattle.record_columns.proofs.enter_line.Tie as tie
+use Rattle.record_reader.proofs.Plain.{ended-entered, unended-refused}
+use Rattle.record_reader.proofs.enter_line.Statement.{statement}
+use Rattle.record_reader.proofs.enter_line.Tie as tie
 
 pub enter-line-spec : {M : Type 1} → statement M
 enter-line-spec = tie.close (tie.spec

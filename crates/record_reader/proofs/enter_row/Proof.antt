@@ -1,9 +1,9 @@
 use mathlib.Core.Path.{refl, sym, _∙_}
 use native.Mathlib.Omega.{arith}
 use Rattle.lines.specs.Agree.{refusing}
-use Rattle.record_columns.specs.Reads.{enterRow}
-use Rattle.record_columns.proofs.enter_row.Statement.{statement}
-use Rattle.record_columns.proofs.enter_row.Tie as tie
+use Rattle.record_reader.specs.Reads.{enterRow}
+use Rattle.record_reader.proofs.enter_row.Statement.{statement}
+use Rattle.record_reader.proofs.enter_row.Tie as tie
 
 pub enter-row-spec : {M : Type 1} → statement M
 unfolding enterRow

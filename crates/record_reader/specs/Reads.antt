@@ -1,0 +1,61 @@
+-- What the functions of the reader promise.
+use Prim.Native.Nat.{ℕ, _*_, _≤_, min}
+use mathlib.Core.Path.{_≡_}
+use mathlib.Core.Bool.{cond}
+use mathlib.Core.Logic.{_⊎_}
+use mathlib.Core.List.{List}
+use lib.ListN.{length, getD}
+use lib.Dec.{eqb}
+use Rattle.spec.specs.Answer.{Answer, refuses}
+use Rattle.spec.specs.Text.{linesOf, byLines}
+use Rattle.spec.specs.Net.{Net, places}
+use Rattle.spec.specs.Record.{RunRecord}
+use Rattle.spec.specs.Checking.{enterEvent, enterCondition, enterMark, enterLine, emptyRecord}
+use Rattle.line_forms.specs.Rows.{valueOf, isOne, isTwo, isThree}
+use Rattle.line_forms.specs.declared.Row.{Row}
+use Rattle.spec.specs.declared.Class.the-variants.{LetterE, LetterC, LetterB, LetterA}
+use Rattle.spec.specs.declared.MarkKind.{MarkKind}
+use Rattle.spec.specs.declared.MarkKind.the-variants.{Before, After}
+use Rattle.spec.specs.declared.Limits.{Limits}
+use Rattle.lines.specs.Agree.{Agrees}
+use Rattle.lines.specs.Lines.{LineTo}
+use Rattle.record_columns.specs.declared.Bounds.{Bounds}
+use Rattle.record_columns.specs.declared.Counts.{Counts}
+use Rattle.record_columns.specs.declared.RecordRead.{RecordRead}
+use Rattle.record_reader.specs.declared.Took.{Took}
+use Rattle.record_columns.specs.Enters.{answerOf, noValues, Holds, conditionIn, markOf, Enters}
+
+-- words that hold no mark yet, with four for each condition that a text can have: no more than there are bytes
+pub record Blank (text words : List ℕ) : Type 0 where
+  pub room : min 2048 (4 * length text) ≤ length words
+  pub zero : (i : ℕ) → getD words i 0 ≡ 0
+
+-- the net has so many places and transitions
+pub record Declares (b : Bounds) (N : Net) : Type 0 where
+  pub places : places N ≡ b .places
+  pub transitions : N .transitions ≡ b .transitions
+
+-- what line k enters, by its row
+unfoldable pub enterRow : Limits → Net → ℕ → Row → RunRecord → Answer RunRecord
+enterRow lim n k w r =
+    cond (isOne LetterE w) (enterEvent lim n k (valueOf (w .first)) r)
+    (cond (isThree LetterC w) (enterCondition lim n k (conditionIn (valueOf (w .first)) (w .second) (w .third)) r)
+    (cond (isTwo LetterB w) (enterMark lim k (markOf Before (valueOf (w .first)) (valueOf (w .second))) r)
+    (cond (isTwo LetterA w) (enterMark lim k (markOf After (valueOf (w .first)) (valueOf (w .second))) r)
+    (refuses 31 k))))
+
+-- the line that starts at a position is entered as the definitions enter line k, and the next one starts at `next`
+pub record Takes (b : Bounds) (text : List ℕ) (at k : ℕ) (s : Counts) (old words : List ℕ) (r : Took) (new words′ : List ℕ) : Type 0 where
+  pub found : LineTo text at (r .next)
+  pub enters : (N : Net) → Declares b N → Enters s old words (enterLine (b .limits) N k (found .line)) (r .step) new words′
+
+-- the letters B and A, and their kinds
+abbrev pub MarkLetter : ℕ → Type 0
+MarkLetter b = (b ≡ 66) ⊎ (b ≡ 65)
+
+abbrev pub kindBy : ℕ → MarkKind
+kindBy b = cond (eqb b 65) After Before
+
+-- the answer is the paper's, and where it is a record the bytes and words hold it
+abbrev pub ReadsRecord : Bounds → List ℕ → RecordRead → List ℕ → List ℕ → Type 0
+ReadsRecord b text r rec words = (N : Net) → Declares b N → Agrees noValues (answerOf (r .answer)) (Holds (r .counts) rec words) (byLines (enterLine (b .limits) N) 1 (linesOf text) emptyRecord)
