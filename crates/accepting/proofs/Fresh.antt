@@ -7,7 +7,7 @@ use lib.ListN.{length, replicate, length-replicate}
 use Rattle.bit_sets.specs.Sets.{has, no-words}
 use Rattle.lists.specs.Arrays.{blank}
 use Rattle.reach.specs.Rows.{cellOf, Good, rowOf, Sub, valueOf}
-use Rattle.net.specs.NetArrays.{Blank as NetBlank}
+use Rattle.net_reader.specs.Reads.{Blank as NetBlank}
 use Rattle.record_reader.specs.Reads.{Blank as RecordBlank}
 use Rattle.accepting.specs.Relation.{Blank}
 

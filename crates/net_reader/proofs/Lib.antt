@@ -1,0 +1,3 @@
+pub mod LastRule
+pub mod Plain
+pub mod Reading

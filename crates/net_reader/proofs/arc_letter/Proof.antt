@@ -1,0 +1,12 @@
+use mathlib.Core.Path.{sym, subst}
+use borrow.Author.Tests.{eqb-true}
+use Rattle.plain_lines.specs.Plain.{Opens}
+use Rattle.net_reader.proofs.Plain.{opens-input, opens-output, opens-inhibitor}
+use Rattle.net_reader.proofs.arc_letter.Statement.{statement}
+use Rattle.net_reader.proofs.arc_letter.Tie as tie
+
+pub arc-letter-spec : {M : Type 1} → statement M
+arc-letter-spec = tie.close (tie.spec
+    (λ c h. subst Opens (sym (c .if1 .taken)) opens-input)
+    (λ c h. subst Opens (sym (c .if2 .taken)) opens-output)
+    (λ c h. subst Opens (sym (eqb-true _ _ h)) opens-inhibitor))

@@ -1,0 +1,303 @@
+// The net reader: a text becomes a net of arrays, or a refusal.
+ghost use mathlib.Core.Path.{_≡_};
+ghost use mathlib.Core.Bool.{true};
+ghost use Prim.Native.Nat.{_+_, _≤_, _<_};
+ghost use lib.ListN.{length};
+ghost use Rattle.columns.specs.Columns.{column};
+ghost use Rattle.spec.specs.Net.{addLine};
+ghost use Rattle.lines.specs.Lines.{lineOf};
+ghost use Rattle.plain_lines.specs.Plain.{Opens};
+ghost use Rattle.net.specs.NetArrays.{goesOf, arraysAt, Fits, Few, Steps};
+ghost use Rattle.net_reader.specs.Reads.{addRow, Blank, anyCell, lacksOf, Takes, ReadsLines, Finishes, noNet, ReadsInto, Reads, Answers, Copies};
+use fields::row_of;
+use line_forms::Row;
+use line_forms::is_alone;
+use line_forms::is_one;
+use line_forms::is_two;
+use line_forms::number_in;
+use lines::line_at;
+use net::INHIBITORS;
+use net::INPUTS;
+use net::Net;
+use net::NetAnswer;
+use net::NetRefusal;
+use net::OUTPUTS;
+use net::Size;
+use net::Stepped;
+use net::add_arc;
+use net::add_place;
+use net::add_transition;
+use net::added;
+use net::arc_at;
+use net::refused;
+use plain_lines::alone_at;
+use plain_lines::one_at;
+use plain_lines::two_at;
+use spec::Class;
+
+// What a line declares is added.
+fn add_row(k: usize, r: Row, s: Size, tokens: &mut [u16; 32], arcs: &mut [u8; 3072]) -> Stepped
+    requires { ⌜ Fits s ⌝ }
+    ensures { λ q. ⌜ Steps s (arraysAt (now (tokens .entry)) (now (arcs .entry))) (addRow k r) q (arraysAt (now (tokens .exit)) (now (arcs .exit))) ⌝ }
+{
+    let first = r.first;
+    let second = r.second;
+    let a = number_in(first);
+    let b = number_in(second);
+    if is_one(Class::LetterP, r) {
+        return add_place(k, a, s, tokens);
+    }
+    if is_alone(Class::LetterT, r) {
+        return add_transition(k, s);
+    }
+    if is_two(Class::LetterI, r) {
+        return add_arc(INPUTS, k, a, b, s, arcs);
+    }
+    if is_two(Class::LetterO, r) {
+        return add_arc(OUTPUTS, k, b, a, s, arcs);
+    }
+    if is_two(Class::LetterH, r) {
+        return add_arc(INHIBITORS, k, a, b, s, arcs);
+    }
+    refused(NetRefusal::Malformed(k), s)
+}
+
+// A line is added, if it is ended.
+fn add_line(
+    k: usize,
+    l: &[u8],
+    ended: bool,
+    s: Size,
+    tokens: &mut [u16; 32],
+    arcs: &mut [u8; 3072],
+) -> Stepped
+    requires { ⌜ Fits s ⌝ }
+    ensures { λ q. ⌜ Steps s (arraysAt (now (tokens .entry)) (now (arcs .entry))) (addLine k (lineOf (now (l .entry)) ended)) q (arraysAt (now (tokens .exit)) (now (arcs .exit))) ⌝ }
+{
+    if !ended {
+        return refused(NetRefusal::Malformed(k), s);
+    }
+    add_row(k, row_of(4, l), s, tokens, arcs)
+}
+
+// A line that was added, and where the next one starts.
+pub struct Took {
+    pub step: Stepped,
+    pub next: usize,
+}
+
+// Whether the letter is one of the three kinds of arcs.
+fn arc_letter(b: u8) -> bool
+    ensures { λ r. ⌜ (r ≡ true → Opens b) ⌝ }
+{
+    if b == b'I' {
+        return true;
+    }
+    if b == b'O' {
+        return true;
+    }
+    b == b'H'
+}
+
+// The line that starts at a position is added. A plain line is read in one walk; any other goes to the readers of lines and
+// fields, and so does every malformed one.
+fn add_at(
+    k: usize,
+    text: &[u8],
+    at: usize,
+    s: Size,
+    tokens: &mut [u16; 32],
+    arcs: &mut [u8; 3072],
+) -> Took
+    requires { ⌜ (at < length (now text)) × Fits s ⌝ }
+    ensures { λ q. ⌜ Takes (now (text .entry)) at k s (arraysAt (now (tokens .entry)) (now (arcs .entry))) q (arraysAt (now (tokens .exit)) (now (arcs .exit))) ⌝ }
+{
+    let letter = text[at];
+    if arc_letter(letter) {
+        let f = two_at(4, text, at);
+        if at < f.next {
+            if letter == b'I' {
+                let step = add_arc(INPUTS, k, f.a, f.b, s, arcs);
+                return Took { step, next: f.next };
+            }
+            if letter == b'O' {
+                let step = add_arc(OUTPUTS, k, f.b, f.a, s, arcs);
+                return Took { step, next: f.next };
+            }
+            if letter == b'H' {
+                let step = add_arc(INHIBITORS, k, f.a, f.b, s, arcs);
+                return Took { step, next: f.next };
+            }
+        }
+    }
+    if letter == b'P' {
+        let f = one_at(4, text, at);
+        if at < f.next {
+            let step = add_place(k, f.a, s, tokens);
+            return Took { step, next: f.next };
+        }
+    }
+    if letter == b'T' {
+        let next = alone_at(text, at);
+        if at < next {
+            let step = add_transition(k, s);
+            return Took { step, next };
+        }
+    }
+    let line = line_at(text, at);
+    let end = line.end;
+    let step = add_line(k, &text[at..end], line.ended, s, tokens, arcs);
+    Took {
+        step,
+        next: line.next,
+    }
+}
+
+// The lines are added, one after the other, to arrays that hold no net yet.
+fn add_lines(text: &[u8], tokens: &mut [u16; 32], arcs: &mut [u8; 3072]) -> Stepped
+    requires { ⌜ Blank (now tokens) (now arcs) ⌝ }
+    ensures { λ q. ⌜ ReadsLines (now (text .entry)) q (arraysAt (now (tokens .exit)) (now (arcs .exit))) ⌝ }
+{
+    let mut s = Size {
+        places: 0,
+        transitions: 0,
+        total: 0,
+    };
+    let mut k: usize = 1;
+    let mut at: usize = 0;
+    while at < text.len() {
+        let took = add_at(k, text, at, s, tokens, arcs);
+        let step = took.step;
+        let answer = step.answer;
+        s = step.size;
+        if let NetAnswer::Refused(_) = answer {
+            return step;
+        }
+        k += 1;
+        at = took.next;
+    }
+    added(s.places, s.transitions, s.total)
+}
+
+// Whether some place is joined to the transition, by the kind of arc that stands from `at` on.
+fn any_cell(arcs: &[u8; 3072], at: usize, t: usize, places: usize) -> bool
+    requires { ⌜ (at ≤ 2048) × (t < 32) × (places ≤ 32) ⌝ }
+    ensures { λ r. ⌜ r ≡ anyCell (column at 1024 (now (arcs .entry))) t places ⌝ }
+{
+    let mut p: usize = 0;
+    while p < places {
+        if 0 < arc_at(arcs, at, t, p) {
+            return true;
+        }
+        p += 1;
+    }
+    false
+}
+
+// Whether the transition lacks an input or an output.
+fn lacks(arcs: &[u8; 3072], t: usize, places: usize) -> bool
+    requires { ⌜ (t < 32) × (places ≤ 32) ⌝ }
+    ensures { λ r. ⌜ r ≡ lacksOf (column 0 1024 (now (arcs .entry))) (column 1024 1024 (now (arcs .entry))) places t ⌝ }
+{
+    !any_cell(arcs, INPUTS, t, places) | !any_cell(arcs, OUTPUTS, t, places)
+}
+
+// The answer to all lines, and then to the rule that is judged after them.
+fn finish(read: Stepped, arcs: &[u8; 3072]) -> NetAnswer
+    requires { ⌜ (goesOf (read .answer) ≡ true → Few (read .size)) ⌝ }
+    ensures { λ r. ⌜ Finishes read (now (arcs .entry)) r ⌝ }
+{
+    let answer = read.answer;
+    if let NetAnswer::Refused(_) = answer {
+        return answer;
+    }
+    let size = read.size;
+    let places = size.places;
+    let end = size.transitions;
+    let mut t: usize = 0;
+    while t < end {
+        if lacks(arcs, t, places) {
+            return NetAnswer::Refused(NetRefusal::Lacking(t));
+        }
+        t += 1;
+    }
+    answer
+}
+
+// The net that a text declares, in arrays that are all zero before; where it is refused they hold no net.
+pub fn read_into(net: &[u8], tokens: &mut [u16; 32], arcs: &mut [u8; 3072]) -> NetAnswer
+    requires { ⌜ Blank (now tokens) (now arcs) ⌝ }
+    ensures { λ r. ⌜ ReadsInto (now (net .entry)) r (now (tokens .exit)) (now (arcs .exit)) ⌝ }
+{
+    let read = add_lines(net, tokens, arcs);
+    finish(read, arcs)
+}
+
+// What the reader answers to a text, for those who want no net.
+pub fn net_answer(net: &[u8]) -> NetAnswer
+    ensures { λ r. ⌜ Answers (now (net .entry)) r ⌝ }
+{
+    let mut tokens = [0u16; 32];
+    let mut arcs = [0u8; 3072];
+    read_into(net, &mut tokens, &mut arcs)
+}
+
+// The arcs of one kind.
+fn arcs_of(arcs: &[u8; 3072], at: usize) -> [u8; 1024]
+    requires { ⌜ (at ≤ 2048) ⌝ }
+    ensures { λ r. ⌜ Copies (now (arcs .entry)) at r ⌝ }
+{
+    let mut r = [0u8; 1024];
+    let mut i: usize = 0;
+    while i < 1024 {
+        r[i] = arcs[at + i];
+        i += 1;
+    }
+    r
+}
+
+// The net of no text.
+fn no_net() -> Net
+    ensures { λ r. ⌜ r ≡ noNet ⌝ }
+{
+    Net {
+        places: 0,
+        transitions: 0,
+        tokens: [0u16; 32],
+        inputs: [0u8; 1024],
+        outputs: [0u8; 1024],
+        inhibitors: [0u8; 1024],
+    }
+}
+
+// What is read of a text, and the net by value.
+pub struct NetRead {
+    pub answer: NetAnswer,
+    pub net: Net,
+}
+
+// The net that a text declares, by value; where it is refused, no net.
+pub fn read_net(net: &[u8]) -> NetRead
+    ensures { λ r. ⌜ Reads (now (net .entry)) r ⌝ }
+{
+    let mut tokens = [0u16; 32];
+    let mut arcs = [0u8; 3072];
+    let answer = read_into(net, &mut tokens, &mut arcs);
+    if let NetAnswer::Accepted(places, transitions) = answer {
+        return NetRead {
+            answer,
+            net: Net {
+                places,
+                transitions,
+                tokens,
+                inputs: arcs_of(&arcs, INPUTS),
+                outputs: arcs_of(&arcs, OUTPUTS),
+                inhibitors: arcs_of(&arcs, INHIBITORS),
+            },
+        };
+    }
+    NetRead {
+        answer,
+        net: no_net(),
+    }
+}
