@@ -7,30 +7,25 @@ ghost use lib.Count.{trailingZeros};
 ghost use Rattle.spec.specs.Lists.{sumOf, upTo};
 ghost use Rattle.bit_sets.specs.Bits.{bit};
 ghost use Rattle.arc_sets.specs.Sets.{RowSet, SetsOf};
+use machine_numbers::wide_word;
 
 // Where the sets of the outputs and of the inhibitors start, by transition; those of the inputs stand in front.
 pub const MADE: usize = 32;
 
 pub const GUARDS: usize = 64;
 
-fn wide(x: u32) -> usize
-    ensures { λ r. ⌜ r ≡ x ⌝ }
-{
-    x as usize
-}
-
 // The lowest bit that is set.
 pub fn lowest(bits: u64) -> usize
     ensures { λ r. ⌜ r ≡ trailingZeros 64 bits ⌝ }
 {
-    wide(u64::trailing_zeros(bits))
+    wide_word(u64::trailing_zeros(bits))
 }
 
 // How many places a set has.
 pub fn size(set: u64) -> usize
     ensures { λ r. ⌜ (r ≡ sumOf (bit set) (upTo 64)) × (r ≤ 64) ⌝ }
 {
-    wide(u64::count_ones(set))
+    wide_word(u64::count_ones(set))
 }
 
 // A set with place p, if the row has something there.

@@ -15,6 +15,7 @@ use bit_sets::none;
 use bit_sets::one;
 use bit_sets::union;
 use lines::line_at;
+use machine_numbers::wide;
 use number_lines::any_unknown;
 use number_lines::count_numbers;
 use number_lines::is_list_line;
@@ -90,12 +91,6 @@ pub fn lines_in(a: ArrangementAnswer) -> usize
         ArrangementAnswer::Broken(_) => 0,
         ArrangementAnswer::Missing(_) => 0,
     }
-}
-
-fn wide(b: u8) -> usize
-    ensures { λ r. ⌜ r ≡ b ⌝ }
-{
-    b as usize
 }
 
 // 41 and 42 of a line, with its numbers for an array that has room for 128.

@@ -11,10 +11,11 @@ ghost use Rattle.steps.specs.StepArrays.{IsStep, Within32};
 ghost use Rattle.conditions.specs.Conditions.{tokensOf, FirstFree, fresh, ReadyAt, TookAt, MadeAt};
 use arc_sets::MADE;
 use arc_sets::lowest;
+use machine_numbers::wide;
+use machine_numbers::wide_word;
 use record_columns::CONSUMERS;
 use record_columns::PLACES;
 use record_columns::PRODUCERS;
-use steps::wide;
 
 // How far a run has come, beside the arrays that hold it: the line of the log that is next, its events and its conditions,
 // and how often an event made a condition in a place that inhibits it; and how large its net is.
@@ -29,12 +30,6 @@ pub struct Extent {
 
 // Where the first condition of each place that may be free stands among the counts by place.
 pub const NEXT: usize = 64;
-
-fn wider(x: u32) -> usize
-    ensures { λ r. ⌜ r ≡ x ⌝ }
-{
-    x as usize
-}
 
 // The first condition of place p from a number on that no event has taken, or the end.
 fn first_free(p: usize, start: usize, end: usize, rec: &[u8]) -> usize
@@ -56,7 +51,7 @@ fn take_one(e: usize, p: usize, n: usize, rec: &mut [u8], counts: &mut [u32; 96]
     requires { ⌜ (e < 128) × (p < 32) × ReadyAt n (now rec) (now counts) ⌝ }
     ensures { λ _. ⌜ TookAt (flow e p ∷ []) n (now (rec .entry)) (now (counts .entry)) (now (rec .exit)) (now (counts .exit)) ⌝ }
 {
-    let i = first_free(p, wider(counts[NEXT + p]), n, rec);
+    let i = first_free(p, wide_word(counts[NEXT + p]), n, rec);
     if n <= i {
         return;
     }

@@ -13,6 +13,7 @@ use conditions::Extent;
 use conditions::make_step;
 use conditions::make_times;
 use conditions::take_step;
+use machine_numbers::wide_half;
 
 // The events of step k are put behind the first n.
 fn add_events(
@@ -53,12 +54,6 @@ pub fn grow(
     make_step(step, count, sets, x, rec)
 }
 
-fn wider(x: u16) -> usize
-    ensures { λ r. ⌜ r ≡ x ⌝ }
-{
-    x as usize
-}
-
 // The conditions of the initial marking, by place; how many there are.
 pub fn start(tokens: &[u16; 32], m: usize, rec: &mut [u8]) -> usize
     requires { ⌜ (m ≤ 32) × (length (now tokens) ≡ 32) × (sum (take m (now tokens)) ≤ 512) × (1664 ≤ length (now rec)) ⌝ }
@@ -67,7 +62,7 @@ pub fn start(tokens: &[u16; 32], m: usize, rec: &mut [u8]) -> usize
     let mut r: usize = 0;
     let mut p: usize = 0;
     while p < m {
-        r = make_times(128, p, wider(tokens[p]), r, rec);
+        r = make_times(128, p, wide_half(tokens[p]), r, rec);
         p += 1;
     }
     r

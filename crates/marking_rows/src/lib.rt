@@ -6,6 +6,7 @@ ghost use Rattle.lists.specs.Mapped.{Mapped};
 ghost use Rattle.lists.specs.Stretch.{MappedFrom};
 ghost use Rattle.marking_rows.specs.Rows.{rowSize, rowCounts, sumCount};
 ghost use Rattle.marking_rows.specs.Rows.{Addable, AddsArcs, Playing, Plays, leftOf, Playable, PutsRows};
+use machine_numbers::wide;
 
 // The counts of a row, one for each place; so many arcs of a kind has each transition.
 const ROW: usize = 32;
@@ -36,12 +37,6 @@ const ENDS: usize = 128;
 
 // Where it says that of the first line.
 const NEXT_ENDS: usize = ENDS + 1;
-
-fn wide(b: u8) -> usize
-    ensures { λ r. ⌜ r ≡ b ⌝ }
-{
-    b as usize
-}
 
 fn word(b: u8) -> u16
     ensures { λ r. ⌜ (r ≡ b) × (r ≤ 255) ⌝ }

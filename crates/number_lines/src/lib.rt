@@ -16,6 +16,7 @@ use digits::stands;
 use fields::is_list;
 use fields::letter_at;
 use fields::number_at;
+use machine_numbers::greater;
 use spec::Class;
 
 // Whether a line is ended, and is this letter and one number or more.
@@ -87,13 +88,6 @@ pub struct Listed {
     pub count: usize,
     pub high: usize,
     pub next: usize,
-}
-
-// The greater of two numbers.
-fn greater(a: usize, b: usize) -> usize
-    ensures { λ r. ⌜ r ≡ max a b ⌝ }
-{
-    if a < b { b } else { a }
 }
 
 // Number i of a line goes into an array that has room for the first 128, each below 256.

@@ -18,6 +18,7 @@ use line_writer::earlier;
 use line_writer::put_condition;
 use line_writer::put_event;
 use line_writer::put_mark;
+use machine_numbers::wide_word;
 use reach::raise;
 use record_columns::CONSUMERS;
 use record_columns::Counts;
@@ -165,12 +166,6 @@ fn put_due(
     }
 }
 
-fn wide(x: u32) -> usize
-    ensures { λ r. ⌜ r ≡ x ⌝ }
-{
-    x as usize
-}
-
 // Sixty-four conditions of a set: a word of it, and the condition of the word's bit 0.
 pub struct Part {
     pub word: u64,
@@ -193,7 +188,7 @@ fn put_word(
     let mut next = ends;
     let mut bits = part.word;
     while bits != 0 {
-        let i = wide(u64::trailing_zeros(bits));
+        let i = wide_word(u64::trailing_zeros(bits));
         next = put_due(out, marks, rec, next, steps, e, part.first + i);
         bits = bits & (bits ^ (1 << i));
     }

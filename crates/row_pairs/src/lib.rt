@@ -11,6 +11,7 @@ use bit_sets::is_none;
 use bit_sets::less;
 use bit_sets::one;
 use bit_sets::union;
+use machine_numbers::wide;
 use reach::Row;
 use reach::put_row;
 use reach::raise;
@@ -18,12 +19,6 @@ use reach::row_at;
 use reach::row_in;
 use record_columns::CONSUMERS;
 use record_columns::PRODUCERS;
-
-fn wide(b: u8) -> usize
-    ensures { λ r. ⌜ (r ≡ b) × (r < 256) ⌝ }
-{
-    b as usize
-}
 
 // The entry of e and f is that of a strict pair, where both are events.
 fn raise_pair(w: &mut [u64; 512], e: usize, f: usize)

@@ -11,17 +11,12 @@ ghost use Rattle.run_counts.specs.Tally.{sizeOf, bothOf, timesAt, AtMost
 use arc_sets::GUARDS;
 use arc_sets::MADE;
 use arc_sets::size;
-use steps::wide;
+use machine_numbers::wide;
+use machine_numbers::wide_word;
 
 // The counts by place stand in one array, 32 entries each: the conditions, the events that the place inhibits, and the first
 // condition that may be free.
 pub const WATCHED: usize = 32;
-
-fn widest(n: u32) -> usize
-    ensures { λ r. ⌜ (r ≡ n) × (r ≤ 4294967295) ⌝ }
-{
-    n as usize
-}
 
 // How many conditions the events of a step make.
 pub fn made_all(step: &[u8; 128], count: usize, sets: &[u64; 96]) -> usize
@@ -60,7 +55,7 @@ pub fn products(counts: &[u32; 96], m: usize) -> usize
     let mut r: usize = 0;
     let mut p: usize = 0;
     while p < m {
-        r += widest(counts[p]) * widest(counts[WATCHED + p]);
+        r += wide_word(counts[p]) * wide_word(counts[WATCHED + p]);
         p += 1;
     }
     r

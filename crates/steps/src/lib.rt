@@ -9,6 +9,7 @@ ghost use Rattle.steps.specs.Judged.{Judges};
 use arc_sets::GUARDS;
 use arc_sets::MADE;
 use arc_sets::lowest;
+use machine_numbers::wide;
 
 // What a line of a log is refused for without its record being built, with its line: it is malformed, it names an unknown
 // transition, it has more events than are left, or its step is not enabled at the marking.
@@ -34,13 +35,6 @@ pub struct Position {
 }
 
 // ---- a step
-
-// A byte as an index.
-pub fn wide(b: u8) -> usize
-    ensures { λ r. ⌜ (r ≡ b) × (r ≤ 255) ⌝ }
-{
-    b as usize
-}
 
 // One more at each place of a set, in an array from a position on.
 fn add_set(xs: &mut [u32], from: usize, set: u64)

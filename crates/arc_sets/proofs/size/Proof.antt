@@ -7,4 +7,4 @@ use Rattle.arc_sets.proofs.size.Tie as tie
 pub size-spec : {M : Type 1} → statement M
 size-spec = tie.close (tie.spec
     (λ c κs. tt)
-    (λ c. let s = c .before in size-is (s .args .set) _ (omega arith) (c .wide .ensures)))
+    (λ c. let s = c .before in size-is (s .args .set) _ (omega arith) (c .wide-word .ensures .0)))

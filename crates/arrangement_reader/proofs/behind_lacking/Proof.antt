@@ -23,6 +23,6 @@ behind-lacking-spec = tie.close (tie.spec Inv-loop μ-loop
     (λ c. omega arith)
     (λ c. omega arith)
     (λ c. let v = c .before in let r = v .before .before in let l = r .before .before in let s = l .before .before in
-    (omega arith, lacking-more (s .args .w .now) (s .args .stands .now) (s .args .lines) (l .loop .d) _ (v .wide .ensures) (r .row-at .ensures) (c .with-lacking .ensures) (l .loop .inv .1)))
+    (omega arith, lacking-more (s .args .w .now) (s .args .stands .now) (s .args .lines) (l .loop .d) _ (v .wide .ensures .0) (r .row-at .ensures) (c .with-lacking .ensures) (l .loop .inv .1)))
     (λ c. let l = c .before in let s = l .before .before in
     lacking-end (s .args .w .now) (s .args .stands .now) (s .args .lines) (l .loop .d) (s .args .n) (omega arith) (l .loop .inv .1)))

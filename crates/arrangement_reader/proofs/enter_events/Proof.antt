@@ -19,15 +19,15 @@ enter-events-spec = tie.close (tie.spec Inv-loop μ-loop
     (λ c. let p = c .before .pre in (omega arith, omega arith, entries-from _ _ (omega (arith, p .2)) (p .1) (p .3 (omega arith))))
     (λ c. omega (arith, c .before .before .before .pre .2))
     (λ c κs. tt)
-    (λ c. let v = c in let l = v .before .before .before in let s = l .before .before in let e = event-at (s .args .events .now) (s .args .count) (omega (arith, l .loop .inv .1, s .pre .2)) (l .loop .i) (omega (arith, v .before .before .loop-test .taken)) (v .wide .ensures) in
+    (λ c. let v = c in let l = v .before .before .before in let s = l .before .before in let e = event-at (s .args .events .now) (s .args .count) (omega (arith, l .loop .inv .1, s .pre .2)) (l .loop .i) (omega (arith, v .before .before .loop-test .taken)) (v .wide .ensures .0) in
     entries-low e (l .loop .inv .2))
-    (λ c. let v = c .before .before in let l = v .before .before .before in let s = l .before .before in let e = event-at (s .args .events .now) (s .args .count) (omega (arith, l .loop .inv .1, s .pre .2)) (l .loop .i) (omega (arith, v .before .before .loop-test .taken)) (v .wide .ensures) in
+    (λ c. let v = c .before .before in let l = v .before .before .before in let s = l .before .before in let e = event-at (s .args .events .now) (s .args .count) (omega (arith, l .loop .inv .1, s .pre .2)) (l .loop .i) (omega (arith, v .before .before .loop-test .taken)) (v .wide .ensures .0) in
     record { few = λ h. entries-hit e (l .loop .inv .2) (c .if2 .taken); many = λ h. absurd (omega (arith, l .loop .inv .1)) })
-    (λ c. let v = c .before .before in let l = v .before .before .before in let s = l .before .before in let e = event-at (s .args .events .now) (s .args .count) (omega (arith, l .loop .inv .1, s .pre .2)) (l .loop .i) (omega (arith, v .before .before .loop-test .taken)) (v .wide .ensures) in
+    (λ c. let v = c .before .before in let l = v .before .before .before in let s = l .before .before in let e = event-at (s .args .events .now) (s .args .count) (omega (arith, l .loop .inv .1, s .pre .2)) (l .loop .i) (omega (arith, v .before .before .loop-test .taken)) (v .wide .ensures .0) in
     entries-low e (l .loop .inv .2))
     (λ c. omega arith)
     (λ c. omega arith)
-    (λ c. let v = c .before .before in let l = v .before .before .before in let s = l .before .before in let e = event-at (s .args .events .now) (s .args .count) (omega (arith, l .loop .inv .1, s .pre .2)) (l .loop .i) (omega (arith, v .before .before .loop-test .taken)) (v .wide .ensures) in
+    (λ c. let v = c .before .before in let l = v .before .before .before in let s = l .before .before in let e = event-at (s .args .events .now) (s .args .count) (omega (arith, l .loop .inv .1, s .pre .2)) (l .loop .i) (omega (arith, v .before .before .loop-test .taken)) (v .wide .ensures .0) in
     (omega (arith, v .before .before .loop-test .taken), l .loop .inv .1, entries-more e (l .loop .inv .2) (s .pre .0) (c .if2 .left)))
     (λ c. let l = c .before in let s = l .before .before in
     record { few = λ h. entries-end (events-done (s .args .events .now) (s .args .count) (omega (arith, s .pre .2)) (l .loop .i) (c .loop-test .left)) (l .loop .inv .2); many = λ h. absurd (omega (arith, l .loop .inv .1)) }))

@@ -22,7 +22,7 @@ first-broken-spec = tie.close (tie.spec Inv-loop μ-loop
     (λ c. let l = c .before .before .before in let p = l .before .before .pre in omega (arith, lines-most (p .2 .taken) (p .0)))
     (λ c κs. tt)
     (λ c κs. let v = c .before .before in let l = v .before .before .before in let p = l .before .before .pre in
-    line-ends (p .2 .taken) (p .0) (v .before .before .loop-test .taken) (l .loop .inv .0) (v .wide .ensures) (c .wide2 .ensures))
+    line-ends (p .2 .taken) (p .0) (v .before .before .loop-test .taken) (l .loop .inv .0) (v .wide .ensures .0) (c .wide2 .ensures .0))
     (λ c κs. tt)
     (λ c κs. tt)
     (λ c κs. tt)
@@ -30,5 +30,5 @@ first-broken-spec = tie.close (tie.spec Inv-loop μ-loop
     (λ c. omega arith)
     (λ c. omega arith)
     (λ c. let h = c .before in let m = h .before in let u = m .before in let g = u .before in let y = g .before in let v = y .before .before in let i = v .before .before in let l = i .before in let p = l .before .before .pre in
-    (omega arith, behind-before (p .0) (p .1) (i .loop-test .taken) (l .loop .inv .0) (v .wide .ensures) (y .wide2 .ensures) (g .group-of .ensures) (u .union .ensures) (m .meets .ensures) (h .choose .ensures) (c .union2 .ensures) (l .loop .inv .1)))
+    (omega arith, behind-before (p .0) (p .1) (i .loop-test .taken) (l .loop .inv .0) (v .wide .ensures .0) (y .wide2 .ensures .0) (g .group-of .ensures) (u .union .ensures) (m .meets .ensures) (h .choose .ensures) (c .union2 .ensures) (l .loop .inv .1)))
     (λ c. behind-none (c .loop-test .left) (c .before .loop .inv .1)))

@@ -21,8 +21,8 @@ group-of-spec = tie.close (tie.spec Inv-loop μ-loop
     (λ c. let s = c .before .before .before in (omega arith, s .pre .0, grouped-none (s .args .w .now) (s .args .lined .now) (s .args .from) (c .before .before .none .ensures) (c .before .none2 .ensures) (c .none3 .ensures)))
     (λ c. let s = c .before .before .before .before .before in omega (arith, s .pre .1, c .loop-test .taken))
     (λ c κs. tt)
-    (λ c κs. let l = c .before .before .before in let s = l .before .before .before .before in omega (arith, c .wide .ensures, s .pre .3 (l .loop .i) (c .before .before .loop-test .taken)))
-    (λ c κs. let v = c .before in let l = v .before .before .before in let s = l .before .before .before .before in omega (arith, v .wide .ensures, s .pre .3 (l .loop .i) (v .before .before .loop-test .taken)))
+    (λ c κs. let l = c .before .before .before in let s = l .before .before .before .before in omega (arith, c .wide .ensures .0, s .pre .3 (l .loop .i) (c .before .before .loop-test .taken)))
+    (λ c κs. let v = c .before in let l = v .before .before .before in let s = l .before .before .before .before in omega (arith, v .wide .ensures .0, s .pre .3 (l .loop .i) (v .before .before .loop-test .taken)))
     (λ c κs. tt)
     (λ c κs. tt)
     (λ c κs. tt)
@@ -31,8 +31,8 @@ group-of-spec = tie.close (tie.spec Inv-loop μ-loop
     (λ c. let o = c .before .before .before in let v = o .before .before in let i = v .before .before in let l = i .before in let s = l .before .before .before .before in (
       omega (arith, l .loop .inv .0),
       omega (arith, i .loop-test .taken),
-      grouped-more (s .args .w .now) (s .args .lined .now) (s .args .from) (l .loop .i) (v .wide .result) (o .one .result) (l .loop .inv .0) (omega (arith, s .pre .1, s .pre .2, i .loop-test .taken)) (v .wide .ensures)
-          (omega (arith, v .wide .ensures, s .pre .3 (l .loop .i) (i .loop-test .taken))) (o .before .row-at .ensures) (o .one .ensures) (c .before .before .union .ensures) (c .before .union2 .ensures) (c .union3 .ensures) (l .loop .inv .2),
+      grouped-more (s .args .w .now) (s .args .lined .now) (s .args .from) (l .loop .i) (v .wide .result) (o .one .result) (l .loop .inv .0) (omega (arith, s .pre .1, s .pre .2, i .loop-test .taken)) (v .wide .ensures .0)
+          (omega (arith, v .wide .ensures .0, s .pre .3 (l .loop .i) (i .loop-test .taken))) (o .before .row-at .ensures) (o .one .ensures) (c .before .before .union .ensures) (c .before .union2 .ensures) (c .union3 .ensures) (l .loop .inv .2),
     ))
     (λ c. let l = c .before in let s = l .before .before .before .before in
     grouped-end (s .args .w .now) (s .args .lined .now) (s .args .from) (l .loop .i) (s .args .to) (omega (arith, c .loop-test .left, l .loop .inv .1)) (l .loop .inv .2)))

@@ -23,10 +23,10 @@ start-spec = tie.close (tie.spec Inv-loop μ-loop
     (λ c. omega arith)
     (λ c κs. tt)
     (λ c κs. let w = c .before in let l = w .before .before .before in let s = l .before .before in let M = l .loop .inv .1 in
-    (omega arith, omega (arith, M .made .next, initial-fits (s .args .tokens .now) (l .loop .p) _ (omega arith) (w .wider .ensures) (s .args .m) (omega arith) (omega arith)), omega (arith, M .long)))
+    (omega arith, omega (arith, M .made .next, initial-fits (s .args .tokens .now) (l .loop .p) _ (omega arith) (w .wide-half .ensures) (s .args .m) (omega arith) (omega arith)), omega (arith, M .long)))
     (λ c. omega arith)
     (λ c. omega arith)
     (λ c. let w = c .before .before .before .before in let l = w .before .before .before in let s = l .before .before in
-    (omega arith, makes-as (makes-then (l .loop .inv .1) (c .before .before .make-times .ensures)) (initial-next (s .args .tokens .now) (l .loop .p) _ (omega arith) (w .wider .ensures)) refl))
+    (omega arith, makes-as (makes-then (l .loop .inv .1) (c .before .before .make-times .ensures)) (initial-next (s .args .tokens .now) (l .loop .p) _ (omega arith) (w .wide-half .ensures)) refl))
     (λ c. c .before .loop .inv .1 .long)
     (λ c. let l = c .before in let e : l .loop .p ≡ l .before .before .args .m = omega arith in makes-as (l .loop .inv .1) (rw e) refl))

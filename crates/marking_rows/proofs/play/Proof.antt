@@ -27,7 +27,7 @@ wide-requires c κs = tt
 element-copy-out-wide-2 : tie.Need-element-copy-out-wide-2 Inv-loop μ-loop
 element-copy-out-wide-2 c =
     let l = c .before .before .before in
-    omega (arith, c .wide .ensures, l .before .pre .known (l .loop .i) (c .before .before .loop-test .taken) .0)
+    omega (arith, c .wide .ensures .0, l .before .pre .known (l .loop .i) (c .before .before .loop-test .taken) .0)
 
 wide-requires-2 : tie.Need-wide-requires-2 Inv-loop μ-loop
 wide-requires-2 c κs = tt
@@ -39,7 +39,7 @@ known-transition c =
     let l = v .before .before .before in
     let s = l .before in
     let k = s .pre .known (l .loop .i) (v .before .before .loop-test .taken) in
-    omega (arith, c .wide2 .ensures, ap (λ (j : ℕ). getD (s .args .trans .now) j 0) (v .wide .ensures), k .1)
+    omega (arith, c .wide2 .ensures .0, ap (λ (j : ℕ). getD (s .args .trans .now) j 0) (v .wide .ensures .0), k .1)
 
 mul-add-arcs : tie.Need-mul-add-arcs Inv-loop μ-loop
 mul-add-arcs c = omega (arith, known-transition (c .before))
@@ -93,7 +93,7 @@ loop-again c =
       omega (arith, v .before .before .loop-test .taken),
       plays-more (y .wide2 .result) (s .pre .few)
           (omega (arith, s .pre .most, s .pre .events-long, v .before .before .loop-test .taken))
-          (y .wide2 .ensures ∙ ap (λ (j : ℕ). getD (s .args .trans .now) j 0) (v .wide .ensures))
+          (y .wide2 .ensures .0 ∙ ap (λ (j : ℕ). getD (s .args .trans .now) j 0) (v .wide .ensures .0))
           (a .add-arcs .ensures) (c .add-arcs2 .ensures) (l .loop .inv .1),
     )
 

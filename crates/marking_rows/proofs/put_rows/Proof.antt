@@ -59,8 +59,8 @@ play-requires c κs =
     let v = y .before .before in
     let i = v .before .before in
     let l = i .before in
-    line-playing (start l .pre .1) (i .loop-test .taken) (v .wide .ensures) (y .wide2 .ensures)
-    (l .loop .inv .1 .played .long) (rw (v .wide .ensures) (l .loop .inv .1 .room))
+    line-playing (start l .pre .1) (i .loop-test .taken) (v .wide .ensures .0) (y .wide2 .ensures .0)
+    (l .loop .inv .1 .played .long) (rw (v .wide .ensures .0) (l .loop .inv .1 .room))
 
 add-k : tie.Need-add-k Inv-loop μ-loop
 add-k c = omega arith
@@ -89,7 +89,7 @@ loop-again c =
     let i = v .before .before in
     let l = i .before in (
       omega (arith, i .loop-test .taken),
-      putting-more (l .loop .inv .1) (rw (← v .wide .ensures, ← y .wide2 .ensures) (a .play .ensures)) (w .put-row2 .ensures),
+      putting-more (l .loop .inv .1) (rw (← v .wide .ensures .0, ← y .wide2 .ensures .0) (a .play .ensures)) (w .put-row2 .ensures),
     )
 
 mul-clear-from : tie.Need-mul-clear-from Inv-loop μ-loop

@@ -20,15 +20,15 @@ put-word-spec = tie.close (tie.spec Inv-loop μ-loop
     (λ c. (0, omega arith, left-all _ (omega arith), word-none _ _ _ _ _ _ _ _))
     (λ c κs. tt)
     (λ c. let s = c .before .before .before .before .before .before .before .before .before in let v = c .before .before .before .before .before .loop .inv in
-    omega (arith, word-room (s .args .part .word) (s .args .rec .now) (s .args .steps .now) (s .args .e) (s .args .part .first) (s .pre .1) (v .2) (c .before .before .before .wide .ensures) (c .before .before .before .before .loop-test .taken) (v .3) (s .pre .3) (s .pre .4) .0))
+    omega (arith, word-room (s .args .part .word) (s .args .rec .now) (s .args .steps .now) (s .args .e) (s .args .part .first) (s .pre .1) (v .2) (c .before .before .before .wide-word .ensures .0) (c .before .before .before .before .loop-test .taken) (v .3) (s .pre .3) (s .pre .4) .0))
     (λ c κs. let s = c .before .before .before .before .before .before .before .before .before in let v = c .before .before .before .before .before .loop .inv in
-    let r = word-room (s .args .part .word) (s .args .rec .now) (s .args .steps .now) (s .args .e) (s .args .part .first) (s .pre .1) (v .2) (c .before .before .before .wide .ensures) (c .before .before .before .before .loop-test .taken) (v .3) (s .pre .3) (s .pre .4) in
+    let r = word-room (s .args .part .word) (s .args .rec .now) (s .args .steps .now) (s .args .e) (s .args .part .first) (s .pre .1) (v .2) (c .before .before .before .wide-word .ensures .0) (c .before .before .before .before .loop-test .taken) (v .3) (s .pre .3) (s .pre .4) in
     (s .pre .0, r .0, s .pre .2, r .1, r .2))
-    (λ c. omega (arith, lowest (c .before .before .before .before .before .before .before .before .before .before .loop .inv .2) (c .before .before .before .before .before .before .before .before .wide .ensures) (c .before .before .before .before .before .before .before .before .before .loop-test .taken) .0))
+    (λ c. omega (arith, lowest (c .before .before .before .before .before .before .before .before .before .before .loop .inv .2) (c .before .before .before .before .before .before .before .before .wide-word .ensures .0) (c .before .before .before .before .before .before .before .before .before .loop-test .taken) .0))
     (λ c. let s = c .before .before .before .before .before .before .before .before .before .before .before .before .before .before in let v = c .before .before .before .before .before .before .before .before .before .before .loop .inv in
-    word-less (s .args .part .word) (s .args .rec .now) (s .args .steps .now) (s .args .e) (s .args .part .first) (s .pre .1) (v .2) (c .before .before .before .before .before .before .before .before .wide .ensures) (c .before .before .before .before .before .before .before .before .before .loop-test .taken) (v .3))
+    word-less (s .args .part .word) (s .args .rec .now) (s .args .steps .now) (s .args .e) (s .args .part .first) (s .pre .1) (v .2) (c .before .before .before .before .before .before .before .before .wide-word .ensures .0) (c .before .before .before .before .before .before .before .before .before .loop-test .taken) (v .3))
     (λ c. let s = c .before .before .before .before .before .before .before .before .before .before .before .before .before .before in let v = c .before .before .before .before .before .before .before .before .before .before .loop .inv in
-    word-next (s .args .part .word) (s .args .rec .now) (s .args .steps .now) (s .args .e) (s .args .part .first) (s .pre .1) (v .2) (c .before .before .before .before .before .before .before .before .wide .ensures) (c .before .before .before .before .before .before .before .before .before .loop-test .taken) (v .3) (c .before .before .before .before .put-due .ensures))
+    word-next (s .args .part .word) (s .args .rec .now) (s .args .steps .now) (s .args .e) (s .args .part .first) (s .pre .1) (v .2) (c .before .before .before .before .before .before .before .before .wide-word .ensures .0) (c .before .before .before .before .before .before .before .before .before .loop-test .taken) (v .3) (c .before .before .before .before .put-due .ensures))
     (λ c. wrote-length (c .before .loop .inv .3 .text))
     (λ c. c .before .loop .inv .3 .noted .long)
     (λ c. let v = c .before .loop .inv in word-end _ _ _ _ _ (v .2) (v .1) (c .loop-test .left) (v .3)))

@@ -28,12 +28,12 @@ products-spec = tie.close (tie.spec Inv-loop μ-loop
     (λ c. omega arith)
     (λ c κs. tt)
     (λ c. let w = c .before .before in let l = w .before .before .before in let s = l .before in let n = s .args .counts .now in
-    let F = product-fits 1000000 1000000 (w .widest .ensures .0) (c .widest2 .ensures .0) (omega (arith, s .pre .1 (l .loop .p) (omega arith), held-read n (l .loop .p) (omega arith))) (omega (arith, s .pre .2 (l .loop .p) (omega arith), watched-read n (l .loop .p) (omega arith))) in omega (arith, F))
+    let F = product-fits 1000000 1000000 (w .wide-word .ensures .0) (c .wide-word2 .ensures .0) (omega (arith, s .pre .1 (l .loop .p) (omega arith), held-read n (l .loop .p) (omega arith))) (omega (arith, s .pre .2 (l .loop .p) (omega arith), watched-read n (l .loop .p) (omega arith))) in omega (arith, F))
     (λ c. let w = c .before .before in let l = w .before .before .before in let s = l .before in let n = s .args .counts .now in
-    let F = product-fits 1000000 1000000 (w .widest .ensures .0) (c .widest2 .ensures .0) (omega (arith, s .pre .1 (l .loop .p) (omega arith), held-read n (l .loop .p) (omega arith))) (omega (arith, s .pre .2 (l .loop .p) (omega arith), watched-read n (l .loop .p) (omega arith))) in omega (arith, F))
+    let F = product-fits 1000000 1000000 (w .wide-word .ensures .0) (c .wide-word2 .ensures .0) (omega (arith, s .pre .1 (l .loop .p) (omega arith), held-read n (l .loop .p) (omega arith))) (omega (arith, s .pre .2 (l .loop .p) (omega arith), watched-read n (l .loop .p) (omega arith))) in omega (arith, F))
     (λ c. omega arith)
     (λ c. omega arith)
     (λ c. let w = c .before .before in let l = w .before .before .before in let s = l .before in let n = s .args .counts .now in
-    let F = product-fits 1000000 1000000 (w .widest .ensures .0) (c .widest2 .ensures .0) (omega (arith, s .pre .1 (l .loop .p) (omega arith), held-read n (l .loop .p) (omega arith))) (omega (arith, s .pre .2 (l .loop .p) (omega arith), watched-read n (l .loop .p) (omega arith))) in
-    (omega arith, omega (arith, F), product-next n (l .loop .p) _ (omega arith) (l .loop .inv .2) (w .widest .ensures .0) (c .widest2 .ensures .0)))
+    let F = product-fits 1000000 1000000 (w .wide-word .ensures .0) (c .wide-word2 .ensures .0) (omega (arith, s .pre .1 (l .loop .p) (omega arith), held-read n (l .loop .p) (omega arith))) (omega (arith, s .pre .2 (l .loop .p) (omega arith), watched-read n (l .loop .p) (omega arith))) in
+    (omega arith, omega (arith, F), product-next n (l .loop .p) _ (omega arith) (l .loop .inv .2) (w .wide-word .ensures .0) (c .wide-word2 .ensures .0)))
     (λ c. let l = c .before in let e : l .loop .p ≡ l .before .args .m = omega arith in rw (← e) (l .loop .inv .2)))
