@@ -5,18 +5,42 @@ use Rattle.arc_rules.proofs.Tallies.{initial-more, initial-same, initia
 use Rattle.arc_rules.proofs.count_initial.Statement.{statement}
 use Rattle.arc_rules.proofs.count_initial.Tie as tie
 
+add-if1 : tie.Need-add-if1
+add-if1 c = omega arith
+
+shared-slice-read-if1 : tie.Need-shared-slice-read-if1
+shared-slice-read-if1 c = omega arith
+
+returns : tie.Need-returns
+returns c = let s = c .before .before .before in initial-same _ _ _ refl _ (c .if1 .taken) (s .pre .3)
+
+add-wide : tie.Need-add-wide
+add-wide c = omega arith
+
+shared-slice-read-wide : tie.Need-shared-slice-read-wide
+shared-slice-read-wide c = omega arith
+
+wide-requires : tie.Need-wide-requires
+wide-requires c κs = tt
+
+mul-t : tie.Need-mul-t
+mul-t c = omega (arith, c .wide .ensures .1)
+
+element-copy-out-t : tie.Need-element-copy-out-t
+element-copy-out-t c = let s = c .before .before .before .before .before in omega (arith, c .wide .ensures .0, s .pre .2)
+
+add-t : tie.Need-add-t
+add-t c = let w = c .before in let s = w .before .before .before .before .before in omega (arith, s .pre .0, initial-most _ _ (s .args .t .now) (w .wide .result) (s .pre .3) (omega (arith, w .wide .ensures .0, s .pre .2)))
+
+mul-t-2 : tie.Need-mul-t-2
+mul-t-2 c = omega (arith, c .before .wide .ensures .1)
+
+element-write-t : tie.Need-element-write-t
+element-write-t c = let w = c .before in let s = w .before .before .before .before .before in omega (arith, w .wide .ensures .0, s .pre .2)
+
+returns-2 : tie.Need-returns-2
+returns-2 c = let w = c .before in let i = w .before .before in let s = i .before .before .before in
+    initial-more _ _ _ (w .wide .ensures .0) _ (i .if1 .left) (omega (arith, w .wide .ensures .0, s .pre .2)) (s .pre .3)
+
 pub count-initial-spec : {M : Type 1} → statement M
-count-initial-spec = tie.close (tie.spec
-    (λ c. omega arith)
-    (λ c. omega arith)
-    (λ c. let s = c .before .before .before in initial-same _ _ _ refl _ (c .if1 .taken) (s .pre .3))
-    (λ c. omega arith)
-    (λ c. omega arith)
-    (λ c κs. tt)
-    (λ c. omega (arith, c .wide .ensures .1))
-    (λ c. let s = c .before .before .before .before .before in omega (arith, c .wide .ensures .0, s .pre .2))
-    (λ c. let w = c .before in let s = w .before .before .before .before .before in omega (arith, s .pre .0, initial-most _ _ (s .args .t .now) (w .wide .result) (s .pre .3) (omega (arith, w .wide .ensures .0, s .pre .2))))
-    (λ c. omega (arith, c .before .wide .ensures .1))
-    (λ c. let w = c .before in let s = w .before .before .before .before .before in omega (arith, w .wide .ensures .0, s .pre .2))
-    (λ c. let w = c .before in let i = w .before .before in let s = i .before .before .before in
-    initial-more _ _ _ (w .wide .ensures .0) _ (i .if1 .left) (omega (arith, w .wide .ensures .0, s .pre .2)) (s .pre .3)))
+count-initial-spec = tie.close (tie.spec add-if1 shared-slice-read-if1 returns add-wide shared-slice-read-wide wide-requires mul-t element-copy-out-t add-t mul-t-2 element-write-t returns-2)

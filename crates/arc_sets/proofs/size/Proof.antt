@@ -4,7 +4,11 @@ use Rattle.arc_sets.proofs.Making.{size-is}
 use Rattle.arc_sets.proofs.size.Statement.{statement}
 use Rattle.arc_sets.proofs.size.Tie as tie
 
+wide-word-requires : tie.Need-wide-word-requires
+wide-word-requires c κs = tt
+
+returns : tie.Need-returns
+returns c = let s = c .before in size-is (s .args .set) _ (omega arith) (c .wide-word .ensures .0)
+
 pub size-spec : {M : Type 1} → statement M
-size-spec = tie.close (tie.spec
-    (λ c κs. tt)
-    (λ c. let s = c .before in size-is (s .args .set) _ (omega arith) (c .wide-word .ensures .0)))
+size-spec = tie.close (tie.spec wide-word-requires returns)

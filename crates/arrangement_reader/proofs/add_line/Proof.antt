@@ -12,22 +12,52 @@ Inv-loop lined₀ events count k from i₀ lined i = (i ≤ count) × Adding lin
 abbrev μ-loop : tie.MeasureT-loop
 μ-loop lined₀ events count k from i₀ lined i = count - i
 
+add-wide : tie.Need-add-wide Inv-loop μ-loop
+add-wide c = omega (arith, c .pre .3)
+
+element-copy-out-wide : tie.Need-element-copy-out-wide Inv-loop μ-loop
+element-copy-out-wide c = omega (arith, c .pre .3)
+
+wide-requires : tie.Need-wide-requires Inv-loop μ-loop
+wide-requires c κs = tt
+
+loop-holds : tie.Need-loop-holds Inv-loop μ-loop
+loop-holds c = (omega arith, adding-none (c .before .before .pre .0))
+
+element-copy-out-lined : tie.Need-element-copy-out-lined Inv-loop μ-loop
+element-copy-out-lined c = let l = c .before in let s = l .before .before .before in omega (arith, s .pre .4)
+
+add-lined : tie.Need-add-lined Inv-loop μ-loop
+add-lined c = let l = c .before .before in let s = l .before .before .before in omega (arith, s .pre .4, l .before .wide .ensures .0)
+
+element-write-lined : tie.Need-element-write-lined Inv-loop μ-loop
+element-write-lined c = let l = c .before .before in let s = l .before .before .before in omega (arith, s .pre .4, l .before .wide .ensures .0)
+
+add-i : tie.Need-add-i Inv-loop μ-loop
+add-i c = omega arith
+
+loop-less : tie.Need-loop-less Inv-loop μ-loop
+loop-less c = omega arith
+
+loop-again : tie.Need-loop-again Inv-loop μ-loop
+loop-again c = let l = c .before .before in let s = l .before .before .before in
+    (omega arith, adding-more (omega (arith, s .pre .4, l .before .wide .ensures .0)) (omega (arith, s .pre .1, s .pre .4)) (l .loop .inv .1))
+
+add-lined-2 : tie.Need-add-lined-2 Inv-loop μ-loop
+add-lined-2 c = let l = c .before in let s = l .before .before .before in omega (arith, s .pre .4, l .before .wide .ensures .0)
+
+cast-lined : tie.Need-cast-lined Inv-loop μ-loop
+cast-lined c = let l = c .before in let s = l .before .before .before in omega (arith, s .pre .4, l .before .wide .ensures .0)
+
+add-lined-3 : tie.Need-add-lined-3 Inv-loop μ-loop
+add-lined-3 c = let s = c .before .before .before .before in omega (arith, s .pre .3)
+
+element-write-lined-2 : tie.Need-element-write-lined-2 Inv-loop μ-loop
+element-write-lined-2 c = let s = c .before .before .before .before in omega (arith, s .pre .3)
+
+returns : tie.Need-returns Inv-loop μ-loop
+returns c = let l = c .before in let s = l .before .before .before in
+    adding-end (l .before .wide .ensures .0) (omega arith) (omega (arith, s .pre .4, l .before .wide .ensures .0)) (s .pre .3) (s .pre .2) refl (l .loop .inv .1)
+
 pub add-line-spec : {M : Type 1} → statement M
-add-line-spec = tie.close (tie.spec Inv-loop μ-loop
-    (λ c. omega (arith, c .pre .3))
-    (λ c. omega (arith, c .pre .3))
-    (λ c κs. tt)
-    (λ c. (omega arith, adding-none (c .before .before .pre .0)))
-    (λ c. let l = c .before in let s = l .before .before .before in omega (arith, s .pre .4))
-    (λ c. let l = c .before .before in let s = l .before .before .before in omega (arith, s .pre .4, l .before .wide .ensures .0))
-    (λ c. let l = c .before .before in let s = l .before .before .before in omega (arith, s .pre .4, l .before .wide .ensures .0))
-    (λ c. omega arith)
-    (λ c. omega arith)
-    (λ c. let l = c .before .before in let s = l .before .before .before in
-    (omega arith, adding-more (omega (arith, s .pre .4, l .before .wide .ensures .0)) (omega (arith, s .pre .1, s .pre .4)) (l .loop .inv .1)))
-    (λ c. let l = c .before in let s = l .before .before .before in omega (arith, s .pre .4, l .before .wide .ensures .0))
-    (λ c. let l = c .before in let s = l .before .before .before in omega (arith, s .pre .4, l .before .wide .ensures .0))
-    (λ c. let s = c .before .before .before .before in omega (arith, s .pre .3))
-    (λ c. let s = c .before .before .before .before in omega (arith, s .pre .3))
-    (λ c. let l = c .before in let s = l .before .before .before in
-    adding-end (l .before .wide .ensures .0) (omega arith) (omega (arith, s .pre .4, l .before .wide .ensures .0)) (s .pre .3) (s .pre .2) refl (l .loop .inv .1)))
+add-line-spec = tie.close (tie.spec Inv-loop μ-loop add-wide element-copy-out-wide wide-requires loop-holds element-copy-out-lined add-lined element-write-lined add-i loop-less loop-again add-lined-2 cast-lined add-lined-3 element-write-lined-2 returns)

@@ -13,21 +13,43 @@ Inv-loop stands₀ events count k i₀ stands i = (i ≤ count) × (count ≤ 12
 abbrev μ-loop : tie.MeasureT-loop
 μ-loop stands₀ events count k i₀ stands i = count - i
 
+returns : tie.Need-returns Inv-loop μ-loop
+returns c = record { few = λ h. absurd (omega arith); many = λ h. (refl, refl) }
+
+loop-holds : tie.Need-loop-holds Inv-loop μ-loop
+loop-holds c = let p = c .before .pre in (omega arith, omega arith, entries-from _ _ (omega (arith, p .2)) (p .1) (p .3 (omega arith)))
+
+element-copy-out-wide : tie.Need-element-copy-out-wide Inv-loop μ-loop
+element-copy-out-wide c = omega (arith, c .before .before .before .pre .2)
+
+wide-requires : tie.Need-wide-requires Inv-loop μ-loop
+wide-requires c κs = tt
+
+element-copy-out-if2 : tie.Need-element-copy-out-if2 Inv-loop μ-loop
+element-copy-out-if2 c = let v = c in let l = v .before .before .before in let s = l .before .before in let e = event-at (s .args .events .now) (s .args .count) (omega (arith, l .loop .inv .1, s .pre .2)) (l .loop .i) (omega (arith, v .before .before .loop-test .taken)) (v .wide .ensures .0) in
+    entries-low e (l .loop .inv .2)
+
+returns-2 : tie.Need-returns-2 Inv-loop μ-loop
+returns-2 c = let v = c .before .before in let l = v .before .before .before in let s = l .before .before in let e = event-at (s .args .events .now) (s .args .count) (omega (arith, l .loop .inv .1, s .pre .2)) (l .loop .i) (omega (arith, v .before .before .loop-test .taken)) (v .wide .ensures .0) in
+    record { few = λ h. entries-hit e (l .loop .inv .2) (c .if2 .taken); many = λ h. absurd (omega (arith, l .loop .inv .1)) }
+
+element-write-stands : tie.Need-element-write-stands Inv-loop μ-loop
+element-write-stands c = let v = c .before .before in let l = v .before .before .before in let s = l .before .before in let e = event-at (s .args .events .now) (s .args .count) (omega (arith, l .loop .inv .1, s .pre .2)) (l .loop .i) (omega (arith, v .before .before .loop-test .taken)) (v .wide .ensures .0) in
+    entries-low e (l .loop .inv .2)
+
+add-i : tie.Need-add-i Inv-loop μ-loop
+add-i c = omega arith
+
+loop-less : tie.Need-loop-less Inv-loop μ-loop
+loop-less c = omega arith
+
+loop-again : tie.Need-loop-again Inv-loop μ-loop
+loop-again c = let v = c .before .before in let l = v .before .before .before in let s = l .before .before in let e = event-at (s .args .events .now) (s .args .count) (omega (arith, l .loop .inv .1, s .pre .2)) (l .loop .i) (omega (arith, v .before .before .loop-test .taken)) (v .wide .ensures .0) in
+    (omega (arith, v .before .before .loop-test .taken), l .loop .inv .1, entries-more e (l .loop .inv .2) (s .pre .0) (c .if2 .left))
+
+returns-3 : tie.Need-returns-3 Inv-loop μ-loop
+returns-3 c = let l = c .before in let s = l .before .before in
+    record { few = λ h. entries-end (events-done (s .args .events .now) (s .args .count) (omega (arith, s .pre .2)) (l .loop .i) (c .loop-test .left)) (l .loop .inv .2); many = λ h. absurd (omega (arith, l .loop .inv .1)) }
+
 pub enter-events-spec : {M : Type 1} → statement M
-enter-events-spec = tie.close (tie.spec Inv-loop μ-loop
-    (λ c. record { few = λ h. absurd (omega arith); many = λ h. (refl, refl) })
-    (λ c. let p = c .before .pre in (omega arith, omega arith, entries-from _ _ (omega (arith, p .2)) (p .1) (p .3 (omega arith))))
-    (λ c. omega (arith, c .before .before .before .pre .2))
-    (λ c κs. tt)
-    (λ c. let v = c in let l = v .before .before .before in let s = l .before .before in let e = event-at (s .args .events .now) (s .args .count) (omega (arith, l .loop .inv .1, s .pre .2)) (l .loop .i) (omega (arith, v .before .before .loop-test .taken)) (v .wide .ensures .0) in
-    entries-low e (l .loop .inv .2))
-    (λ c. let v = c .before .before in let l = v .before .before .before in let s = l .before .before in let e = event-at (s .args .events .now) (s .args .count) (omega (arith, l .loop .inv .1, s .pre .2)) (l .loop .i) (omega (arith, v .before .before .loop-test .taken)) (v .wide .ensures .0) in
-    record { few = λ h. entries-hit e (l .loop .inv .2) (c .if2 .taken); many = λ h. absurd (omega (arith, l .loop .inv .1)) })
-    (λ c. let v = c .before .before in let l = v .before .before .before in let s = l .before .before in let e = event-at (s .args .events .now) (s .args .count) (omega (arith, l .loop .inv .1, s .pre .2)) (l .loop .i) (omega (arith, v .before .before .loop-test .taken)) (v .wide .ensures .0) in
-    entries-low e (l .loop .inv .2))
-    (λ c. omega arith)
-    (λ c. omega arith)
-    (λ c. let v = c .before .before in let l = v .before .before .before in let s = l .before .before in let e = event-at (s .args .events .now) (s .args .count) (omega (arith, l .loop .inv .1, s .pre .2)) (l .loop .i) (omega (arith, v .before .before .loop-test .taken)) (v .wide .ensures .0) in
-    (omega (arith, v .before .before .loop-test .taken), l .loop .inv .1, entries-more e (l .loop .inv .2) (s .pre .0) (c .if2 .left)))
-    (λ c. let l = c .before in let s = l .before .before in
-    record { few = λ h. entries-end (events-done (s .args .events .now) (s .args .count) (omega (arith, s .pre .2)) (l .loop .i) (c .loop-test .left)) (l .loop .inv .2); many = λ h. absurd (omega (arith, l .loop .inv .1)) }))
+enter-events-spec = tie.close (tie.spec Inv-loop μ-loop returns loop-holds element-copy-out-wide wide-requires element-copy-out-if2 returns-2 element-write-stands add-i loop-less loop-again returns-3)

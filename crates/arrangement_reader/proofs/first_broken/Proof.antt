@@ -11,24 +11,58 @@ Inv-loop w n stands lined lines late₀ r₀ k₀ late r k = (k ≤ lines) × Be
 abbrev μ-loop : tie.MeasureT-loop
 μ-loop w n stands lined lines late₀ r₀ k₀ late r k = k
 
+behind-lacking-requires : tie.Need-behind-lacking-requires Inv-loop μ-loop
+behind-lacking-requires c κs = let p = c .pre in (p .0, lines-most (p .2 .taken) (p .0))
+
+loop-holds : tie.Need-loop-holds Inv-loop μ-loop
+loop-holds c = let p = c .before .pre in (omega arith, behind-all (p .0) (c .behind-lacking .ensures))
+
+add-wide : tie.Need-add-wide Inv-loop μ-loop
+add-wide c = let l = c .before in let p = l .before .before .pre in omega (arith, lines-most (p .2 .taken) (p .0))
+
+element-copy-out-wide : tie.Need-element-copy-out-wide Inv-loop μ-loop
+element-copy-out-wide c = let l = c .before in let p = l .before .before .pre in omega (arith, lines-most (p .2 .taken) (p .0))
+
+wide-requires : tie.Need-wide-requires Inv-loop μ-loop
+wide-requires c κs = tt
+
+add-wide-2 : tie.Need-add-wide-2 Inv-loop μ-loop
+add-wide-2 c = let l = c .before .before .before in let p = l .before .before .pre in omega (arith, lines-most (p .2 .taken) (p .0))
+
+element-copy-out-wide-2 : tie.Need-element-copy-out-wide-2 Inv-loop μ-loop
+element-copy-out-wide-2 c = let l = c .before .before .before in let p = l .before .before .pre in omega (arith, lines-most (p .2 .taken) (p .0))
+
+wide-requires-2 : tie.Need-wide-requires-2 Inv-loop μ-loop
+wide-requires-2 c κs = tt
+
+group-of-requires : tie.Need-group-of-requires Inv-loop μ-loop
+group-of-requires c κs = let v = c .before .before in let l = v .before .before .before in let p = l .before .before .pre in
+    line-ends (p .2 .taken) (p .0) (v .before .before .loop-test .taken) (l .loop .inv .0) (v .wide .ensures .0) (c .wide2 .ensures .0)
+
+union-requires : tie.Need-union-requires Inv-loop μ-loop
+union-requires c κs = tt
+
+meets-requires : tie.Need-meets-requires Inv-loop μ-loop
+meets-requires c κs = tt
+
+choose-requires : tie.Need-choose-requires Inv-loop μ-loop
+choose-requires c κs = tt
+
+union-requires-2 : tie.Need-union-requires-2 Inv-loop μ-loop
+union-requires-2 c κs = tt
+
+sub-k : tie.Need-sub-k Inv-loop μ-loop
+sub-k c = omega arith
+
+loop-less : tie.Need-loop-less Inv-loop μ-loop
+loop-less c = omega arith
+
+loop-again : tie.Need-loop-again Inv-loop μ-loop
+loop-again c = let h = c .before in let m = h .before in let u = m .before in let g = u .before in let y = g .before in let v = y .before .before in let i = v .before .before in let l = i .before in let p = l .before .before .pre in
+    (omega arith, behind-before (p .0) (p .1) (i .loop-test .taken) (l .loop .inv .0) (v .wide .ensures .0) (y .wide2 .ensures .0) (g .group-of .ensures) (u .union .ensures) (m .meets .ensures) (h .choose .ensures) (c .union2 .ensures) (l .loop .inv .1))
+
+returns : tie.Need-returns Inv-loop μ-loop
+returns c = behind-none (c .loop-test .left) (c .before .loop .inv .1)
+
 pub first-broken-spec : {M : Type 1} → statement M
-first-broken-spec = tie.close (tie.spec Inv-loop μ-loop
-    (λ c κs. let p = c .pre in (p .0, lines-most (p .2 .taken) (p .0)))
-    (λ c. let p = c .before .pre in (omega arith, behind-all (p .0) (c .behind-lacking .ensures)))
-    (λ c. let l = c .before in let p = l .before .before .pre in omega (arith, lines-most (p .2 .taken) (p .0)))
-    (λ c. let l = c .before in let p = l .before .before .pre in omega (arith, lines-most (p .2 .taken) (p .0)))
-    (λ c κs. tt)
-    (λ c. let l = c .before .before .before in let p = l .before .before .pre in omega (arith, lines-most (p .2 .taken) (p .0)))
-    (λ c. let l = c .before .before .before in let p = l .before .before .pre in omega (arith, lines-most (p .2 .taken) (p .0)))
-    (λ c κs. tt)
-    (λ c κs. let v = c .before .before in let l = v .before .before .before in let p = l .before .before .pre in
-    line-ends (p .2 .taken) (p .0) (v .before .before .loop-test .taken) (l .loop .inv .0) (v .wide .ensures .0) (c .wide2 .ensures .0))
-    (λ c κs. tt)
-    (λ c κs. tt)
-    (λ c κs. tt)
-    (λ c κs. tt)
-    (λ c. omega arith)
-    (λ c. omega arith)
-    (λ c. let h = c .before in let m = h .before in let u = m .before in let g = u .before in let y = g .before in let v = y .before .before in let i = v .before .before in let l = i .before in let p = l .before .before .pre in
-    (omega arith, behind-before (p .0) (p .1) (i .loop-test .taken) (l .loop .inv .0) (v .wide .ensures .0) (y .wide2 .ensures .0) (g .group-of .ensures) (u .union .ensures) (m .meets .ensures) (h .choose .ensures) (c .union2 .ensures) (l .loop .inv .1)))
-    (λ c. behind-none (c .loop-test .left) (c .before .loop .inv .1)))
+first-broken-spec = tie.close (tie.spec Inv-loop μ-loop behind-lacking-requires loop-holds add-wide element-copy-out-wide wide-requires add-wide-2 element-copy-out-wide-2 wide-requires-2 group-of-requires union-requires meets-requires choose-requires union-requires-2 sub-k loop-less loop-again returns)

@@ -3,18 +3,40 @@ use Rattle.arrangement_reader.proofs.Reading.{opens-group, plain-unknow
 use Rattle.arrangement_reader.proofs.known_at.Statement.{statement}
 use Rattle.arrangement_reader.proofs.known_at.Tie as tie
 
+list-at-requires : tie.Need-list-at-requires
+list-at-requires c κs = (opens-group, c .before .before .pre .2)
+
+line-known-requires : tie.Need-line-known-requires
+line-known-requires c κs = tt
+
+returns : tie.Need-returns
+returns c = let i = c .before in let j = i .before .before in
+    rw (c .line-known .ensures) (plain-unknown (j .before .before .list-at .ensures) (j .if1 .taken) _ _ (i .if2 .taken))
+
+line-known-requires-2 : tie.Need-line-known-requires-2
+line-known-requires-2 c κs = tt
+
+returns-2 : tie.Need-returns-2
+returns-2 c = let i = c .before in let j = i .before .before in
+    rw (c .line-known2 .ensures) (plain-kept (j .before .before .list-at .ensures) (j .if1 .taken) _ _ (i .if2 .left))
+
+line-at-requires : tie.Need-line-at-requires
+line-at-requires c κs = search needs
+
+sub-known-line : tie.Need-sub-known-line
+sub-known-line c = search needs
+
+part-known-line-start : tie.Need-part-known-line-start
+part-known-line-start c = search needs
+
+part-known-line-end : tie.Need-part-known-line-end
+part-known-line-end c = search needs
+
+known-line-requires : tie.Need-known-line-requires
+known-line-requires c κs = let l = c .before .before in let f = l .before .before .before in let p = f .before .before .before .pre in (p .1, f .list-at .ensures .long)
+
+returns-3 : tie.Need-returns-3
+returns-3 c = line-known-at (c .before .before .before .line-at .ensures) (c .known-line .ensures)
+
 pub known-at-spec : {M : Type 1} → statement M
-known-at-spec = tie.close (tie.spec
-    (λ c κs. (opens-group, c .before .before .pre .2))
-    (λ c κs. tt)
-    (λ c. let i = c .before in let j = i .before .before in
-    rw (c .line-known .ensures) (plain-unknown (j .before .before .list-at .ensures) (j .if1 .taken) _ _ (i .if2 .taken)))
-    (λ c κs. tt)
-    (λ c. let i = c .before in let j = i .before .before in
-    rw (c .line-known2 .ensures) (plain-kept (j .before .before .list-at .ensures) (j .if1 .taken) _ _ (i .if2 .left)))
-    (λ c κs. search needs)
-    (λ c. search needs)
-    (λ c. search needs)
-    (λ c. search needs)
-    (λ c κs. let l = c .before .before in let f = l .before .before .before in let p = f .before .before .before .pre in (p .1, f .list-at .ensures .long))
-    (λ c. line-known-at (c .before .before .before .line-at .ensures) (c .known-line .ensures)))
+known-at-spec = tie.close (tie.spec list-at-requires line-known-requires returns line-known-requires-2 returns-2 line-at-requires sub-known-line part-known-line-start part-known-line-end known-line-requires returns-3)

@@ -14,29 +14,67 @@ Inv-loop text n stands₀ lined₀ events₀ k₀ at₀ stands lined events k at
 abbrev μ-loop : tie.MeasureT-loop
 μ-loop text n stands₀ lined₀ events₀ k₀ at₀ stands lined events k at = length text + 1 - at
 
+loop-holds : tie.Need-loop-holds Inv-loop μ-loop
+loop-holds c = let p = c .before .pre in (omega arith, refl, begun _ (p .0) (p .1) (p .2))
+
+known-at-requires : tie.Need-known-at-requires Inv-loop μ-loop
+known-at-requires c κs = let l = c .before .before in (c .before .loop-test .taken, l .loop .inv .2 .few, l .loop .inv .1)
+
+goes-requires : tie.Need-goes-requires Inv-loop μ-loop
+goes-requires c κs = tt
+
+sub-read-to : tie.Need-sub-read-to Inv-loop μ-loop
+sub-read-to c = let a = c .before .before in let g = a .before .before .before .loop .inv .2 in omega (arith, g .stood .lines)
+
+read-to-requires : tie.Need-read-to-requires Inv-loop μ-loop
+read-to-requires c κs = tt
+
+returns : tie.Need-returns Inv-loop μ-loop
+returns c = let i = c .before in let a = i .before .before in let g = a .before .before .before .loop .inv .2 in
+    rw (c .read-to .ensures) (stop g (a .known-at .ensures) (sym (i .before .goes .ensures) ∙ not-true _ (i .if1 .taken)))
+
+cast-enter-events : tie.Need-cast-enter-events Inv-loop μ-loop
+cast-enter-events c = let i = c .before .before in let a = i .before .before in let g = a .before .before .before .loop .inv .2 in omega (arith, lines-few (g .stood) (g .few))
+
+enter-events-requires : tie.Need-enter-events-requires Inv-loop μ-loop
+enter-events-requires c κs = let i = c .before .before in let a = i .before .before in let g = a .before .before .before .loop .inv .2 in
+    enter-room g (a .known-at .ensures) (sym (i .before .goes .ensures) ∙ not-false _ (i .if1 .left))
+
+sub-read-to-2 : tie.Need-sub-read-to-2 Inv-loop μ-loop
+sub-read-to-2 c = let i = c .before .before .before .before in let a = i .before .before in let g = a .before .before .before .loop .inv .2 in omega (arith, g .stood .lines)
+
+read-to-requires-2 : tie.Need-read-to-requires-2 Inv-loop μ-loop
+read-to-requires-2 c κs = tt
+
+returns-2 : tie.Need-returns-2 Inv-loop μ-loop
+returns-2 c = let j = c .before in let e = j .before in let i = e .before .before .before in let a = i .before .before in let g = a .before .before .before .loop .inv .2 in
+    rw (c .read-to2 .ensures) (again-stop g (a .known-at .ensures) (sym (i .before .goes .ensures) ∙ not-false _ (i .if1 .left)) (e .enter-events .ensures) (j .if2 .taken))
+
+add-line-requires : tie.Need-add-line-requires Inv-loop μ-loop
+add-line-requires c κs = let j = c .before .before in let e = j .before in let i = e .before .before .before in let a = i .before .before in let g = a .before .before .before .loop .inv .2 in
+    add-room g (a .known-at .ensures) (sym (i .before .goes .ensures) ∙ not-false _ (i .if1 .left)) (e .enter-events .ensures) (j .if2 .left)
+
+add-k : tie.Need-add-k Inv-loop μ-loop
+add-k c = let j = c .before .before .before in let e = j .before in let i = e .before .before .before in let a = i .before .before in let g = a .before .before .before .loop .inv .2 in omega (arith, lines-few (g .stood) (g .few))
+
+loop-less : tie.Need-loop-less Inv-loop μ-loop
+loop-less c = let j = c .before .before .before in let e = j .before in let i = e .before .before .before in let a = i .before .before in omega (arith, a .known-at .ensures .found .on, a .known-at .ensures .found .within)
+
+loop-again : tie.Need-loop-again Inv-loop μ-loop
+loop-again c = let j = c .before .before .before in let e = j .before in let i = e .before .before .before in let a = i .before .before in let g = a .before .before .before .loop .inv .2 in
+    (a .known-at .ensures .found .within, a .known-at .ensures .long, turn g (a .known-at .ensures) (sym (i .before .goes .ensures) ∙ not-false _ (i .if1 .left)) (e .enter-events .ensures) (j .if2 .left) (c .add-line .ensures))
+
+sub-t25 : tie.Need-sub-t25 Inv-loop μ-loop
+sub-t25 c = let g = c .before .loop .inv .2 in omega (arith, g .stood .lines)
+
+sub-read-to-3 : tie.Need-sub-read-to-3 Inv-loop μ-loop
+sub-read-to-3 c = let g = c .before .loop .inv .2 in omega (arith, g .stood .lines)
+
+read-to-requires-3 : tie.Need-read-to-requires-3 Inv-loop μ-loop
+read-to-requires-3 c κs = tt
+
+returns-3 : tie.Need-returns-3 Inv-loop μ-loop
+returns-3 c = let l = c .before in rw (c .read-to3 .ensures) (done (l .before .loop .inv .2) (l .loop-test .left))
+
 pub read-lines-spec : {M : Type 1} → statement M
-read-lines-spec = tie.close (tie.spec Inv-loop μ-loop
-    (λ c. let p = c .before .pre in (omega arith, refl, begun _ (p .0) (p .1) (p .2)))
-    (λ c κs. let l = c .before .before in (c .before .loop-test .taken, l .loop .inv .2 .few, l .loop .inv .1))
-    (λ c κs. tt)
-    (λ c. let a = c .before .before in let g = a .before .before .before .loop .inv .2 in omega (arith, g .stood .lines))
-    (λ c κs. tt)
-    (λ c. let i = c .before in let a = i .before .before in let g = a .before .before .before .loop .inv .2 in
-    rw (c .read-to .ensures) (stop g (a .known-at .ensures) (sym (i .before .goes .ensures) ∙ not-true _ (i .if1 .taken))))
-    (λ c. let i = c .before .before in let a = i .before .before in let g = a .before .before .before .loop .inv .2 in omega (arith, lines-few (g .stood) (g .few)))
-    (λ c κs. let i = c .before .before in let a = i .before .before in let g = a .before .before .before .loop .inv .2 in
-    enter-room g (a .known-at .ensures) (sym (i .before .goes .ensures) ∙ not-false _ (i .if1 .left)))
-    (λ c. let i = c .before .before .before .before in let a = i .before .before in let g = a .before .before .before .loop .inv .2 in omega (arith, g .stood .lines))
-    (λ c κs. tt)
-    (λ c. let j = c .before in let e = j .before in let i = e .before .before .before in let a = i .before .before in let g = a .before .before .before .loop .inv .2 in
-    rw (c .read-to2 .ensures) (again-stop g (a .known-at .ensures) (sym (i .before .goes .ensures) ∙ not-false _ (i .if1 .left)) (e .enter-events .ensures) (j .if2 .taken)))
-    (λ c κs. let j = c .before .before in let e = j .before in let i = e .before .before .before in let a = i .before .before in let g = a .before .before .before .loop .inv .2 in
-    add-room g (a .known-at .ensures) (sym (i .before .goes .ensures) ∙ not-false _ (i .if1 .left)) (e .enter-events .ensures) (j .if2 .left))
-    (λ c. let j = c .before .before .before in let e = j .before in let i = e .before .before .before in let a = i .before .before in let g = a .before .before .before .loop .inv .2 in omega (arith, lines-few (g .stood) (g .few)))
-    (λ c. let j = c .before .before .before in let e = j .before in let i = e .before .before .before in let a = i .before .before in omega (arith, a .known-at .ensures .found .on, a .known-at .ensures .found .within))
-    (λ c. let j = c .before .before .before in let e = j .before in let i = e .before .before .before in let a = i .before .before in let g = a .before .before .before .loop .inv .2 in
-    (a .known-at .ensures .found .within, a .known-at .ensures .long, turn g (a .known-at .ensures) (sym (i .before .goes .ensures) ∙ not-false _ (i .if1 .left)) (e .enter-events .ensures) (j .if2 .left) (c .add-line .ensures)))
-    (λ c. let g = c .before .loop .inv .2 in omega (arith, g .stood .lines))
-    (λ c. let g = c .before .loop .inv .2 in omega (arith, g .stood .lines))
-    (λ c κs. tt)
-    (λ c. let l = c .before in rw (c .read-to3 .ensures) (done (l .before .loop .inv .2) (l .loop-test .left))))
+read-lines-spec = tie.close (tie.spec Inv-loop μ-loop loop-holds known-at-requires goes-requires sub-read-to read-to-requires returns cast-enter-events enter-events-requires sub-read-to-2 read-to-requires-2 returns-2 add-line-requires add-k loop-less loop-again sub-t25 sub-read-to-3 read-to-requires-3 returns-3)

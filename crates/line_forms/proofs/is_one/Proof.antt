@@ -4,10 +4,22 @@ use Rattle.line_forms.specs.Rows.{isOne}
 use Rattle.line_forms.proofs.is_one.Statement.{statement}
 use Rattle.line_forms.proofs.is_one.Tie as tie
 
+alike-requires : tie.Need-alike-requires
+unfolding isOne
+alike-requires c κs = tt
+
+a-number-requires : tie.Need-a-number-requires
+unfolding isOne
+a-number-requires c κs = tt
+
+absent-requires : tie.Need-absent-requires
+unfolding isOne
+absent-requires c κs = tt
+
+returns : tie.Need-returns
+unfolding isOne
+returns c = let a = c .before in ap₂ _&&_ (ap₂ _&&_ (a .before .alike .ensures) (a .a-number .ensures)) (c .absent .ensures)
+
 pub is-one-spec : {M : Type 1} → statement M
 unfolding isOne
-is-one-spec = tie.close (tie.spec
-    (λ c κs. tt)
-    (λ c κs. tt)
-    (λ c κs. tt)
-    (λ c. let a = c .before in ap₂ _&&_ (ap₂ _&&_ (a .before .alike .ensures) (a .a-number .ensures)) (c .absent .ensures)))
+is-one-spec = tie.close (tie.spec alike-requires a-number-requires absent-requires returns)

@@ -5,10 +5,22 @@ use Rattle.line_writer.specs.Lines.{earlierAt}
 use Rattle.line_writer.proofs.earlier.Statement.{statement}
 use Rattle.line_writer.proofs.earlier.Tie as tie
 
+returns : tie.Need-returns
+unfolding earlierAt
+returns c = rw (eq-eqb _ _ (c .if1 .taken))
+
+element-copy-out-result : tie.Need-element-copy-out-result
+unfolding earlierAt
+element-copy-out-result c = omega arith
+
+element-copy-out-result-2 : tie.Need-element-copy-out-result-2
+unfolding earlierAt
+element-copy-out-result-2 c = omega arith
+
+returns-2 : tie.Need-returns-2
+unfolding earlierAt
+returns-2 c = rw (ne-eqb _ _ (c .before .before .if1 .left))
+
 pub earlier-spec : {M : Type 1} → statement M
 unfolding earlierAt
-earlier-spec = tie.close (tie.spec
-    (λ c. rw (eq-eqb _ _ (c .if1 .taken)))
-    (λ c. omega arith)
-    (λ c. omega arith)
-    (λ c. rw (ne-eqb _ _ (c .before .before .if1 .left))))
+earlier-spec = tie.close (tie.spec returns element-copy-out-result element-copy-out-result-2 returns-2)

@@ -2,7 +2,11 @@ use native.Mathlib.Omega.{arith}
 use Rattle.lines.proofs.find_end.Statement.{statement}
 use Rattle.lines.proofs.find_end.Tie as tie
 
+end-of-requires : tie.Need-end-of-requires
+end-of-requires c κs = omega arith
+
+returns : tie.Need-returns
+returns c = c .end-of .ensures
+
 pub find-end-spec : {M : Type 1} → statement M
-find-end-spec = tie.close (tie.spec
-    (λ c κs. omega arith)
-    (λ c. c .end-of .ensures))
+find-end-spec = tie.close (tie.spec end-of-requires returns)

@@ -8,13 +8,20 @@ use Rattle.logs.proofs.Beginning.{begins, put-long, put-marking, put-he
 use Rattle.logs.proofs.begin.Statement.{statement}
 use Rattle.logs.proofs.begin.Tie as tie
 
-pub begin-spec : {M : Type 1} → statement M
-begin-spec = tie.close (tie.spec
-    (λ c κs. search needs)
-    (λ c κs. search needs)
-    (λ c κs. search needs)
-    (λ c. search needs)
-    (λ c. let st = c .before .before in let d = st .before .before in let a = d .before .before in let s = a .before .before .before in let B = s .pre in let C = d .put-tokens2 .ensures in
+put-tokens-requires : tie.Need-put-tokens-requires
+put-tokens-requires c κs = search needs
+
+put-tokens-requires-2 : tie.Need-put-tokens-requires-2
+put-tokens-requires-2 c κs = search needs
+
+start-requires : tie.Need-start-requires
+start-requires c κs = search needs
+
+same-length : tie.Need-same-length
+same-length c = search needs
+
+returns : tie.Need-returns
+returns c = let st = c .before .before in let d = st .before .before in let a = d .before .before in let s = a .before .before .before in let B = s .pre in let C = d .put-tokens2 .ensures in
     record {
       places = refl;
       transitions = refl;
@@ -24,4 +31,7 @@ begin-spec = tie.close (tie.spec
       marking = put-marking B (a .put-tokens .ensures);
       begins = λ steps k N h. begins N h _ (put-long B C) (put-held B C) (λ p l. put-blank B C 32 p (omega arith) l)
           (starts (B .most) (B .long) k (column-length 64 32 _ (omega (arith, put-long B C))) (put-cursors B C) (st .start .ensures));
-    }))
+    }
+
+pub begin-spec : {M : Type 1} → statement M
+begin-spec = tie.close (tie.spec put-tokens-requires put-tokens-requires-2 start-requires same-length returns)

@@ -8,31 +8,73 @@ use Rattle.net_reader.proofs.Plain.{opens-place, opens-transition, plac
 use Rattle.net_reader.proofs.add_at.Statement.{statement}
 use Rattle.net_reader.proofs.add_at.Tie as tie
 
+shared-slice-read-letter : tie.Need-shared-slice-read-letter
+shared-slice-read-letter c = search needs
+
+arc-letter-requires : tie.Need-arc-letter-requires
+arc-letter-requires c κs = search needs
+
+two-at-requires : tie.Need-two-at-requires
+two-at-requires c κs = (omega arith, record { within = c .before .before .before .before .pre .0; letter = c .before .arc-letter .ensures (c .if1 .taken) })
+
+add-arc-requires : tie.Need-add-arc-requires
+add-arc-requires c κs = search needs
+
+returns : tie.Need-returns
+returns c = let i = c .before .before in let t = i .before .before .before in
+    plain-takes (addArc Input _ _ _) (t .two-at .ensures) (i .before .if2 .taken) (λ m l. input-line _ m l (i .if3 .taken)) (c .add-arc .ensures Input _ refl)
+
+add-arc-requires-2 : tie.Need-add-arc-requires-2
+add-arc-requires-2 c κs = search needs
+
+returns-2 : tie.Need-returns-2
+returns-2 c = let i = c .before .before in let t = i .before .before .before .before in
+    plain-takes (addArc Output _ _ _) (t .two-at .ensures) (i .before .before .if2 .taken) (λ m l. output-line _ m l (i .if4 .taken)) (c .add-arc2 .ensures Output _ refl)
+
+add-arc-requires-3 : tie.Need-add-arc-requires-3
+add-arc-requires-3 c κs = search needs
+
+returns-3 : tie.Need-returns-3
+returns-3 c = let i = c .before .before in let t = i .before .before .before .before .before in
+    plain-takes (addArc Inhibitor _ _ _) (t .two-at .ensures) (i .before .before .before .if2 .taken) (λ m l. inhibitor-line _ m l (i .if5 .taken)) (c .add-arc3 .ensures Inhibitor _ refl)
+
+one-at-requires : tie.Need-one-at-requires
+one-at-requires c κs = (omega arith, record { within = c .before .before .before .before .before .pre .0; letter = subst Opens (sym (c .if6 .taken)) opens-place })
+
+add-place-requires : tie.Need-add-place-requires
+add-place-requires c κs = search needs
+
+returns-4 : tie.Need-returns-4
+returns-4 c = let i = c .before .before in let t = i .before .before in
+    plain-takes (addPlace _ _) (t .one-at .ensures) (i .if7 .taken) (λ m l. place-line _ m l (t .before .if6 .taken)) (c .add-place .ensures _)
+
+alone-at-requires : tie.Need-alone-at-requires
+alone-at-requires c κs = record { within = c .before .before .before .before .before .before .pre .0; letter = subst Opens (sym (c .if8 .taken)) opens-transition }
+
+add-transition-requires : tie.Need-add-transition-requires
+add-transition-requires c κs = search needs
+
+returns-5 : tie.Need-returns-5
+returns-5 c = let i = c .before in let t = i .before in
+    plain-takes (addTransition _) (t .alone-at .ensures 4) (i .if9 .taken) (λ m l. transition-line _ m l (t .before .if8 .taken)) (c .add-transition .ensures _)
+
+line-at-requires : tie.Need-line-at-requires
+line-at-requires c κs = search needs
+
+sub-add-line : tie.Need-sub-add-line
+sub-add-line c = search needs
+
+part-add-line-start : tie.Need-part-add-line-start
+part-add-line-start c = search needs
+
+part-add-line-end : tie.Need-part-add-line-end
+part-add-line-end c = search needs
+
+add-line-requires : tie.Need-add-line-requires
+add-line-requires c κs = search needs
+
+returns-6 : tie.Need-returns-6
+returns-6 c = line-takes (c .before .before .before .before .line-at .ensures) (c .add-line .ensures)
+
 pub add-at-spec : {M : Type 1} → statement M
-add-at-spec = tie.close (tie.spec
-    (λ c. search needs)
-    (λ c κs. search needs)
-    (λ c κs. (omega arith, record { within = c .before .before .before .before .pre .0; letter = c .before .arc-letter .ensures (c .if1 .taken) }))
-    (λ c κs. search needs)
-    (λ c. let i = c .before .before in let t = i .before .before .before in
-    plain-takes (addArc Input _ _ _) (t .two-at .ensures) (i .before .if2 .taken) (λ m l. input-line _ m l (i .if3 .taken)) (c .add-arc .ensures Input _ refl))
-    (λ c κs. search needs)
-    (λ c. let i = c .before .before in let t = i .before .before .before .before in
-    plain-takes (addArc Output _ _ _) (t .two-at .ensures) (i .before .before .if2 .taken) (λ m l. output-line _ m l (i .if4 .taken)) (c .add-arc2 .ensures Output _ refl))
-    (λ c κs. search needs)
-    (λ c. let i = c .before .before in let t = i .before .before .before .before .before in
-    plain-takes (addArc Inhibitor _ _ _) (t .two-at .ensures) (i .before .before .before .if2 .taken) (λ m l. inhibitor-line _ m l (i .if5 .taken)) (c .add-arc3 .ensures Inhibitor _ refl))
-    (λ c κs. (omega arith, record { within = c .before .before .before .before .before .pre .0; letter = subst Opens (sym (c .if6 .taken)) opens-place }))
-    (λ c κs. search needs)
-    (λ c. let i = c .before .before in let t = i .before .before in
-    plain-takes (addPlace _ _) (t .one-at .ensures) (i .if7 .taken) (λ m l. place-line _ m l (t .before .if6 .taken)) (c .add-place .ensures _))
-    (λ c κs. record { within = c .before .before .before .before .before .before .pre .0; letter = subst Opens (sym (c .if8 .taken)) opens-transition })
-    (λ c κs. search needs)
-    (λ c. let i = c .before in let t = i .before in
-    plain-takes (addTransition _) (t .alone-at .ensures 4) (i .if9 .taken) (λ m l. transition-line _ m l (t .before .if8 .taken)) (c .add-transition .ensures _))
-    (λ c κs. search needs)
-    (λ c. search needs)
-    (λ c. search needs)
-    (λ c. search needs)
-    (λ c κs. search needs)
-    (λ c. line-takes (c .before .before .before .before .line-at .ensures) (c .add-line .ensures)))
+add-at-spec = tie.close (tie.spec shared-slice-read-letter arc-letter-requires two-at-requires add-arc-requires returns add-arc-requires-2 returns-2 add-arc-requires-3 returns-3 one-at-requires add-place-requires returns-4 alone-at-requires add-transition-requires returns-5 line-at-requires sub-add-line part-add-line-start part-add-line-end add-line-requires returns-6)

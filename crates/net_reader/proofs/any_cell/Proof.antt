@@ -26,14 +26,28 @@ starts : (xs : List ℕ) (t n : ℕ) → any (marked xs t) (from 0 (n - 0)) ≡ 
 unfolding anyCell
 starts xs t n = any-start (marked xs t) n
 
+loop-holds : tie.Need-loop-holds Inv-loop μ-loop
+loop-holds c = (omega arith, starts _ _ _)
+
+arc-at-requires : tie.Need-arc-at-requires Inv-loop μ-loop
+arc-at-requires c κs = (omega arith, omega arith, omega arith)
+
+returns : tie.Need-returns Inv-loop μ-loop
+returns c = let a = c .before in let l = a .before .before in
+    sym (any-hit _ _ _ (a .before .loop-test .taken) (ap (ltb 0) (sym (a .arc-at .ensures)) ∙ lt-ltb _ _ (c .if1 .taken))) ∙ l .loop .inv .1
+
+add-p : tie.Need-add-p Inv-loop μ-loop
+add-p c = omega arith
+
+loop-less : tie.Need-loop-less Inv-loop μ-loop
+loop-less c = omega arith
+
+loop-again : tie.Need-loop-again Inv-loop μ-loop
+loop-again c = let a = c .before in let l = a .before .before in
+    (omega arith, any-on _ _ _ (a .before .loop-test .taken) (ap (ltb 0) (sym (a .arc-at .ensures)) ∙ le-ltb _ _ (c .if1 .left)) ∙ l .loop .inv .1)
+
+returns-2 : tie.Need-returns-2 Inv-loop μ-loop
+returns-2 c = sym (any-end _ _ _ (c .loop-test .left)) ∙ c .before .loop .inv .1
+
 pub any-cell-spec : {M : Type 1} → statement M
-any-cell-spec = tie.close (tie.spec Inv-loop μ-loop
-    (λ c. (omega arith, starts _ _ _))
-    (λ c κs. (omega arith, omega arith, omega arith))
-    (λ c. let a = c .before in let l = a .before .before in
-    sym (any-hit _ _ _ (a .before .loop-test .taken) (ap (ltb 0) (sym (a .arc-at .ensures)) ∙ lt-ltb _ _ (c .if1 .taken))) ∙ l .loop .inv .1)
-    (λ c. omega arith)
-    (λ c. omega arith)
-    (λ c. let a = c .before in let l = a .before .before in
-    (omega arith, any-on _ _ _ (a .before .loop-test .taken) (ap (ltb 0) (sym (a .arc-at .ensures)) ∙ le-ltb _ _ (c .if1 .left)) ∙ l .loop .inv .1))
-    (λ c. sym (any-end _ _ _ (c .loop-test .left)) ∙ c .before .loop .inv .1))
+any-cell-spec = tie.close (tie.spec Inv-loop μ-loop loop-holds arc-at-requires returns add-p loop-less loop-again returns-2)

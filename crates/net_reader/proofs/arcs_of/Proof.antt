@@ -13,13 +13,29 @@ Inv-loop arcs at r₀ i₀ r i = (i ≤ 1024) × Mapped (replicate 1024 0) i (λ
 abbrev μ-loop : tie.MeasureT-loop
 μ-loop arcs at r₀ i₀ r i = 1024 - i
 
+loop-holds : tie.Need-loop-holds Inv-loop μ-loop
+loop-holds c = (omega arith, mapped-none _ _)
+
+add-r : tie.Need-add-r Inv-loop μ-loop
+add-r c = omega arith
+
+element-copy-out-r : tie.Need-element-copy-out-r Inv-loop μ-loop
+element-copy-out-r c = omega arith
+
+array-write-r : tie.Need-array-write-r Inv-loop μ-loop
+array-write-r c = omega arith
+
+add-i : tie.Need-add-i Inv-loop μ-loop
+add-i c = omega arith
+
+loop-less : tie.Need-loop-less Inv-loop μ-loop
+loop-less c = omega arith
+
+loop-again : tie.Need-loop-again Inv-loop μ-loop
+loop-again c = (omega arith, mapped-more _ (omega (arith, length-replicate {A = ℕ} 1024 0)) refl (c .before .before .loop .inv .1))
+
+returns : tie.Need-returns Inv-loop μ-loop
+returns c = mapped-end 1024 (omega arith) (c .before .loop .inv .1)
+
 pub arcs-of-spec : {M : Type 1} → statement M
-arcs-of-spec = tie.close (tie.spec Inv-loop μ-loop
-    (λ c. (omega arith, mapped-none _ _))
-    (λ c. omega arith)
-    (λ c. omega arith)
-    (λ c. omega arith)
-    (λ c. omega arith)
-    (λ c. omega arith)
-    (λ c. (omega arith, mapped-more _ (omega (arith, length-replicate {A = ℕ} 1024 0)) refl (c .before .before .loop .inv .1)))
-    (λ c. mapped-end 1024 (omega arith) (c .before .loop .inv .1)))
+arcs-of-spec = tie.close (tie.spec Inv-loop μ-loop loop-holds add-r element-copy-out-r array-write-r add-i loop-less loop-again returns)

@@ -3,9 +3,18 @@ use Rattle.net_reader.specs.Reads.{lacksOf}
 use Rattle.net_reader.proofs.lacks.Statement.{statement}
 use Rattle.net_reader.proofs.lacks.Tie as tie
 
+any-cell-requires : tie.Need-any-cell-requires
+unfolding lacksOf
+any-cell-requires c κs = omega arith
+
+any-cell-requires-2 : tie.Need-any-cell-requires-2
+unfolding lacksOf
+any-cell-requires-2 c κs = omega arith
+
+returns : tie.Need-returns
+unfolding lacksOf
+returns c = cc
+
 pub lacks-spec : {M : Type 1} → statement M
 unfolding lacksOf
-lacks-spec = tie.close (tie.spec
-    (λ c κs. omega arith)
-    (λ c κs. omega arith)
-    (λ c. cc))
+lacks-spec = tie.close (tie.spec any-cell-requires any-cell-requires-2 returns)

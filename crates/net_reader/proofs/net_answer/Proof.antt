@@ -3,7 +3,11 @@ use mathlib.Core.Path.{refl}
 use Rattle.net_reader.proofs.net_answer.Statement.{statement}
 use Rattle.net_reader.proofs.net_answer.Tie as tie
 
+read-into-requires : tie.Need-read-into-requires
+read-into-requires c κs = record { tokens = refl; arcs = refl }
+
+returns : tie.Need-returns
+returns c = c .read-into .ensures .answer
+
 pub net-answer-spec : {M : Type 1} → statement M
-net-answer-spec = tie.close (tie.spec
-    (λ c κs. record { tokens = refl; arcs = refl })
-    (λ c. c .read-into .ensures .answer))
+net-answer-spec = tie.close (tie.spec read-into-requires returns)

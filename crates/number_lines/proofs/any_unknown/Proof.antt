@@ -18,12 +18,26 @@ Inv-loop l known at₀ at = (at ≤ length l + 1) × (any (leb known) (numbersFr
 abbrev μ-loop : tie.MeasureT-loop
 μ-loop l known at₀ at = length l + 1 - at
 
+letter-at-requires : tie.Need-letter-at-requires Inv-loop μ-loop
+letter-at-requires c κs = tt
+
+loop-holds : tie.Need-loop-holds Inv-loop μ-loop
+loop-holds c = (omega arith, ap (any (leb _)) (numbers-first 4 (c .letter-at .ensures)))
+
+number-at-requires : tie.Need-number-at-requires Inv-loop μ-loop
+number-at-requires c κs = omega arith
+
+returns : tie.Need-returns Inv-loop μ-loop
+returns c = sym (any-first (leb _) (c .before .before .number-at .ensures .numbers) (le-leb _ _ (c .if1 .taken))) ∙ c .before .before .before .before .loop .inv .1
+
+loop-less : tie.Need-loop-less Inv-loop μ-loop
+loop-less c = omega arith
+
+loop-again : tie.Need-loop-again Inv-loop μ-loop
+loop-again c = (omega arith, any-next (leb _) (c .before .before .number-at .ensures .numbers) (lt-leb _ _ (c .if1 .left)) ∙ c .before .before .before .before .loop .inv .1)
+
+returns-2 : tie.Need-returns-2 Inv-loop μ-loop
+returns-2 c = sym (any-nil (leb _) (numbers-none 4 _ _ (c .loop-test .left))) ∙ c .before .loop .inv .1
+
 pub any-unknown-spec : {M : Type 1} → statement M
-any-unknown-spec = tie.close (tie.spec Inv-loop μ-loop
-    (λ c κs. tt)
-    (λ c. (omega arith, ap (any (leb _)) (numbers-first 4 (c .letter-at .ensures))))
-    (λ c κs. omega arith)
-    (λ c. sym (any-first (leb _) (c .before .before .number-at .ensures .numbers) (le-leb _ _ (c .if1 .taken))) ∙ c .before .before .before .before .loop .inv .1)
-    (λ c. omega arith)
-    (λ c. (omega arith, any-next (leb _) (c .before .before .number-at .ensures .numbers) (lt-leb _ _ (c .if1 .left)) ∙ c .before .before .before .before .loop .inv .1))
-    (λ c. sym (any-nil (leb _) (numbers-none 4 _ _ (c .loop-test .left))) ∙ c .before .loop .inv .1))
+any-unknown-spec = tie.close (tie.spec Inv-loop μ-loop letter-at-requires loop-holds number-at-requires returns loop-less loop-again returns-2)

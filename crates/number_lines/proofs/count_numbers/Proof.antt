@@ -14,12 +14,26 @@ Inv-loop l at₀ count₀ at count = (at ≤ length l + 1) × (count ≤ at) × 
 abbrev μ-loop : tie.MeasureT-loop
 μ-loop l at₀ count₀ at count = length l + 1 - at
 
+letter-at-requires : tie.Need-letter-at-requires Inv-loop μ-loop
+letter-at-requires c κs = tt
+
+loop-holds : tie.Need-loop-holds Inv-loop μ-loop
+loop-holds c = (omega arith, omega arith, omega (arith, ap length (numbers-first 4 (c .letter-at .ensures))))
+
+number-at-requires : tie.Need-number-at-requires Inv-loop μ-loop
+number-at-requires c κs = omega arith
+
+add-count : tie.Need-add-count Inv-loop μ-loop
+add-count c = omega arith
+
+loop-less : tie.Need-loop-less Inv-loop μ-loop
+loop-less c = omega arith
+
+loop-again : tie.Need-loop-again Inv-loop μ-loop
+loop-again c = (omega arith, omega arith, omega (arith, ap length (c .number-at .ensures .numbers)))
+
+returns : tie.Need-returns Inv-loop μ-loop
+returns c = (omega (arith, ap length (numbers-none 4 (c .before .before .before .before .args .l .now) (c .before .loop .at) (c .loop-test .left))), omega arith)
+
 pub count-numbers-spec : {M : Type 1} → statement M
-count-numbers-spec = tie.close (tie.spec Inv-loop μ-loop
-    (λ c κs. tt)
-    (λ c. (omega arith, omega arith, omega (arith, ap length (numbers-first 4 (c .letter-at .ensures)))))
-    (λ c κs. omega arith)
-    (λ c. omega arith)
-    (λ c. omega arith)
-    (λ c. (omega arith, omega arith, omega (arith, ap length (c .number-at .ensures .numbers))))
-    (λ c. (omega (arith, ap length (numbers-none 4 (c .before .before .before .before .args .l .now) (c .before .loop .at) (c .loop-test .left))), omega arith)))
+count-numbers-spec = tie.close (tie.spec Inv-loop μ-loop letter-at-requires loop-holds number-at-requires add-count loop-less loop-again returns)

@@ -4,7 +4,11 @@ use native.Mathlib.Omega.{arith}
 use Rattle.number_lines.proofs.is_list_line.Statement.{statement}
 use Rattle.number_lines.proofs.is_list_line.Tie as tie
 
+is-list-requires : tie.Need-is-list-requires
+is-list-requires c κs = omega arith
+
+returns : tie.Need-returns
+returns c = ap (λ z. c .before .before .args .ended && z) (c .is-list .ensures)
+
 pub is-list-line-spec : {M : Type 1} → statement M
-is-list-line-spec = tie.close (tie.spec
-    (λ c κs. omega arith)
-    (λ c. ap (λ z. c .before .before .args .ended && z) (c .is-list .ensures)))
+is-list-line-spec = tie.close (tie.spec is-list-requires returns)

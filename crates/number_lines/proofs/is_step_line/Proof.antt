@@ -7,8 +7,14 @@ use Rattle.line_forms.proofs.Ties.{list-line}
 use Rattle.number_lines.proofs.is_step_line.Statement.{statement}
 use Rattle.number_lines.proofs.is_step_line.Tie as tie
 
+is-list-line-requires : tie.Need-is-list-line-requires
+unfolding isStepLine alike classOf named inDigits
+is-list-line-requires c κs = tt
+
+returns : tie.Need-returns
+unfolding isStepLine alike classOf named inDigits
+returns c = c .is-list-line .ensures ∙ sym (list-line "S" refl (lineOf _ _))
+
 pub is-step-line-spec : {M : Type 1} → statement M
 unfolding isStepLine alike classOf named inDigits
-is-step-line-spec = tie.close (tie.spec
-    (λ c κs. tt)
-    (λ c. c .is-list-line .ensures ∙ sym (list-line "S" refl (lineOf _ _))))
+is-step-line-spec = tie.close (tie.spec is-list-line-requires returns)

@@ -14,15 +14,33 @@ Inv-loop l xs₀ i₀ at₀ xs i at = (at ≤ length l + 1) × Filled (valuesOf 
 abbrev μ-loop : tie.MeasureT-loop
 μ-loop l xs₀ i₀ at₀ xs i at = length l + 1 - at
 
+letter-at-requires : tie.Need-letter-at-requires Inv-loop μ-loop
+letter-at-requires c κs = tt
+
+loop-holds : tie.Need-loop-holds Inv-loop μ-loop
+loop-holds c = (omega arith, rw (numbers-first 4 (c .letter-at .ensures)) (filled-none _))
+
+number-at-requires : tie.Need-number-at-requires Inv-loop μ-loop
+number-at-requires c κs = omega arith
+
+cast-xs : tie.Need-cast-xs Inv-loop μ-loop
+cast-xs c = let l = c .before .before in omega (arith, filled-room (l .loop .inv .1) (l .before .before .before .pre) (c .number-at .ensures .numbers))
+
+array-write-xs : tie.Need-array-write-xs Inv-loop μ-loop
+array-write-xs c = let l = c .before .before in filled-room (l .loop .inv .1) (l .before .before .before .pre) (c .number-at .ensures .numbers) .0
+
+add-i : tie.Need-add-i Inv-loop μ-loop
+add-i c = omega arith
+
+loop-less : tie.Need-loop-less Inv-loop μ-loop
+loop-less c = omega arith
+
+loop-again : tie.Need-loop-again Inv-loop μ-loop
+loop-again c = let l = c .before .before in let e = c .number-at .ensures .numbers in
+    (omega arith, filled-more (l .loop .inv .1) (filled-room (l .loop .inv .1) (l .before .before .before .pre) e .0) e)
+
+returns : tie.Need-returns Inv-loop μ-loop
+returns c = filled-all (c .before .loop .inv .1) (numbers-none 4 _ _ (c .loop-test .left))
+
 pub numbers-spec : {M : Type 1} → statement M
-numbers-spec = tie.close (tie.spec Inv-loop μ-loop
-    (λ c κs. tt)
-    (λ c. (omega arith, rw (numbers-first 4 (c .letter-at .ensures)) (filled-none _)))
-    (λ c κs. omega arith)
-    (λ c. let l = c .before .before in omega (arith, filled-room (l .loop .inv .1) (l .before .before .before .pre) (c .number-at .ensures .numbers)))
-    (λ c. let l = c .before .before in filled-room (l .loop .inv .1) (l .before .before .before .pre) (c .number-at .ensures .numbers) .0)
-    (λ c. omega arith)
-    (λ c. omega arith)
-    (λ c. let l = c .before .before in let e = c .number-at .ensures .numbers in
-    (omega arith, filled-more (l .loop .inv .1) (filled-room (l .loop .inv .1) (l .before .before .before .pre) e .0) e))
-    (λ c. filled-all (c .before .loop .inv .1) (numbers-none 4 _ _ (c .loop-test .left))))
+numbers-spec = tie.close (tie.spec Inv-loop μ-loop letter-at-requires loop-holds number-at-requires cast-xs array-write-xs add-i loop-less loop-again returns)

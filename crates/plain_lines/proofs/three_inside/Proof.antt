@@ -5,25 +5,56 @@ use Rattle.plain_lines.proofs.Plain.{last-field, more-fields, plain-lin
 use Rattle.plain_lines.proofs.three_inside.Statement.{statement}
 use Rattle.plain_lines.proofs.three_inside.Tie as tie
 
-pub three-inside-spec : {M : Type 1} → statement M
-three-inside-spec = tie.close (tie.spec
-    (λ c. search needs)
-    (λ c. search needs)
-    (λ c most m. stays-three (c .before .before .before .pre .1 .within))
-    (λ c. search needs)
-    (λ c κs. search needs)
-    (λ c. search needs)
-    (λ c most m. stays-three (c .before .before .before .before .before .before .pre .1 .within))
-    (λ c. search needs)
-    (λ c κs. search needs)
-    (λ c. search needs)
-    (λ c most m. stays-three (c .before .before .before .before .before .before .before .before .before .pre .1 .within))
-    (λ c. search needs)
-    (λ c κs. search needs)
-    (λ c. search needs)
-    (λ c most m. stays-three (c .before .before .before .before .before .before .before .before .before .before .before .before .pre .1 .within))
-    (λ c. search needs)
-    (λ c most m. let z = c .before .before in let k = z .before in let y = k .before .before in let j = y .before in let x = j .before .before in let i = x .before in let p = i .before .before .before .pre in
+add-if1 : tie.Need-add-if1
+add-if1 c = search needs
+
+shared-slice-read-if1 : tie.Need-shared-slice-read-if1
+shared-slice-read-if1 c = search needs
+
+returns : tie.Need-returns
+returns c most m = stays-three (c .before .before .before .pre .1 .within)
+
+add-from : tie.Need-add-from
+add-from c = search needs
+
+number-inside-requires : tie.Need-number-inside-requires
+number-inside-requires c κs = search needs
+
+shared-slice-read-if2 : tie.Need-shared-slice-read-if2
+shared-slice-read-if2 c = search needs
+
+returns-2 : tie.Need-returns-2
+returns-2 c most m = stays-three (c .before .before .before .before .before .before .pre .1 .within)
+
+add-then : tie.Need-add-then
+add-then c = search needs
+
+field-inside-requires : tie.Need-field-inside-requires
+field-inside-requires c κs = search needs
+
+shared-slice-read-if3 : tie.Need-shared-slice-read-if3
+shared-slice-read-if3 c = search needs
+
+returns-3 : tie.Need-returns-3
+returns-3 c most m = stays-three (c .before .before .before .before .before .before .before .before .before .pre .1 .within)
+
+add-last : tie.Need-add-last
+add-last c = search needs
+
+field-inside-requires-2 : tie.Need-field-inside-requires-2
+field-inside-requires-2 c κs = search needs
+
+shared-slice-read-if4 : tie.Need-shared-slice-read-if4
+shared-slice-read-if4 c = search needs
+
+returns-4 : tie.Need-returns-4
+returns-4 c most m = stays-three (c .before .before .before .before .before .before .before .before .before .before .before .before .pre .1 .within)
+
+add-t17 : tie.Need-add-t17
+add-t17 c = search needs
+
+returns-5 : tie.Need-returns-5
+returns-5 c most m = let z = c .before .before in let k = z .before in let y = k .before .before in let j = y .before in let x = j .before .before in let i = x .before in let p = i .before .before .before .pre in
     let q = behind _ (omega (arith, x .number-inside .ensures .few)) (j .if2 .left) in
     let r = behind _ (omega (arith, x .number-inside .ensures .few, y .field-inside .ensures .few)) (k .if3 .left) in
     let e = behind _ (omega (arith, x .number-inside .ensures .few, y .field-inside .ensures .few, z .field-inside2 .ensures .few)) (c .if4 .left) in
@@ -35,4 +66,7 @@ three-inside-spec = tie.close (tie.spec
       };
       second = λ h. u .kind (r .0);
       third = λ h. v .kind (e .0);
-    }))
+    }
+
+pub three-inside-spec : {M : Type 1} → statement M
+three-inside-spec = tie.close (tie.spec add-if1 shared-slice-read-if1 returns add-from number-inside-requires shared-slice-read-if2 returns-2 add-then field-inside-requires shared-slice-read-if3 returns-3 add-last field-inside-requires-2 shared-slice-read-if4 returns-4 add-t17 returns-5)

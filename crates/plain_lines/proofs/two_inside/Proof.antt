@@ -5,23 +5,49 @@ use Rattle.plain_lines.proofs.Plain.{last-field, more-fields, plain-lin
 use Rattle.plain_lines.proofs.two_inside.Statement.{statement}
 use Rattle.plain_lines.proofs.two_inside.Tie as tie
 
-pub two-inside-spec : {M : Type 1} → statement M
-two-inside-spec = tie.close (tie.spec
-    (λ c. search needs)
-    (λ c. search needs)
-    (λ c most m. stays (c .before .before .before .pre .1 .within))
-    (λ c. search needs)
-    (λ c κs. search needs)
-    (λ c. search needs)
-    (λ c most m. stays (c .before .before .before .before .before .before .pre .1 .within))
-    (λ c. search needs)
-    (λ c κs. search needs)
-    (λ c. search needs)
-    (λ c most m. stays (c .before .before .before .before .before .before .before .before .before .pre .1 .within))
-    (λ c. search needs)
-    (λ c most m. let y = c .before .before in let j = y .before in let x = j .before .before in let i = x .before in let p = i .before .before .before .pre in
+add-if1 : tie.Need-add-if1
+add-if1 c = search needs
+
+shared-slice-read-if1 : tie.Need-shared-slice-read-if1
+shared-slice-read-if1 c = search needs
+
+returns : tie.Need-returns
+returns c most m = stays (c .before .before .before .pre .1 .within)
+
+add-from : tie.Need-add-from
+add-from c = search needs
+
+number-inside-requires : tie.Need-number-inside-requires
+number-inside-requires c κs = search needs
+
+shared-slice-read-if2 : tie.Need-shared-slice-read-if2
+shared-slice-read-if2 c = search needs
+
+returns-2 : tie.Need-returns-2
+returns-2 c most m = stays (c .before .before .before .before .before .before .pre .1 .within)
+
+add-then : tie.Need-add-then
+add-then c = search needs
+
+number-inside-requires-2 : tie.Need-number-inside-requires-2
+number-inside-requires-2 c κs = search needs
+
+shared-slice-read-if3 : tie.Need-shared-slice-read-if3
+shared-slice-read-if3 c = search needs
+
+returns-3 : tie.Need-returns-3
+returns-3 c most m = stays (c .before .before .before .before .before .before .before .before .before .pre .1 .within)
+
+add-t10 : tie.Need-add-t10
+add-t10 c = search needs
+
+returns-4 : tie.Need-returns-4
+returns-4 c most m = let y = c .before .before in let j = y .before in let x = j .before .before in let i = x .before in let p = i .before .before .before .pre in
     let q = behind _ (omega (arith, x .number-inside .ensures .few)) (j .if2 .left) in let e = behind _ (omega (arith, x .number-inside .ensures .few, y .number-inside2 .ensures .few)) (c .if3 .left) in
     let n = x .number-inside .ensures .number most m in let k = y .number-inside2 .ensures .number most m in record {
       within = omega (arith, e .1 .within);
       line = λ h. plain-line (p .1) (record { within = omega arith; byte = i .if1 .left }) (more-fields (n .start) (n .number (q .0)) (q .1) (last-field (k .start) (k .number (e .0)) (e .1)));
-    }))
+    }
+
+pub two-inside-spec : {M : Type 1} → statement M
+two-inside-spec = tie.close (tie.spec add-if1 shared-slice-read-if1 returns add-from number-inside-requires shared-slice-read-if2 returns-2 add-then number-inside-requires-2 shared-slice-read-if3 returns-3 add-t10 returns-4)

@@ -2,7 +2,11 @@ use borrow.Author.Tests.{eq-eqb, ne-eqb}
 use Rattle.record_reader.proofs.kind_of.Statement.{statement}
 use Rattle.record_reader.proofs.kind_of.Tie as tie
 
+returns : tie.Need-returns
+returns c = rw (eq-eqb _ _ (c .if1 .taken))
+
+returns-2 : tie.Need-returns-2
+returns-2 c = rw (ne-eqb _ _ (c .if1 .left))
+
 pub kind-of-spec : {M : Type 1} → statement M
-kind-of-spec = tie.close (tie.spec
-    (λ c. rw (eq-eqb _ _ (c .if1 .taken)))
-    (λ c. rw (ne-eqb _ _ (c .if1 .left))))
+kind-of-spec = tie.close (tie.spec returns returns-2)

@@ -14,20 +14,50 @@ Inv-loop sets₀ rec n c₀ sets c = (c ≤ n) × Placed rec c sets × (length s
 abbrev μ-loop : tie.MeasureT-loop
 μ-loop sets₀ rec n c₀ sets c = n - c
 
+loop-holds : tie.Need-loop-holds Inv-loop μ-loop
+loop-holds c = (omega arith, placed-none _ (c .pre .4), c .pre .3)
+
+add-i : tie.Need-add-i Inv-loop μ-loop
+add-i c = omega arith
+
+shared-slice-read-i : tie.Need-shared-slice-read-i Inv-loop μ-loop
+shared-slice-read-i c = omega arith
+
+cast-i : tie.Need-cast-i Inv-loop μ-loop
+cast-i c = omega (arith, c .before .before .before .pre .2 _ (c .before .loop-test .taken))
+
+mul-i : tie.Need-mul-i Inv-loop μ-loop
+mul-i c = omega (arith, c .before .before .before .pre .2 _ (c .before .loop-test .taken))
+
+add-i-2 : tie.Need-add-i-2 Inv-loop μ-loop
+add-i-2 c = omega (arith, c .before .before .before .pre .2 _ (c .before .loop-test .taken))
+
+mul-sets : tie.Need-mul-sets Inv-loop μ-loop
+mul-sets c = omega (arith, c .before .before .before .pre .2 _ (c .before .loop-test .taken))
+
+element-copy-out-sets : tie.Need-element-copy-out-sets Inv-loop μ-loop
+element-copy-out-sets c = omega (arith, c .before .before .before .pre .2 _ (c .before .loop-test .taken))
+
+shl-sets : tie.Need-shl-sets Inv-loop μ-loop
+shl-sets c = omega arith
+
+mul-sets-2 : tie.Need-mul-sets-2 Inv-loop μ-loop
+mul-sets-2 c = omega (arith, c .before .before .before .before .pre .2 _ (c .before .before .loop-test .taken))
+
+element-write-sets : tie.Need-element-write-sets Inv-loop μ-loop
+element-write-sets c = omega (arith, c .before .before .before .before .pre .2 _ (c .before .before .loop-test .taken))
+
+add-c : tie.Need-add-c Inv-loop μ-loop
+add-c c = omega arith
+
+loop-less : tie.Need-loop-less Inv-loop μ-loop
+loop-less c = omega arith
+
+loop-again : tie.Need-loop-again Inv-loop μ-loop
+loop-again c = let l = c .before .before .before in let s = c .before .before .before .before in (omega arith, placed-more (s .args .rec .now) (l .loop .sets) (l .loop .c) _ (omega arith) (s .pre .2 _ (omega arith)) (l .loop .inv .2) refl (l .loop .inv .1), simp length-set (l .loop .inv .2))
+
+returns : tie.Need-returns Inv-loop μ-loop
+returns c = placed-end _ (omega arith) (c .before .loop .inv .1)
+
 pub enter-places-spec : {M : Type 1} → statement M
-enter-places-spec = tie.close (tie.spec Inv-loop μ-loop
-    (λ c. (omega arith, placed-none _ (c .pre .4), c .pre .3))
-    (λ c. omega arith)
-    (λ c. omega arith)
-    (λ c. omega (arith, c .before .before .before .pre .2 _ (c .before .loop-test .taken)))
-    (λ c. omega (arith, c .before .before .before .pre .2 _ (c .before .loop-test .taken)))
-    (λ c. omega (arith, c .before .before .before .pre .2 _ (c .before .loop-test .taken)))
-    (λ c. omega (arith, c .before .before .before .pre .2 _ (c .before .loop-test .taken)))
-    (λ c. omega (arith, c .before .before .before .pre .2 _ (c .before .loop-test .taken)))
-    (λ c. omega arith)
-    (λ c. omega (arith, c .before .before .before .before .pre .2 _ (c .before .before .loop-test .taken)))
-    (λ c. omega (arith, c .before .before .before .before .pre .2 _ (c .before .before .loop-test .taken)))
-    (λ c. omega arith)
-    (λ c. omega arith)
-    (λ c. let l = c .before .before .before in let s = c .before .before .before .before in (omega arith, placed-more (s .args .rec .now) (l .loop .sets) (l .loop .c) _ (omega arith) (s .pre .2 _ (omega arith)) (l .loop .inv .2) refl (l .loop .inv .1), simp length-set (l .loop .inv .2)))
-    (λ c. placed-end _ (omega arith) (c .before .loop .inv .1)))
+enter-places-spec = tie.close (tie.spec Inv-loop μ-loop loop-holds add-i shared-slice-read-i cast-i mul-i add-i-2 mul-sets element-copy-out-sets shl-sets mul-sets-2 element-write-sets add-c loop-less loop-again returns)

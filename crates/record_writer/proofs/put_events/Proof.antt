@@ -20,13 +20,29 @@ Inv-loop out₀ at rec n next₀ e₀ out next e = (e ≤ n) × Wrote out₀ at 
 abbrev μ-loop : tie.MeasureT-loop
 μ-loop out₀ at rec n next₀ e₀ out next e = n - e
 
+loop-holds : tie.Need-loop-holds Inv-loop μ-loop
+loop-holds c = (omega arith, wrote-none _ _ _)
+
+shared-slice-read-put-event : tie.Need-shared-slice-read-put-event Inv-loop μ-loop
+shared-slice-read-put-event c = omega arith
+
+put-event-requires : tie.Need-put-event-requires Inv-loop μ-loop
+put-event-requires c κs = let l = c .before .before .before in let s = c .before .before .before .before .before .before in room-as (l .loop .next) (event-at (s .args .rec .now) (l .loop .e) (omega arith)) (wrote-room _ (l .loop .e) (s .args .n) (l .loop .inv .1) (omega arith) (s .pre .2))
+
+add-e : tie.Need-add-e Inv-loop μ-loop
+add-e c = omega arith
+
+loop-less : tie.Need-loop-less Inv-loop μ-loop
+loop-less c = omega arith
+
+loop-again : tie.Need-loop-again Inv-loop μ-loop
+loop-again c = let l = c .before .before .before .before .before .before in let s = c .before .before .before .before .before .before .before .before .before in (omega arith, wrote-next _ (l .loop .e) (l .loop .inv .1) (wrote-as (c .before .before .put-event .ensures) (sym (event-at (s .args .rec .now) (l .loop .e) (omega arith)))))
+
+same-length : tie.Need-same-length Inv-loop μ-loop
+same-length c = wrote-length (c .before .loop .inv .1)
+
+returns : tie.Need-returns Inv-loop μ-loop
+returns c = wrote-all _ (omega arith) (c .before .loop .inv .1)
+
 pub put-events-spec : {M : Type 1} → statement M
-put-events-spec = tie.close (tie.spec Inv-loop μ-loop
-    (λ c. (omega arith, wrote-none _ _ _))
-    (λ c. omega arith)
-    (λ c κs. let l = c .before .before .before in let s = c .before .before .before .before .before .before in room-as (l .loop .next) (event-at (s .args .rec .now) (l .loop .e) (omega arith)) (wrote-room _ (l .loop .e) (s .args .n) (l .loop .inv .1) (omega arith) (s .pre .2)))
-    (λ c. omega arith)
-    (λ c. omega arith)
-    (λ c. let l = c .before .before .before .before .before .before in let s = c .before .before .before .before .before .before .before .before .before in (omega arith, wrote-next _ (l .loop .e) (l .loop .inv .1) (wrote-as (c .before .before .put-event .ensures) (sym (event-at (s .args .rec .now) (l .loop .e) (omega arith))))))
-    (λ c. wrote-length (c .before .loop .inv .1))
-    (λ c. wrote-all _ (omega arith) (c .before .loop .inv .1)))
+put-events-spec = tie.close (tie.spec Inv-loop μ-loop loop-holds shared-slice-read-put-event put-event-requires add-e loop-less loop-again same-length returns)

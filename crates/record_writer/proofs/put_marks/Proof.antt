@@ -19,24 +19,48 @@ Inv-loop out₀ marks₀ rec at steps arcs s sets watched₀ known₀ next₀ e�
 abbrev μ-loop : tie.MeasureT-loop
 μ-loop out₀ marks₀ rec at steps arcs s sets watched₀ known₀ next₀ e₀ out marks watched known next e = s .events - e
 
+enter-places-requires : tie.Need-enter-places-requires Inv-loop μ-loop
+enter-places-requires c κs = let s = c .before .before .before .before in (s .pre .0 .conditions, s .pre .1, placed-low (s .args .rec .now) (s .args .s .conditions) (s .pre .0 .conditions) (s .pre .0 .coded), length-replicate {A = ℕ} 256 0, blank 256)
+
+loop-holds : tie.Need-loop-holds Inv-loop μ-loop
+loop-holds c = let s = c .before .before .before .before .before in (omega arith, ready-none (length-replicate {A = ℕ} 32 0) (length-replicate {A = ℕ} 256 0) (blank 256) (blank 32), marks-none (s .args .arcs .now) (s .args .steps .now) (s .args .s .events) (c .enter-places .ensures) (s .pre .0) _ _ _)
+
+shared-slice-read-t : tie.Need-shared-slice-read-t Inv-loop μ-loop
+shared-slice-read-t c = let s = c .before .before .before .before .before .before .before .before .before in omega (arith, s .pre .0 .events, s .pre .1, c .before .if1 .taken)
+
+cast-t : tie.Need-cast-t Inv-loop μ-loop
+cast-t c = let s = c .before .before .before .before .before .before .before .before .before in omega (arith, marks-row (s .args .arcs .now) (s .args .steps .now) (s .args .s .events) (c .before .before .before .before .enter-places .ensures) (s .pre .0) (c .before .before .before .loop .e) (c .before .if1 .taken))
+
+ready-requires : tie.Need-ready-requires Inv-loop μ-loop
+ready-requires c κs = let s = c .before .before .before .before .before .before .before .before .before .before .before .before in (marks-row (s .args .arcs .now) (s .args .steps .now) (s .args .s .events) (c .before .before .before .before .before .before .before .enter-places .ensures) (s .pre .0) (c .before .before .before .before .before .before .loop .e) (c .before .before .before .before .if1 .taken), c .before .before .before .before .before .before .loop .inv .1)
+
+put-row-requires : tie.Need-put-row-requires Inv-loop μ-loop
+put-row-requires c κs = let s = c .before .before .before .before .before .before .before .before .before .before .before .before .before .before .before .before in let W = c .before .before .before .ready .ensures .1 in let P = c .before .before .before .before .before .before .before .before .before .before .before .enter-places .ensures in let e = c .before .before .before .before .before .before .before .before .before .before .loop .e in let l = c .before .before .before .before .before .before .before .before .if1 .taken in (
+  omega (arith, s .pre .0 .events, l),
+  s .pre .1,
+  marks-row (s .args .arcs .now) (s .args .steps .now) (s .args .s .events) P (s .pre .0) e l,
+  marks-low (s .args .arcs .now) (s .args .steps .now) (s .args .s .events) P (s .pre .0) e l _ W,
+  marks-room (s .args .arcs .now) (s .args .steps .now) (s .args .s .events) P (s .pre .0) e l _ W (c .before .before .before .before .before .before .before .before .before .before .loop .inv .2) (unfold historyNotes in (s .pre .2)),
+)
+
+add-e : tie.Need-add-e Inv-loop μ-loop
+add-e c = let s = c .before .before .before .before .before .before .before .before .before .before .before .before .before .before .before .before .before .before .before .before .before in omega (arith, s .pre .0 .events, c .before .before .before .before .before .before .before .before .before .before .before .before .before .if1 .taken)
+
+loop-less : tie.Need-loop-less Inv-loop μ-loop
+loop-less c = omega (arith, c .before .before .before .before .before .before .before .before .before .before .before .before .before .if1 .taken)
+
+loop-again : tie.Need-loop-again Inv-loop μ-loop
+loop-again c = let s = c .before .before .before .before .before .before .before .before .before .before .before .before .before .before .before .before .before .before .before .before .before in let R = c .before .before .before .before .before .before .before .before .ready .ensures in
+    (omega (arith, c .before .before .before .before .before .before .before .before .before .before .before .before .before .if1 .taken), R .0, marks-next (s .args .arcs .now) (s .args .steps .now) (s .args .s .events) (c .before .before .before .before .before .before .before .before .before .before .before .before .before .before .before .before .enter-places .ensures) (s .pre .0) (c .before .before .before .before .before .before .before .before .before .before .before .before .before .before .before .loop .e) (c .before .before .before .before .before .before .before .before .before .before .before .before .before .if1 .taken) _ (R .1) (c .before .before .before .before .before .before .before .before .before .before .before .before .before .before .before .loop .inv .2) (c .before .before .before .before .put-row .ensures))
+
+same-length : tie.Need-same-length Inv-loop μ-loop
+same-length c = wrote-length (c .before .before .loop .inv .2 .text)
+
+same-length-2 : tie.Need-same-length-2 Inv-loop μ-loop
+same-length-2 c = c .before .before .loop .inv .2 .noted .long
+
+returns : tie.Need-returns Inv-loop μ-loop
+returns c = let s = c .before .before .before .before .before .before .before .before in marks-end (s .args .arcs .now) (s .args .steps .now) (s .args .s .events) (c .before .before .before .enter-places .ensures) (s .pre .0) (omega (arith, c .if1 .left, c .before .before .loop .inv .0)) (c .before .before .loop .inv .2)
+
 pub put-marks-spec : {M : Type 1} → statement M
-put-marks-spec = tie.close (tie.spec Inv-loop μ-loop
-    (λ c κs. let s = c .before .before .before .before in (s .pre .0 .conditions, s .pre .1, placed-low (s .args .rec .now) (s .args .s .conditions) (s .pre .0 .conditions) (s .pre .0 .coded), length-replicate {A = ℕ} 256 0, blank 256))
-    (λ c. let s = c .before .before .before .before .before in (omega arith, ready-none (length-replicate {A = ℕ} 32 0) (length-replicate {A = ℕ} 256 0) (blank 256) (blank 32), marks-none (s .args .arcs .now) (s .args .steps .now) (s .args .s .events) (c .enter-places .ensures) (s .pre .0) _ _ _))
-    (λ c. let s = c .before .before .before .before .before .before .before .before .before in omega (arith, s .pre .0 .events, s .pre .1, c .before .if1 .taken))
-    (λ c. let s = c .before .before .before .before .before .before .before .before .before in omega (arith, marks-row (s .args .arcs .now) (s .args .steps .now) (s .args .s .events) (c .before .before .before .before .enter-places .ensures) (s .pre .0) (c .before .before .before .loop .e) (c .before .if1 .taken)))
-    (λ c κs. let s = c .before .before .before .before .before .before .before .before .before .before .before .before in (marks-row (s .args .arcs .now) (s .args .steps .now) (s .args .s .events) (c .before .before .before .before .before .before .before .enter-places .ensures) (s .pre .0) (c .before .before .before .before .before .before .loop .e) (c .before .before .before .before .if1 .taken), c .before .before .before .before .before .before .loop .inv .1))
-    (λ c κs. let s = c .before .before .before .before .before .before .before .before .before .before .before .before .before .before .before .before in let W = c .before .before .before .ready .ensures .1 in let P = c .before .before .before .before .before .before .before .before .before .before .before .enter-places .ensures in let e = c .before .before .before .before .before .before .before .before .before .before .loop .e in let l = c .before .before .before .before .before .before .before .before .if1 .taken in (
-      omega (arith, s .pre .0 .events, l),
-      s .pre .1,
-      marks-row (s .args .arcs .now) (s .args .steps .now) (s .args .s .events) P (s .pre .0) e l,
-      marks-low (s .args .arcs .now) (s .args .steps .now) (s .args .s .events) P (s .pre .0) e l _ W,
-      marks-room (s .args .arcs .now) (s .args .steps .now) (s .args .s .events) P (s .pre .0) e l _ W (c .before .before .before .before .before .before .before .before .before .before .loop .inv .2) (unfold historyNotes in (s .pre .2)),
-    ))
-    (λ c. let s = c .before .before .before .before .before .before .before .before .before .before .before .before .before .before .before .before .before .before .before .before .before in omega (arith, s .pre .0 .events, c .before .before .before .before .before .before .before .before .before .before .before .before .before .if1 .taken))
-    (λ c. omega (arith, c .before .before .before .before .before .before .before .before .before .before .before .before .before .if1 .taken))
-    (λ c. let s = c .before .before .before .before .before .before .before .before .before .before .before .before .before .before .before .before .before .before .before .before .before in let R = c .before .before .before .before .before .before .before .before .ready .ensures in
-    (omega (arith, c .before .before .before .before .before .before .before .before .before .before .before .before .before .if1 .taken), R .0, marks-next (s .args .arcs .now) (s .args .steps .now) (s .args .s .events) (c .before .before .before .before .before .before .before .before .before .before .before .before .before .before .before .before .enter-places .ensures) (s .pre .0) (c .before .before .before .before .before .before .before .before .before .before .before .before .before .before .before .loop .e) (c .before .before .before .before .before .before .before .before .before .before .before .before .before .if1 .taken) _ (R .1) (c .before .before .before .before .before .before .before .before .before .before .before .before .before .before .before .loop .inv .2) (c .before .before .before .before .put-row .ensures)))
-    (λ c. wrote-length (c .before .before .loop .inv .2 .text))
-    (λ c. c .before .before .loop .inv .2 .noted .long)
-    (λ c. let s = c .before .before .before .before .before .before .before .before in marks-end (s .args .arcs .now) (s .args .steps .now) (s .args .s .events) (c .before .before .before .enter-places .ensures) (s .pre .0) (omega (arith, c .if1 .left, c .before .before .loop .inv .0)) (c .before .before .loop .inv .2)))
+put-marks-spec = tie.close (tie.spec Inv-loop μ-loop enter-places-requires loop-holds shared-slice-read-t cast-t ready-requires put-row-requires add-e loop-less loop-again same-length same-length-2 returns)

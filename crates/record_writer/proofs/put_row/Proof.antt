@@ -15,27 +15,57 @@ Inv-loop out₀ marks₀ rec steps e watched t next₀ w₀ out marks next w = (
 abbrev μ-loop : tie.MeasureT-loop
 μ-loop out₀ marks₀ rec steps e watched t next₀ w₀ out marks next w = 8 - w
 
+shared-slice-read-t : tie.Need-shared-slice-read-t Inv-loop μ-loop
+shared-slice-read-t c = omega arith
+
+cast-t : tie.Need-cast-t Inv-loop μ-loop
+cast-t c = omega (arith, c .before .before .before .before .pre .2)
+
+loop-holds : tie.Need-loop-holds Inv-loop μ-loop
+loop-holds c = (omega arith, row-none _ _ _ _ _ _ _ _)
+
+mul-t15 : tie.Need-mul-t15 Inv-loop μ-loop
+mul-t15 c = omega (arith, c .before .before .before .before .before .before .pre .2)
+
+add-t16 : tie.Need-add-t16 Inv-loop μ-loop
+add-t16 c = omega (arith, c .before .before .before .before .before .before .pre .2)
+
+mul-t17 : tie.Need-mul-t17 Inv-loop μ-loop
+mul-t17 c = omega (arith, c .before .before .before .before .before .before .pre .2)
+
+element-copy-out-t20 : tie.Need-element-copy-out-t20 Inv-loop μ-loop
+element-copy-out-t20 c = omega (arith, c .before .before .before .before .before .before .pre .2)
+
+mul-t21 : tie.Need-mul-t21 Inv-loop μ-loop
+mul-t21 c = omega arith
+
+put-word-requires : tie.Need-put-word-requires Inv-loop μ-loop
+put-word-requires c κs = let l = c .before .before .before .before in let s = c .before .before .before .before .before .before .before .before .before in let v = l .loop .inv in let t = getD (s .args .rec .now) (s .args .e) 0 in (
+  s .pre .0,
+  omega arith,
+  s .pre .1,
+  row-low (s .args .watched .now) (s .args .rec .now) (s .args .steps .now) (s .args .e) t (l .loop .w) (omega arith) (s .pre .3),
+  row-room (s .args .watched .now) (s .args .rec .now) (s .args .steps .now) (s .args .e) t (l .loop .w) (omega arith) (v .1) (s .pre .4),
+)
+
+add-w : tie.Need-add-w Inv-loop μ-loop
+add-w c = omega arith
+
+loop-less : tie.Need-loop-less Inv-loop μ-loop
+loop-less c = omega arith
+
+loop-again : tie.Need-loop-again Inv-loop μ-loop
+loop-again c = let l = c .before .before .before .before .before .before .before .before .before in let s = c .before .before .before .before .before .before .before .before .before .before .before .before .before .before in let v = l .loop .inv in
+    (omega arith, row-next (s .args .watched .now) (s .args .rec .now) (s .args .steps .now) (s .args .e) (getD (s .args .rec .now) (s .args .e) 0) (l .loop .w) (omega arith) (v .1) (c .before .before .before .before .put-word .ensures))
+
+same-length : tie.Need-same-length Inv-loop μ-loop
+same-length c = wrote-length (c .before .loop .inv .1 .text)
+
+same-length-2 : tie.Need-same-length-2 Inv-loop μ-loop
+same-length-2 c = c .before .loop .inv .1 .noted .long
+
+returns : tie.Need-returns Inv-loop μ-loop
+returns c = let v = c .before .loop .inv in row-end _ _ _ _ _ (omega arith) (v .1)
+
 pub put-row-spec : {M : Type 1} → statement M
-put-row-spec = tie.close (tie.spec Inv-loop μ-loop
-    (λ c. omega arith)
-    (λ c. omega (arith, c .before .before .before .before .pre .2))
-    (λ c. (omega arith, row-none _ _ _ _ _ _ _ _))
-    (λ c. omega (arith, c .before .before .before .before .before .before .pre .2))
-    (λ c. omega (arith, c .before .before .before .before .before .before .pre .2))
-    (λ c. omega (arith, c .before .before .before .before .before .before .pre .2))
-    (λ c. omega (arith, c .before .before .before .before .before .before .pre .2))
-    (λ c. omega arith)
-    (λ c κs. let l = c .before .before .before .before in let s = c .before .before .before .before .before .before .before .before .before in let v = l .loop .inv in let t = getD (s .args .rec .now) (s .args .e) 0 in (
-      s .pre .0,
-      omega arith,
-      s .pre .1,
-      row-low (s .args .watched .now) (s .args .rec .now) (s .args .steps .now) (s .args .e) t (l .loop .w) (omega arith) (s .pre .3),
-      row-room (s .args .watched .now) (s .args .rec .now) (s .args .steps .now) (s .args .e) t (l .loop .w) (omega arith) (v .1) (s .pre .4),
-    ))
-    (λ c. omega arith)
-    (λ c. omega arith)
-    (λ c. let l = c .before .before .before .before .before .before .before .before .before in let s = c .before .before .before .before .before .before .before .before .before .before .before .before .before .before in let v = l .loop .inv in
-    (omega arith, row-next (s .args .watched .now) (s .args .rec .now) (s .args .steps .now) (s .args .e) (getD (s .args .rec .now) (s .args .e) 0) (l .loop .w) (omega arith) (v .1) (c .before .before .before .before .put-word .ensures)))
-    (λ c. wrote-length (c .before .loop .inv .1 .text))
-    (λ c. c .before .loop .inv .1 .noted .long)
-    (λ c. let v = c .before .loop .inv in row-end _ _ _ _ _ (omega arith) (v .1)))
+put-row-spec = tie.close (tie.spec Inv-loop μ-loop shared-slice-read-t cast-t loop-holds mul-t15 add-t16 mul-t17 element-copy-out-t20 mul-t21 put-word-requires add-w loop-less loop-again same-length same-length-2 returns)

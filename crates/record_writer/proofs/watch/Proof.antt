@@ -13,11 +13,23 @@ Inv-loop watched₀ t sets arcs p₀ watched p = (p ≤ 32) × WatchedBy arcs se
 abbrev μ-loop : tie.MeasureT-loop
 μ-loop watched₀ t sets arcs p₀ watched p = 32 - p
 
+loop-holds : tie.Need-loop-holds Inv-loop μ-loop
+loop-holds c = (omega arith, watched-none (c .pre .2), others-none _ _)
+
+watch-place-requires : tie.Need-watch-place-requires Inv-loop μ-loop
+watch-place-requires c κs = let l = c .before .before in let s = c .before .before .before in (s .pre .0, omega arith, l .loop .inv .2 .long ∙ s .pre .1, l .loop .inv .1)
+
+add-p : tie.Need-add-p Inv-loop μ-loop
+add-p c = omega arith
+
+loop-less : tie.Need-loop-less Inv-loop μ-loop
+loop-less c = omega arith
+
+loop-again : tie.Need-loop-again Inv-loop μ-loop
+loop-again c = let l = c .before .before .before in (omega arith, c .watch-place .ensures .0, others-after (l .loop .inv .2) (c .watch-place .ensures .1))
+
+returns : tie.Need-returns Inv-loop μ-loop
+returns c = let l = c .before in (watched-end _ (omega arith) (l .loop .inv .1), l .loop .inv .2)
+
 pub watch-spec : {M : Type 1} → statement M
-watch-spec = tie.close (tie.spec Inv-loop μ-loop
-    (λ c. (omega arith, watched-none (c .pre .2), others-none _ _))
-    (λ c κs. let l = c .before .before in let s = c .before .before .before in (s .pre .0, omega arith, l .loop .inv .2 .long ∙ s .pre .1, l .loop .inv .1))
-    (λ c. omega arith)
-    (λ c. omega arith)
-    (λ c. let l = c .before .before .before in (omega arith, c .watch-place .ensures .0, others-after (l .loop .inv .2) (c .watch-place .ensures .1)))
-    (λ c. let l = c .before in (watched-end _ (omega arith) (l .loop .inv .1), l .loop .inv .2)))
+watch-spec = tie.close (tie.spec Inv-loop μ-loop loop-holds watch-place-requires add-p loop-less loop-again returns)

@@ -3,11 +3,23 @@ use Rattle.row_pairs.proofs.Raising.{afters-none, afters-put}
 use Rattle.row_pairs.proofs.raise_afters.Statement.{statement}
 use Rattle.row_pairs.proofs.raise_afters.Tie as tie
 
+returns : tie.Need-returns
+returns c = afters-none _ _ _ (c .if1 .taken)
+
+row-at-requires : tie.Need-row-at-requires
+row-at-requires c κs = c .before .if1 .left
+
+union-requires : tie.Need-union-requires
+union-requires c κs = tt
+
+union-requires-2 : tie.Need-union-requires-2
+union-requires-2 c κs = tt
+
+put-row-requires : tie.Need-put-row-requires
+put-row-requires c κs = (c .before .before .before .before .before .if1 .left, omega (arith, c .before .before .before .before .before .before .pre .0))
+
+returns-2 : tie.Need-returns-2
+returns-2 c = afters-put _ _ _ _ (c .before .before .before .before .before .before .if1 .left) (c .before .before .before .before .before .before .before .pre .1) (c .before .before .before .before .row-at .ensures) (c .before .before .before .union .ensures) (c .before .before .union2 .ensures) (c .put-row .ensures)
+
 pub raise-afters-spec : {M : Type 1} → statement M
-raise-afters-spec = tie.close (tie.spec
-    (λ c. afters-none _ _ _ (c .if1 .taken))
-    (λ c κs. c .before .if1 .left)
-    (λ c κs. tt)
-    (λ c κs. tt)
-    (λ c κs. (c .before .before .before .before .before .if1 .left, omega (arith, c .before .before .before .before .before .before .pre .0)))
-    (λ c. afters-put _ _ _ _ (c .before .before .before .before .before .before .if1 .left) (c .before .before .before .before .before .before .before .pre .1) (c .before .before .before .before .row-at .ensures) (c .before .before .before .union .ensures) (c .before .before .union2 .ensures) (c .put-row .ensures)))
+raise-afters-spec = tie.close (tie.spec returns row-at-requires union-requires union-requires-2 put-row-requires returns-2)

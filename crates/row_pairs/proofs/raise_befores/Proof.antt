@@ -15,16 +15,46 @@ Inv-loop w₀ f rest₀ e₀ w rest e = (length w ≡ 512) × First rest e × Be
 abbrev μ-loop : tie.MeasureT-loop
 μ-loop w₀ f rest₀ e₀ w rest e = sumBelow 128 (has rest)
 
+returns : tie.Need-returns Inv-loop μ-loop
+unfolding Good
+returns c = befores-none _ _ _ (c .if1 .taken)
+
+first-requires : tie.Need-first-requires Inv-loop μ-loop
+unfolding Good
+first-requires c κs = tt
+
+loop-holds : tie.Need-loop-holds Inv-loop μ-loop
+unfolding Good
+loop-holds c = (c .before .before .pre .0, c .first .ensures, befores-begun _ _ _)
+
+raise-requires : tie.Need-raise-requires Inv-loop μ-loop
+unfolding Good
+raise-requires c κs = let l = c .before .loop-test .taken in let v = c .before .before .loop .inv in (omega (arith, v .0), c .before .before .before .before .if1 .left, v .2 .raised .good (c .before .before .before .before .before .pre .1) _ l)
+
+one-requires : tie.Need-one-requires Inv-loop μ-loop
+unfolding Good
+one-requires c κs = c .before .before .loop-test .taken
+
+less-requires : tie.Need-less-requires Inv-loop μ-loop
+unfolding Good
+less-requires c κs = tt
+
+first-requires-2 : tie.Need-first-requires-2 Inv-loop μ-loop
+unfolding Good
+first-requires-2 c κs = tt
+
+loop-less : tie.Need-loop-less Inv-loop μ-loop
+unfolding Good
+loop-less c = let l = c .before .before .before .before .before .loop-test .taken in let v = c .before .before .before .before .before .before .loop .inv in befores-less _ _ _ (v .2) (first-in _ (v .1) l) (c .before .before .one .ensures) (c .before .less .ensures) l
+
+loop-again : tie.Need-loop-again Inv-loop μ-loop
+unfolding Good
+loop-again c = let l = c .before .before .before .before .before .loop-test .taken in let v = c .before .before .before .before .before .before .loop .inv in (omega (arith, c .before .before .before .raise .ensures .long, v .0), c .first2 .ensures, befores-more _ _ _ (v .2) (first-in _ (v .1) l) (c .before .before .one .ensures) (c .before .less .ensures) (c .before .before .before .raise .ensures))
+
+returns-2 : tie.Need-returns-2 Inv-loop μ-loop
+unfolding Good
+returns-2 c = let v = c .before .loop .inv in befores-end (v .2) (first-none _ (v .1) (c .loop-test .left))
+
 pub raise-befores-spec : {M : Type 1} → statement M
 unfolding Good
-raise-befores-spec = tie.close (tie.spec Inv-loop μ-loop
-    (λ c. befores-none _ _ _ (c .if1 .taken))
-    (λ c κs. tt)
-    (λ c. (c .before .before .pre .0, c .first .ensures, befores-begun _ _ _))
-    (λ c κs. let l = c .before .loop-test .taken in let v = c .before .before .loop .inv in (omega (arith, v .0), c .before .before .before .before .if1 .left, v .2 .raised .good (c .before .before .before .before .before .pre .1) _ l))
-    (λ c κs. c .before .before .loop-test .taken)
-    (λ c κs. tt)
-    (λ c κs. tt)
-    (λ c. let l = c .before .before .before .before .before .loop-test .taken in let v = c .before .before .before .before .before .before .loop .inv in befores-less _ _ _ (v .2) (first-in _ (v .1) l) (c .before .before .one .ensures) (c .before .less .ensures) l)
-    (λ c. let l = c .before .before .before .before .before .loop-test .taken in let v = c .before .before .before .before .before .before .loop .inv in (omega (arith, c .before .before .before .raise .ensures .long, v .0), c .first2 .ensures, befores-more _ _ _ (v .2) (first-in _ (v .1) l) (c .before .before .one .ensures) (c .before .less .ensures) (c .before .before .before .raise .ensures)))
-    (λ c. let v = c .before .loop .inv in befores-end (v .2) (first-none _ (v .1) (c .loop-test .left))))
+raise-befores-spec = tie.close (tie.spec Inv-loop μ-loop returns first-requires loop-holds raise-requires one-requires less-requires first-requires-2 loop-less loop-again returns-2)

@@ -13,11 +13,23 @@ Inv-loop rec marks m w₀ c₀ w c = (c ≤ m) × (length w ≡ length w₀) × 
 abbrev μ-loop : tie.MeasureT-loop
 μ-loop rec marks m w₀ c₀ w c = m - c
 
+loop-holds : tie.Need-loop-holds Inv-loop μ-loop
+loop-holds c = (omega arith, refl, overall-none _ _)
+
+raise-row-requires : tie.Need-raise-row-requires Inv-loop μ-loop
+raise-row-requires c κs = let v = c .before .before .loop .inv in let p = c .before .before .before .before .before .pre in (omega arith, p .1, omega arith, p .3 _, omega (arith, p .4), v .2 .good (p .5))
+
+add-c : tie.Need-add-c Inv-loop μ-loop
+add-c c = omega arith
+
+loop-less : tie.Need-loop-less Inv-loop μ-loop
+loop-less c = omega arith
+
+loop-again : tie.Need-loop-again Inv-loop μ-loop
+loop-again c = (omega arith, omega (arith, c .raise-row .ensures .long), overall-more _ (c .before .before .before .loop .inv .2) (c .raise-row .ensures))
+
+returns : tie.Need-returns Inv-loop μ-loop
+returns c = overall-end _ _ (omega arith) (c .before .loop .inv .2)
+
 pub raise-marks-spec : {M : Type 1} → statement M
-raise-marks-spec = tie.close (tie.spec Inv-loop μ-loop
-    (λ c. (omega arith, refl, overall-none _ _))
-    (λ c κs. let v = c .before .before .loop .inv in let p = c .before .before .before .before .before .pre in (omega arith, p .1, omega arith, p .3 _, omega (arith, p .4), v .2 .good (p .5)))
-    (λ c. omega arith)
-    (λ c. omega arith)
-    (λ c. (omega arith, omega (arith, c .raise-row .ensures .long), overall-more _ (c .before .before .before .loop .inv .2) (c .raise-row .ensures)))
-    (λ c. overall-end _ _ (omega arith) (c .before .loop .inv .2)))
+raise-marks-spec = tie.close (tie.spec Inv-loop μ-loop loop-holds raise-row-requires add-c loop-less loop-again returns)

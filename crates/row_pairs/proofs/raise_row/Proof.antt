@@ -3,18 +3,44 @@ use Rattle.row_pairs.proofs.Raising.{row-none, row-raised}
 use Rattle.row_pairs.proofs.raise_row.Statement.{statement}
 use Rattle.row_pairs.proofs.raise_row.Tie as tie
 
+row-in-requires : tie.Need-row-in-requires
+row-in-requires c κs = c .before .before .pre .2
+
+is-none-requires : tie.Need-is-none-requires
+is-none-requires c κs = tt
+
+returns : tie.Need-returns
+returns c = row-none _ _ _ (c .before .before .before .before .row-in .ensures) (c .before .before .before .before .before .before .before .pre .3) _ (c .before .is-none .ensures (c .if1 .taken))
+
+add-wide : tie.Need-add-wide
+add-wide c = omega arith
+
+shared-slice-read-wide : tie.Need-shared-slice-read-wide
+shared-slice-read-wide c = omega arith
+
+wide-requires : tie.Need-wide-requires
+wide-requires c κs = tt
+
+raise-afters-requires : tie.Need-raise-afters-requires
+raise-afters-requires c κs = let p = c .before .before .before .before .before .before .before .before .before .before .pre in (p .4, p .5)
+
+add-wide-2 : tie.Need-add-wide-2
+add-wide-2 c = omega arith
+
+shared-slice-read-wide-2 : tie.Need-shared-slice-read-wide-2
+shared-slice-read-wide-2 c = omega arith
+
+wide-requires-2 : tie.Need-wide-requires-2
+wide-requires-2 c κs = tt
+
+less-requires : tie.Need-less-requires
+less-requires c κs = tt
+
+raise-befores-requires : tie.Need-raise-befores-requires
+raise-befores-requires c κs = let p = c .before .before .before .before .before .before .before .before .before .before .before .before .before .before .before .pre in let x = c .before .before .before .before .raise-afters .ensures in (omega (arith, p .4, x .long), x .good (p .5))
+
+returns-2 : tie.Need-returns-2
+returns-2 c = row-raised _ _ _ (c .before .before .before .before .before .before .before .before .before .before .before .before .before .row-in .ensures) (c .before .before .before .before .before .before .before .before .before .before .before .before .before .before .before .before .pre .3) _ (c .before .before .before .before .before .before .wide .ensures .0) (c .before .before .wide2 .ensures .0) (c .before .less .ensures) (c .before .before .before .before .before .raise-afters .ensures) (c .raise-befores .ensures)
+
 pub raise-row-spec : {M : Type 1} → statement M
-raise-row-spec = tie.close (tie.spec
-    (λ c κs. c .before .before .pre .2)
-    (λ c κs. tt)
-    (λ c. row-none _ _ _ (c .before .before .before .before .row-in .ensures) (c .before .before .before .before .before .before .before .pre .3) _ (c .before .is-none .ensures (c .if1 .taken)))
-    (λ c. omega arith)
-    (λ c. omega arith)
-    (λ c κs. tt)
-    (λ c κs. let p = c .before .before .before .before .before .before .before .before .before .before .pre in (p .4, p .5))
-    (λ c. omega arith)
-    (λ c. omega arith)
-    (λ c κs. tt)
-    (λ c κs. tt)
-    (λ c κs. let p = c .before .before .before .before .before .before .before .before .before .before .before .before .before .before .before .pre in let x = c .before .before .before .before .raise-afters .ensures in (omega (arith, p .4, x .long), x .good (p .5)))
-    (λ c. row-raised _ _ _ (c .before .before .before .before .before .before .before .before .before .before .before .before .before .row-in .ensures) (c .before .before .before .before .before .before .before .before .before .before .before .before .before .before .before .before .pre .3) _ (c .before .before .before .before .before .before .wide .ensures .0) (c .before .before .wide2 .ensures .0) (c .before .less .ensures) (c .before .before .before .before .before .raise-afters .ensures) (c .raise-befores .ensures)))
+raise-row-spec = tie.close (tie.spec row-in-requires is-none-requires returns add-wide shared-slice-read-wide wide-requires raise-afters-requires add-wide-2 shared-slice-read-wide-2 wide-requires-2 less-requires raise-befores-requires returns-2)

@@ -16,15 +16,35 @@ Inv-loop step count sets set₀ i₀ set i = (i ≤ count) × Joined (arcAt sets
 abbrev μ-loop : tie.MeasureT-loop
 μ-loop step count sets set₀ i₀ set i = count - i
 
+loop-holds : tie.Need-loop-holds Inv-loop μ-loop
+loop-holds c = (omega arith, joined-none _ [] _)
+
+element-copy-out-wide : tie.Need-element-copy-out-wide Inv-loop μ-loop
+element-copy-out-wide c = omega arith
+
+wide-requires : tie.Need-wide-requires Inv-loop μ-loop
+wide-requires c κs = tt
+
+add-set : tie.Need-add-set Inv-loop μ-loop
+add-set c = let l = c .before .before .before in omega (arith, l .before .pre .known (l .loop .i) (omega arith))
+
+mul-set : tie.Need-mul-set Inv-loop μ-loop
+mul-set c = let l = c .before .before .before in omega (arith, l .before .pre .known (l .loop .i) (omega arith))
+
+element-copy-out-set : tie.Need-element-copy-out-set Inv-loop μ-loop
+element-copy-out-set c = let l = c .before .before .before in omega (arith, l .before .pre .known (l .loop .i) (omega arith))
+
+add-i : tie.Need-add-i Inv-loop μ-loop
+add-i c = omega arith
+
+loop-less : tie.Need-loop-less Inv-loop μ-loop
+loop-less c = omega arith
+
+loop-again : tie.Need-loop-again Inv-loop μ-loop
+loop-again c = let w = c .before in let l = w .before .before .before in (omega arith, joined-next (l .before .args .sets .now) (l .before .args .step .now) 64 (omega (arith, l .before .pre .long, l .before .pre .few)) (w .wide .ensures .0) (l .loop .inv .1))
+
+returns : tie.Need-returns Inv-loop μ-loop
+returns c = let l = c .before in let e : l .loop .i ≡ l .before .args .count = omega arith in rw (← e) (l .loop .inv .1)
+
 pub guards-of-spec : {M : Type 1} → statement M
-guards-of-spec = tie.close (tie.spec Inv-loop μ-loop
-    (λ c. (omega arith, joined-none _ [] _))
-    (λ c. omega arith)
-    (λ c κs. tt)
-    (λ c. let l = c .before .before .before in omega (arith, l .before .pre .known (l .loop .i) (omega arith)))
-    (λ c. let l = c .before .before .before in omega (arith, l .before .pre .known (l .loop .i) (omega arith)))
-    (λ c. let l = c .before .before .before in omega (arith, l .before .pre .known (l .loop .i) (omega arith)))
-    (λ c. omega arith)
-    (λ c. omega arith)
-    (λ c. let w = c .before in let l = w .before .before .before in (omega arith, joined-next (l .before .args .sets .now) (l .before .args .step .now) 64 (omega (arith, l .before .pre .long, l .before .pre .few)) (w .wide .ensures .0) (l .loop .inv .1)))
-    (λ c. let l = c .before in let e : l .loop .i ≡ l .before .args .count = omega arith in rw (← e) (l .loop .inv .1)))
+guards-of-spec = tie.close (tie.spec Inv-loop μ-loop loop-holds element-copy-out-wide wide-requires add-set mul-set element-copy-out-set add-i loop-less loop-again returns)

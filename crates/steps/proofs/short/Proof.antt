@@ -25,18 +25,38 @@ Inv-loop marking taken places p₀ p = (p ≤ places) × (any (less marking take
 abbrev μ-loop : tie.MeasureT-loop
 μ-loop marking taken places p₀ p = places - p
 
+loop-holds : tie.Need-loop-holds Inv-loop μ-loop
+loop-holds c = (omega arith, starts _ _ _)
+
+mul-if1 : tie.Need-mul-if1 Inv-loop μ-loop
+mul-if1 c = omega arith
+
+element-copy-out-if1 : tie.Need-element-copy-out-if1 Inv-loop μ-loop
+element-copy-out-if1 c = omega arith
+
+mul-if1-2 : tie.Need-mul-if1-2 Inv-loop μ-loop
+mul-if1-2 c = omega arith
+
+element-copy-out-if1-2 : tie.Need-element-copy-out-if1-2 Inv-loop μ-loop
+element-copy-out-if1-2 c = omega arith
+
+returns : tie.Need-returns Inv-loop μ-loop
+returns c = let l = c .before .before .before .before in let a = l .before .args in
+    sym (any-hit (less (a .marking .now) (a .taken .now)) _ _ (c .before .before .before .loop-test .taken) (lt-ltb _ _ (c .if1 .taken))) ∙ l .loop .inv .1
+
+add-p : tie.Need-add-p Inv-loop μ-loop
+add-p c = omega arith
+
+loop-less : tie.Need-loop-less Inv-loop μ-loop
+loop-less c = omega arith
+
+loop-again : tie.Need-loop-again Inv-loop μ-loop
+loop-again c = let l = c .before .before .before .before in let a = l .before .args in
+    (omega arith, any-on (less (a .marking .now) (a .taken .now)) _ _ (c .before .before .before .loop-test .taken) (le-ltb _ _ (c .if1 .left)) ∙ l .loop .inv .1)
+
+returns-2 : tie.Need-returns-2 Inv-loop μ-loop
+returns-2 c = let l = c .before in let a = l .before .args in
+    sym (any-end (less (a .marking .now) (a .taken .now)) _ _ (c .loop-test .left)) ∙ l .loop .inv .1
+
 pub short-spec : {M : Type 1} → statement M
-short-spec = tie.close (tie.spec Inv-loop μ-loop
-    (λ c. (omega arith, starts _ _ _))
-    (λ c. omega arith)
-    (λ c. omega arith)
-    (λ c. omega arith)
-    (λ c. omega arith)
-    (λ c. let l = c .before .before .before .before in let a = l .before .args in
-    sym (any-hit (less (a .marking .now) (a .taken .now)) _ _ (c .before .before .before .loop-test .taken) (lt-ltb _ _ (c .if1 .taken))) ∙ l .loop .inv .1)
-    (λ c. omega arith)
-    (λ c. omega arith)
-    (λ c. let l = c .before .before .before .before in let a = l .before .args in
-    (omega arith, any-on (less (a .marking .now) (a .taken .now)) _ _ (c .before .before .before .loop-test .taken) (le-ltb _ _ (c .if1 .left)) ∙ l .loop .inv .1))
-    (λ c. let l = c .before in let a = l .before .args in
-    sym (any-end (less (a .marking .now) (a .taken .now)) _ _ (c .loop-test .left)) ∙ l .loop .inv .1))
+short-spec = tie.close (tie.spec Inv-loop μ-loop loop-holds mul-if1 element-copy-out-if1 mul-if1-2 element-copy-out-if1-2 returns add-p loop-less loop-again returns-2)

@@ -15,15 +15,35 @@ Inv-loop step count sets marking₀ i₀ marking i = (i ≤ count) × Paid (arcA
 abbrev μ-loop : tie.MeasureT-loop
 μ-loop step count sets marking₀ i₀ marking i = count - i
 
+loop-holds : tie.Need-loop-holds Inv-loop μ-loop
+loop-holds c = (omega arith, paid-none _ _)
+
+element-copy-out-wide : tie.Need-element-copy-out-wide Inv-loop μ-loop
+element-copy-out-wide c = omega arith
+
+wide-requires : tie.Need-wide-requires Inv-loop μ-loop
+wide-requires c κs = tt
+
+mul-take-set : tie.Need-mul-take-set Inv-loop μ-loop
+mul-take-set c = let l = c .before .before .before .before in omega (arith, l .before .pre .0 .known (l .loop .i) (omega arith))
+
+element-copy-out-take-set : tie.Need-element-copy-out-take-set Inv-loop μ-loop
+element-copy-out-take-set c = let l = c .before .before .before .before in omega (arith, l .before .pre .0 .known (l .loop .i) (omega arith))
+
+take-set-requires : tie.Need-take-set-requires Inv-loop μ-loop
+take-set-requires c κs = let w = c .before in let l = w .before .before .before .before in let s = l .before in let P = l .loop .inv .1 in (P .long ∙ s .pre .1 .long, paid-room (s .pre .0) (s .pre .1) (omega arith) P (w .wide .ensures .0))
+
+add-i : tie.Need-add-i Inv-loop μ-loop
+add-i c = omega arith
+
+loop-less : tie.Need-loop-less Inv-loop μ-loop
+loop-less c = omega arith
+
+loop-again : tie.Need-loop-again Inv-loop μ-loop
+loop-again c = let w = c .before .before in let l = w .before .before .before .before in let s = l .before in (omega arith, paid-next (s .pre .0) (s .pre .1) (omega arith) (l .loop .inv .1) (w .wide .ensures .0) (c .take-set .ensures))
+
+returns : tie.Need-returns Inv-loop μ-loop
+returns c = let l = c .before in let e : l .loop .i ≡ l .before .args .count = omega arith in rw (← e) (l .loop .inv .1)
+
 pub take-all-spec : {M : Type 1} → statement M
-take-all-spec = tie.close (tie.spec Inv-loop μ-loop
-    (λ c. (omega arith, paid-none _ _))
-    (λ c. omega arith)
-    (λ c κs. tt)
-    (λ c. let l = c .before .before .before .before in omega (arith, l .before .pre .0 .known (l .loop .i) (omega arith)))
-    (λ c. let l = c .before .before .before .before in omega (arith, l .before .pre .0 .known (l .loop .i) (omega arith)))
-    (λ c κs. let w = c .before in let l = w .before .before .before .before in let s = l .before in let P = l .loop .inv .1 in (P .long ∙ s .pre .1 .long, paid-room (s .pre .0) (s .pre .1) (omega arith) P (w .wide .ensures .0)))
-    (λ c. omega arith)
-    (λ c. omega arith)
-    (λ c. let w = c .before .before in let l = w .before .before .before .before in let s = l .before in (omega arith, paid-next (s .pre .0) (s .pre .1) (omega arith) (l .loop .inv .1) (w .wide .ensures .0) (c .take-set .ensures)))
-    (λ c. let l = c .before in let e : l .loop .i ≡ l .before .args .count = omega arith in rw (← e) (l .loop .inv .1)))
+take-all-spec = tie.close (tie.spec Inv-loop μ-loop loop-holds element-copy-out-wide wide-requires mul-take-set element-copy-out-take-set take-set-requires add-i loop-less loop-again returns)

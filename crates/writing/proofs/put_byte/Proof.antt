@@ -3,9 +3,17 @@ use Rattle.writing.proofs.Laws.{one}
 use Rattle.writing.proofs.put_byte.Statement.{statement}
 use Rattle.writing.proofs.put_byte.Tie as tie
 
+slice-write-out : tie.Need-slice-write-out
+slice-write-out c = search needs
+
+add-result : tie.Need-add-result
+add-result c = search needs
+
+same-length : tie.Need-same-length
+same-length c = search needs
+
+returns : tie.Need-returns
+returns c = one _ _ _
+
 pub put-byte-spec : {M : Type 1} → statement M
-put-byte-spec = tie.close (tie.spec
-    (λ c. search needs)
-    (λ c. search needs)
-    (λ c. search needs)
-    (λ c. one _ _ _))
+put-byte-spec = tie.close (tie.spec slice-write-out add-result same-length returns)

@@ -5,15 +5,35 @@ use Rattle.writing.proofs.Laws.{two}
 use Rattle.writing.proofs.put_two.Statement.{statement}
 use Rattle.writing.proofs.put_two.Tie as tie
 
+add-out : tie.Need-add-out
+add-out c = search needs
+
+cast-out : tie.Need-cast-out
+cast-out c = search needs
+
+slice-write-out : tie.Need-slice-write-out
+slice-write-out c = search needs
+
+add-out-2 : tie.Need-add-out-2
+add-out-2 c = search needs
+
+cast-out-2 : tie.Need-cast-out-2
+cast-out-2 c = search needs
+
+add-out-3 : tie.Need-add-out-3
+add-out-3 c = search needs
+
+slice-write-out-2 : tie.Need-slice-write-out-2
+slice-write-out-2 c = simp length-set (omega arith)
+
+add-result : tie.Need-add-result
+add-result c = search needs
+
+same-length : tie.Need-same-length
+same-length c = search needs
+
+returns : tie.Need-returns
+returns c = two _ _ _ _
+
 pub put-two-spec : {M : Type 1} → statement M
-put-two-spec = tie.close (tie.spec
-    (λ c. search needs)
-    (λ c. search needs)
-    (λ c. search needs)
-    (λ c. search needs)
-    (λ c. search needs)
-    (λ c. search needs)
-    (λ c. simp length-set (omega arith))
-    (λ c. search needs)
-    (λ c. search needs)
-    (λ c. two _ _ _ _))
+put-two-spec = tie.close (tie.spec add-out cast-out slice-write-out add-out-2 cast-out-2 add-out-3 slice-write-out-2 add-result same-length returns)
