@@ -17,12 +17,16 @@ use arc_rules::wrong_arcs;
 use arc_rules::wrong_initial;
 use mark_rules::wrong_kind;
 use mark_rules::wrong_marks;
+use net::ARCS;
 use net::NetAnswer;
 use net::NetRefusal;
+use net::TOKENS;
 use net_reader::read_into;
+use reach::WORDS;
 use reach::close;
 use record_columns::Bounds;
 use record_columns::Counts;
+use record_columns::MARK_WORDS;
 use record_columns::RecordAnswer;
 use record_columns::RecordRefusal;
 use record_reader::read_record;
@@ -65,7 +69,7 @@ pub fn bench() -> Limits
 
 // 39: empty rows get the pairs of the marks and the conditions and are closed; the lowest event that is strictly before itself,
 // or the number of events.
-pub fn order(s: Counts, rec: &[u8], marks: &[u64], w: &mut [u64; 512]) -> usize
+pub fn order(s: Counts, rec: &[u8], marks: &[u64], w: &mut [u64; WORDS]) -> usize
     requires { ⌜ Sound s (now rec) × Spans s (now marks) × Blank (now w) ⌝ }
     ensures { λ r. ⌜ (length (now (w .exit)) ≡ length (now (w .entry))) × ((net : NetA) (N : NetD) (R : RunRecord) → Held net s (now (rec .entry)) N R → HoldsMarks (now (marks .entry)) R → Ordered R (now (w .exit)) r) ⌝ }
 {
@@ -80,12 +84,12 @@ pub fn order(s: Counts, rec: &[u8], marks: &[u64], w: &mut [u64; 512]) -> usize
 // The rules 35 to 39, each over the whole record before the next. Where none is broken the closed order is in the rows.
 fn judge(
     b: Bounds,
-    tokens: &[u16; 32],
-    arcs: &[u8; 3072],
+    tokens: &[u16; TOKENS],
+    arcs: &[u8; ARCS],
     s: Counts,
     rec: &[u8],
     marks: &[u64],
-    w: &mut [u64; 512],
+    w: &mut [u64; WORDS],
 ) -> Verdict
     requires { ⌜ Room b × Sound s (now rec) × Spans s (now marks) × Blank (now w) ⌝ }
     ensures { λ r. ⌜ (length (now (w .exit)) ≡ length (now (w .entry))) × Judges (netAt (b .places) (b .transitions) (now (tokens .entry)) (now (arcs .entry))) s (now (rec .entry)) (now (marks .entry)) r (now (w .exit)) ⌝ }
@@ -129,11 +133,11 @@ fn refused(why: Refusal) -> Accepted
 fn accept_record(
     b: Bounds,
     text: &[u8],
-    tokens: &[u16; 32],
-    arcs: &[u8; 3072],
+    tokens: &[u16; TOKENS],
+    arcs: &[u8; ARCS],
     rec: &mut [u8],
     marks: &mut [u64],
-    w: &mut [u64; 512],
+    w: &mut [u64; WORDS],
 ) -> Accepted
     requires { ⌜ Room b × NetHeld b (now tokens) (now arcs) × (1664 ≤ length (now rec)) × RecordBlank (now text) (now marks) × Blank (now w) ⌝ }
     ensures { λ r. ⌜ (length (now (w .exit)) ≡ length (now (w .entry))) × AcceptsRecord b (now (text .entry)) (now (tokens .entry)) (now (arcs .entry)) r (now (rec .exit)) (now (w .exit)) ⌝ }
@@ -158,10 +162,10 @@ pub fn accept(
     net: &[u8],
     text: &[u8],
     limits: Limits,
-    tokens: &mut [u16; 32],
-    arcs: &mut [u8; 3072],
+    tokens: &mut [u16; TOKENS],
+    arcs: &mut [u8; ARCS],
     rec: &mut [u8],
-    w: &mut [u64; 512],
+    w: &mut [u64; WORDS],
 ) -> Accepted
     requires { ⌜ Within limits × NetBlank (now tokens) (now arcs) × (1664 ≤ length (now rec)) × Blank (now w) ⌝ }
     ensures { λ r. ⌜ (length (now (w .exit)) ≡ length (now (w .entry))) × Accepts limits (now (net .entry)) (now (text .entry)) r (now (w .exit)) × Keeps limits (now (net .entry)) (now (text .entry)) r (now (tokens .exit)) (now (arcs .exit)) (now (rec .exit)) ⌝ }
@@ -178,7 +182,7 @@ pub fn accept(
                 let mut marks = [0u64; 512];
                 return accept_record(b, text, tokens, arcs, rec, &mut marks, w);
             }
-            let mut marks = [0u64; 2048];
+            let mut marks = [0u64; MARK_WORDS];
             accept_record(b, text, tokens, arcs, rec, &mut marks, w)
         }
     }

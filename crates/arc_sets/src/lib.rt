@@ -8,6 +8,13 @@ ghost use Rattle.spec.specs.Lists.{sumOf, upTo};
 ghost use Rattle.bit_sets.specs.Bits.{bit};
 ghost use Rattle.arc_sets.specs.Sets.{RowSet, SetsOf};
 use machine_numbers::wide_word;
+use net::ARCS;
+use net::INHIBITORS;
+use net::OUTPUTS;
+use net::ROW;
+
+// The sets of all kinds, by transition.
+pub const SETS: usize = 96;
 
 // Where the sets of the outputs and of the inhibitors start, by transition; those of the inputs stand in front.
 pub const MADE: usize = 32;
@@ -40,7 +47,7 @@ fn entered(set: u64, cell: u8, p: usize) -> u64
 }
 
 // The places of a row of arcs, among the first m.
-fn set_of(arcs: &[u8; 3072], row: usize, m: usize) -> u64
+fn set_of(arcs: &[u8; ARCS], row: usize, m: usize) -> u64
     requires { ⌜ (row + 32 ≤ 3072) × (m ≤ 32) ⌝ }
     ensures { λ r. ⌜ RowSet (now (arcs .entry)) row m r ⌝ }
 {
@@ -54,17 +61,17 @@ fn set_of(arcs: &[u8; 3072], row: usize, m: usize) -> u64
 }
 
 // The sets of the first n transitions, of each kind of arc.
-pub fn arc_sets(arcs: &[u8; 3072], m: usize, n: usize) -> [u64; 96]
+pub fn arc_sets(arcs: &[u8; ARCS], m: usize, n: usize) -> [u64; SETS]
     requires { ⌜ (m ≤ 32) × (n ≤ 32) ⌝ }
     ensures { λ r. ⌜ SetsOf (now (arcs .entry)) m n r ⌝ }
 {
-    let mut sets = [0u64; 96];
+    let mut sets = [0u64; SETS];
     let mut t: usize = 0;
     while t < n {
-        let row = 32 * t;
+        let row = ROW * t;
         sets[t] = set_of(arcs, row, m);
-        sets[MADE + t] = set_of(arcs, 1024 + row, m);
-        sets[GUARDS + t] = set_of(arcs, 2048 + row, m);
+        sets[MADE + t] = set_of(arcs, OUTPUTS + row, m);
+        sets[GUARDS + t] = set_of(arcs, INHIBITORS + row, m);
         t += 1;
     }
     sets

@@ -16,13 +16,20 @@ use bit_sets::one;
 use bit_sets::union;
 use lines::line_at;
 use machine_numbers::wide;
+use number_lines::NUMBERS;
 use number_lines::any_unknown;
 use number_lines::count_numbers;
 use number_lines::is_list_line;
 use number_lines::list_at;
 use number_lines::numbers;
+use reach::WORDS;
 use reach::row_at;
 use spec::Class;
+
+// The line of each event; and the events, one line after the other, with how many the first lines have behind them.
+pub const STANDS: usize = 128;
+
+pub const LINED: usize = 257;
 
 // What is answered to an arrangement: how many lines keep the order, or a refusal with its line or the missing event.
 pub enum ArrangementAnswer {
@@ -100,7 +107,7 @@ fn known_line(
     ended: bool,
     n: usize,
     next: usize,
-    events: &mut [u8; 128],
+    events: &mut [u8; NUMBERS],
 ) -> Known
     requires { ⌜ (n ≤ 128) × (length (now events) ≡ 128) ⌝ }
     ensures { λ r. ⌜ KnownLine n k (lineOf (now (l .entry)) ended) next r (now (events .exit)) ⌝ }
@@ -122,7 +129,7 @@ fn known_line(
 
 // 41 and 42 of the line that starts at a position. A plain line is read in one walk; any other goes to the readers of lines
 // and fields, and so does every malformed one.
-fn known_at(k: usize, text: &[u8], at: usize, n: usize, events: &mut [u8; 128]) -> Known
+fn known_at(k: usize, text: &[u8], at: usize, n: usize, events: &mut [u8; NUMBERS]) -> Known
     requires { ⌜ (at < length (now text)) × (n ≤ 128) × (length (now events) ≡ 128) ⌝ }
     ensures { λ r. ⌜ KnownAt n k (now (text .entry)) at r (now (events .exit)) ⌝ }
 {
@@ -139,7 +146,7 @@ fn known_at(k: usize, text: &[u8], at: usize, n: usize, events: &mut [u8; 128]) 
 }
 
 // 43: each event of line k is entered; whether one of them has a line already, as it is with more than there are.
-fn enter_events(stands: &mut [u8; 128], events: &[u8; 128], count: usize, k: u8) -> bool
+fn enter_events(stands: &mut [u8; STANDS], events: &[u8; NUMBERS], count: usize, k: u8) -> bool
     requires { ⌜ (0 < k) × (length (now stands) ≡ 128) × (length (now events) ≡ 128) × (count ≤ 128 → (i : ℕ) → i < count → getD (now events) i 0 < 128) ⌝ }
     ensures { λ r. ⌜ EntersFrom k (now (stands .entry)) (now (events .entry)) count r (now (stands .exit)) ⌝ }
 {
@@ -159,7 +166,7 @@ fn enter_events(stands: &mut [u8; 128], events: &[u8; 128], count: usize, k: u8)
 }
 
 // The events of line k are put behind those of the lines before it.
-fn add_line(lined: &mut [u8; 257], events: &[u8; 128], count: usize, k: usize)
+fn add_line(lined: &mut [u8; LINED], events: &[u8; NUMBERS], count: usize, k: usize)
     requires { ⌜ (length (now lined) ≡ 257) × (length (now events) ≡ 128) × (0 < k) × (k ≤ 128) × (getD (now lined) (127 + k) 0 + count ≤ 128) ⌝ }
     ensures { λ _. ⌜ AddsLine (now (lined .entry)) (now (events .entry)) count k (now (lined .exit)) ⌝ }
 {
@@ -180,11 +187,16 @@ fn read_to(answer: ArrangementAnswer, lines: usize) -> LinesRead
 }
 
 // 41 to 43: the lines of a text, of n events, are entered one after the other.
-pub fn read_lines(text: &[u8], n: usize, stands: &mut [u8; 128], lined: &mut [u8; 257]) -> LinesRead
+pub fn read_lines(
+    text: &[u8],
+    n: usize,
+    stands: &mut [u8; STANDS],
+    lined: &mut [u8; LINED],
+) -> LinesRead
     requires { ⌜ (n ≤ 128) × (now stands ≡ replicate 128 0) × (now lined ≡ replicate 257 0) ⌝ }
     ensures { λ r. ⌜ ReadsLines n (now (text .entry)) r (now (stands .exit)) (now (lined .exit)) ⌝ }
 {
-    let mut events = [0u8; 128];
+    let mut events = [0u8; NUMBERS];
     let mut k: usize = 1;
     let mut at: usize = 0;
     while at < text.len() {
@@ -223,7 +235,7 @@ fn with_lacking(r: Set, more: Set, lines: usize, x: usize) -> Set
 }
 
 // What one of the events without a line is not later than.
-fn behind_lacking(w: &[u64; 512], n: usize, stands: &[u8; 128], lines: usize) -> Set
+fn behind_lacking(w: &[u64; WORDS], n: usize, stands: &[u8; STANDS], lines: usize) -> Set
     requires { ⌜ (n ≤ 128) × (lines ≤ 128) ⌝ }
     ensures { λ r. ⌜ Unites (pathOf (now (w .entry))) (Lacks n lines (now (stands .entry))) r ⌝ }
 {
@@ -238,7 +250,7 @@ fn behind_lacking(w: &[u64; 512], n: usize, stands: &[u8; 128], lines: usize) ->
 }
 
 // The events from one place of an array up to another.
-fn group_of(w: &[u64; 512], lined: &[u8; 257], from: usize, to: usize) -> Group
+fn group_of(w: &[u64; WORDS], lined: &[u8; LINED], from: usize, to: usize) -> Group
     requires { ⌜ (from ≤ to) × (to ≤ 128) × (length (now lined) ≡ 257) × ((i : ℕ) → i < to → getD (now lined) i 0 < 128) ⌝ }
     ensures { λ r. ⌜ Grouped (now (w .entry)) (take (to - from) (drop from (now (lined .entry)))) r ⌝ }
 {
@@ -267,10 +279,10 @@ fn choose(t: bool, k: usize, r: usize) -> usize
 // 44: the lowest line that breaks the order, or 0. From the last line to the first `late` has what an event that stands in
 // no line up to this one is not later than.
 pub fn first_broken(
-    w: &[u64; 512],
+    w: &[u64; WORDS],
     n: usize,
-    stands: &[u8; 128],
-    lined: &[u8; 257],
+    stands: &[u8; STANDS],
+    lined: &[u8; LINED],
     lines: usize,
 ) -> usize
     requires { ⌜ (n ≤ 128) × Good (now w) × AnyTaken n lines (now stands) (now lined) ⌝ }
@@ -291,7 +303,7 @@ pub fn first_broken(
 }
 
 // 45: the lowest event that no line has, after so many lines.
-pub fn finish(stands: &[u8; 128], n: usize, lines: usize) -> ArrangementAnswer
+pub fn finish(stands: &[u8; STANDS], n: usize, lines: usize) -> ArrangementAnswer
     requires { ⌜ n ≤ 128 ⌝ }
     ensures { λ r. ⌜ answerOf r ≡ finished (now (stands .entry)) n lines ⌝ }
 {

@@ -10,12 +10,16 @@ ghost use Rattle.arc_sets.specs.Sets.{arcAt, Within};
 ghost use Rattle.steps.specs.StepArrays.{IsStep, Within32};
 ghost use Rattle.conditions.specs.Conditions.{tokensOf, FirstFree, fresh, ReadyAt, TookAt, MadeAt};
 use arc_sets::MADE;
+use arc_sets::SETS;
 use arc_sets::lowest;
 use machine_numbers::wide;
 use machine_numbers::wide_word;
 use record_columns::CONSUMERS;
+use record_columns::NO_EVENT;
 use record_columns::PLACES;
 use record_columns::PRODUCERS;
+use run_counts::COUNTS;
+use steps::STEP;
 
 // How far a run has come, beside the arrays that hold it: the line of the log that is next, its events and its conditions,
 // and how often an event made a condition in a place that inhibits it; and how large its net is.
@@ -38,7 +42,7 @@ fn first_free(p: usize, start: usize, end: usize, rec: &[u8]) -> usize
 {
     let mut i = start;
     while i < end {
-        if (wide(rec[PLACES + i]) == p) & (rec[CONSUMERS + i] == 128) {
+        if (wide(rec[PLACES + i]) == p) & (rec[CONSUMERS + i] == NO_EVENT) {
             return i;
         }
         i += 1;
@@ -47,7 +51,7 @@ fn first_free(p: usize, start: usize, end: usize, rec: &[u8]) -> usize
 }
 
 // Event e takes the first free condition of place p among the first n.
-fn take_one(e: usize, p: usize, n: usize, rec: &mut [u8], counts: &mut [u32; 96])
+fn take_one(e: usize, p: usize, n: usize, rec: &mut [u8], counts: &mut [u32; COUNTS])
     requires { ⌜ (e < 128) × (p < 32) × ReadyAt n (now rec) (now counts) ⌝ }
     ensures { λ _. ⌜ TookAt (flow e p ∷ []) n (now (rec .entry)) (now (counts .entry)) (now (rec .exit)) (now (counts .exit)) ⌝ }
 {
@@ -60,7 +64,7 @@ fn take_one(e: usize, p: usize, n: usize, rec: &mut [u8], counts: &mut [u32; 96]
 }
 
 // It takes one of each place of a set, by place.
-fn take_event(e: usize, set: u64, n: usize, rec: &mut [u8], counts: &mut [u32; 96])
+fn take_event(e: usize, set: u64, n: usize, rec: &mut [u8], counts: &mut [u32; COUNTS])
     requires { ⌜ (e < 128) × Within32 set × ReadyAt n (now rec) (now counts) ⌝ }
     ensures { λ _. ⌜ TookAt (tokensOf set e 64) n (now (rec .entry)) (now (counts .entry)) (now (rec .exit)) (now (counts .exit)) ⌝ }
 {
@@ -74,12 +78,12 @@ fn take_event(e: usize, set: u64, n: usize, rec: &mut [u8], counts: &mut [u32; 9
 
 // The events of a step, numbered behind those of the run, take from the conditions of the run, in their order.
 pub fn take_step(
-    step: &[u8; 128],
+    step: &[u8; STEP],
     count: usize,
-    sets: &[u64; 96],
+    sets: &[u64; SETS],
     x: Extent,
     rec: &mut [u8],
-    counts: &mut [u32; 96],
+    counts: &mut [u32; COUNTS],
 )
     requires { ⌜ (x .events + count ≤ 128) × IsStep (now step) count × Within 32 (now sets) × ReadyAt (x .conditions) (now rec) (now counts) ⌝ }
     ensures { λ _. ⌜ TookAt (flows (arcAt (now (sets .entry)) 0) 64 (x .events) (take count (now (step .entry)))) (x .conditions) (now (rec .entry)) (now (counts .entry)) (now (rec .exit)) (now (counts .exit)) ⌝ }
@@ -103,7 +107,7 @@ pub fn make_times(v: u8, p: usize, count: usize, n: usize, rec: &mut [u8]) -> us
         let i = n + k;
         rec[PLACES + i] = p as u8;
         rec[PRODUCERS + i] = v;
-        rec[CONSUMERS + i] = 128;
+        rec[CONSUMERS + i] = NO_EVENT;
         k += 1;
     }
     n + count
@@ -126,9 +130,9 @@ fn make_event(e: usize, set: u64, n: usize, rec: &mut [u8]) -> usize
 
 // The events of a step, numbered behind those of the run, make theirs; how many conditions there are then.
 pub fn make_step(
-    step: &[u8; 128],
+    step: &[u8; STEP],
     count: usize,
-    sets: &[u64; 96],
+    sets: &[u64; SETS],
     x: Extent,
     rec: &mut [u8],
 ) -> usize

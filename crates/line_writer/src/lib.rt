@@ -8,6 +8,8 @@ ghost use Rattle.spec.specs.Record.{eventField, eventLine, markLineOf};
 ghost use Rattle.writing.specs.Written.{Wrote};
 ghost use Rattle.conditions.specs.Conditions.{decoded};
 ghost use Rattle.line_writer.specs.Lines.{codedLine, kindIf, letterIf, earlierAt};
+use record_columns::EVENTS;
+use record_columns::NO_EVENT;
 use writing::put_byte;
 use writing::put_next;
 
@@ -16,7 +18,7 @@ fn put_end(out: &mut [u8], at: usize, v: u8) -> usize
     requires { ⌜ at + length (fieldsBytes (eventField (decoded v) ∷ [])) ≤ length (now out) ⌝ }
     ensures { λ r. ⌜ Wrote (now (out .entry)) at (fieldsBytes (eventField (decoded v) ∷ [])) r (now (out .exit)) ⌝ }
 {
-    if v == 128 {
+    if v == NO_EVENT {
         let next = put_byte(out, at, b',');
         return put_byte(out, next, b'-');
     }
@@ -46,11 +48,11 @@ pub fn put_condition(out: &mut [u8], at: usize, place: u8, producer: u8, consume
 }
 
 // Whether a condition's consumer is an event of an earlier step than event e.
-pub fn earlier(consumer: u8, steps: &[u8; 128], e: usize) -> bool
+pub fn earlier(consumer: u8, steps: &[u8; EVENTS], e: usize) -> bool
     requires { ⌜ (e < 128) × (consumer ≤ 128) ⌝ }
     ensures { λ r. ⌜ r ≡ earlierAt (now (steps .entry)) e consumer ⌝ }
 {
-    if consumer == 128 {
+    if consumer == NO_EVENT {
         return false;
     }
     steps[consumer as usize] < steps[e]

@@ -4,12 +4,16 @@ ghost use Rattle.log_steps.specs.declared.LogAnswer.the-variants.{Refuse
 ghost use Rattle.log_steps.specs.RunArrays.{Buildable, BuiltOn};
 use arc_sets::GUARDS;
 use arc_sets::MADE;
+use arc_sets::SETS;
 use conditions::Extent;
 use history::grow;
+use record_columns::EVENTS;
+use run_counts::COUNTS;
 use run_counts::WATCHED;
 use run_counts::made_all;
 use run_counts::own_all;
 use run_counts::products;
+use steps::STEP;
 use steps::StepRefusal;
 use steps::add_all;
 
@@ -42,13 +46,13 @@ pub fn refused(why: LogRefusal, run: Extent) -> Played
 
 // The next step, which is enabled, is built: 26 and 27.
 pub fn build_step(
-    step: &[u8; 128],
+    step: &[u8; STEP],
     count: usize,
-    sets: &[u64; 96],
+    sets: &[u64; SETS],
     x: Extent,
     rec: &mut [u8],
-    steps: &mut [u8; 128],
-    counts: &mut [u32; 96],
+    steps: &mut [u8; EVENTS],
+    counts: &mut [u32; COUNTS],
 ) -> Played
     requires { ⌜ Buildable (now step) count (now sets) x (now rec) (now steps) (now counts) ⌝ }
     ensures { λ s. ⌜ BuiltOn (now (step .entry)) count (now (sets .entry)) x (now (rec .entry)) (now (steps .entry)) (now (counts .entry)) s (now (rec .exit)) (now (steps .exit)) (now (counts .exit)) ⌝ }

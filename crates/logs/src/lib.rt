@@ -1,6 +1,7 @@
 // The lines of a log, judged and played one after the other from the initial marking.
 ghost use mathlib.Core.Path.{_≡_};
 ghost use Rattle.logs.specs.LogRun.{positionOf, Begun, PlayedLog, Beginnable, BeginsAt};
+use arc_sets::SETS;
 use conditions::Extent;
 use history::start;
 use log_steps::LogAnswer;
@@ -8,8 +9,13 @@ use log_steps::LogRefusal;
 use log_steps::Played;
 use log_steps::build_step;
 use log_steps::refused;
+use net::TOKENS;
+use record_columns::EVENTS;
+use run_counts::COUNTS;
 use step_lines::judge_line;
+use steps::MARKING;
 use steps::Position;
+use steps::STEP;
 use steps::StepAnswer;
 use steps::play;
 use steps::put_tokens;
@@ -29,17 +35,17 @@ fn position(x: Extent) -> Position
 // The lines of a log are judged and played, from a run at the initial marking.
 pub fn play_log(
     log: &[u8],
-    sets: &[u64; 96],
+    sets: &[u64; SETS],
     x: Extent,
     rec: &mut [u8],
-    steps: &mut [u8; 128],
-    counts: &mut [u32; 96],
-    marking: &mut [u32; 32],
+    steps: &mut [u8; EVENTS],
+    counts: &mut [u32; COUNTS],
+    marking: &mut [u32; MARKING],
 ) -> Played
     requires { ⌜ Begun (now sets) x (now rec) (now steps) (now counts) (now marking) ⌝ }
     ensures { λ s. ⌜ PlayedLog (now (log .entry)) (now (sets .entry)) x (now (rec .entry)) (now (steps .entry)) (now (counts .entry)) (now (marking .entry)) s (now (rec .exit)) (now (steps .exit)) (now (counts .exit)) ⌝ }
 {
-    let mut step = [0u8; 128];
+    let mut step = [0u8; STEP];
     let mut run = x;
     let mut at: usize = 0;
     while at < log.len() {
@@ -65,12 +71,12 @@ pub fn play_log(
 
 // The run at the initial marking, in arrays of which the counts by place are 0.
 pub fn begin(
-    tokens: &[u16; 32],
+    tokens: &[u16; TOKENS],
     places: usize,
     transitions: usize,
     rec: &mut [u8],
-    counts: &mut [u32; 96],
-    marking: &mut [u32; 32],
+    counts: &mut [u32; COUNTS],
+    marking: &mut [u32; MARKING],
 ) -> Extent
     requires { ⌜ Beginnable (now tokens) places (now rec) (now counts) (now marking) ⌝ }
     ensures { λ x. ⌜ BeginsAt (now (tokens .entry)) places transitions x (now (rec .entry)) (now (rec .exit)) (now (counts .exit)) (now (marking .exit)) ⌝ }

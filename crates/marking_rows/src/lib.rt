@@ -6,7 +6,11 @@ ghost use Rattle.lists.specs.Mapped.{Mapped};
 ghost use Rattle.lists.specs.Stretch.{MappedFrom};
 ghost use Rattle.marking_rows.specs.Rows.{rowSize, rowCounts, sumCount};
 ghost use Rattle.marking_rows.specs.Rows.{Addable, AddsArcs, Playing, Plays, leftOf, Playable, PutsRows};
+use arrangement_reader::LINED;
 use machine_numbers::wide;
+use net::ARCS;
+use net::OUTPUTS;
+use record_columns::EVENTS;
 
 // The counts of a row, one for each place; so many arcs of a kind has each transition.
 const ROW: usize = 32;
@@ -22,15 +26,6 @@ const SUMS: usize = 64;
 
 // Where the sums of what was taken start.
 const TAKEN: usize = 32;
-
-// The arcs of every kind.
-const ARCS: usize = 3072;
-
-// Where the outputs start in an array of arcs; the inputs start at 0.
-const OUTPUTS: usize = 1024;
-
-// The array of lines: the events of one after the other, and how many the first lines have.
-pub const LINED: usize = 257;
 
 // Where it starts to say how many events the first lines have, none of them first.
 const ENDS: usize = 128;
@@ -61,7 +56,7 @@ fn play(
     sums: &mut [u16; SUMS],
     arcs: &[u8; ARCS],
     places: usize,
-    trans: &[u8; 128],
+    trans: &[u8; EVENTS],
     lined: &[u8; LINED],
     from: usize,
     to: usize,
@@ -133,7 +128,7 @@ pub fn put_rows(
     tokens: &[u16; ROW],
     arcs: &[u8; ARCS],
     places: usize,
-    trans: &[u8; 128],
+    trans: &[u8; EVENTS],
     lined: &[u8; LINED],
     lines: usize,
 )

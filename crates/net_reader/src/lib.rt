@@ -16,14 +16,17 @@ use line_forms::is_one;
 use line_forms::is_two;
 use line_forms::number_in;
 use lines::line_at;
+use net::ARCS;
 use net::INHIBITORS;
 use net::INPUTS;
+use net::KIND;
 use net::Net;
 use net::NetAnswer;
 use net::NetRefusal;
 use net::OUTPUTS;
 use net::Size;
 use net::Stepped;
+use net::TOKENS;
 use net::add_arc;
 use net::add_place;
 use net::add_transition;
@@ -36,7 +39,7 @@ use plain_lines::two_at;
 use spec::Class;
 
 // What a line declares is added.
-fn add_row(k: usize, r: Row, s: Size, tokens: &mut [u16; 32], arcs: &mut [u8; 3072]) -> Stepped
+fn add_row(k: usize, r: Row, s: Size, tokens: &mut [u16; TOKENS], arcs: &mut [u8; ARCS]) -> Stepped
     requires { ⌜ Fits s ⌝ }
     ensures { λ q. ⌜ Steps s (arraysAt (now (tokens .entry)) (now (arcs .entry))) (addRow k r) q (arraysAt (now (tokens .exit)) (now (arcs .exit))) ⌝ }
 {
@@ -68,8 +71,8 @@ fn add_line(
     l: &[u8],
     ended: bool,
     s: Size,
-    tokens: &mut [u16; 32],
-    arcs: &mut [u8; 3072],
+    tokens: &mut [u16; TOKENS],
+    arcs: &mut [u8; ARCS],
 ) -> Stepped
     requires { ⌜ Fits s ⌝ }
     ensures { λ q. ⌜ Steps s (arraysAt (now (tokens .entry)) (now (arcs .entry))) (addLine k (lineOf (now (l .entry)) ended)) q (arraysAt (now (tokens .exit)) (now (arcs .exit))) ⌝ }
@@ -106,8 +109,8 @@ fn add_at(
     text: &[u8],
     at: usize,
     s: Size,
-    tokens: &mut [u16; 32],
-    arcs: &mut [u8; 3072],
+    tokens: &mut [u16; TOKENS],
+    arcs: &mut [u8; ARCS],
 ) -> Took
     requires { ⌜ (at < length (now text)) × Fits s ⌝ }
     ensures { λ q. ⌜ Takes (now (text .entry)) at k s (arraysAt (now (tokens .entry)) (now (arcs .entry))) q (arraysAt (now (tokens .exit)) (now (arcs .exit))) ⌝ }
@@ -154,7 +157,7 @@ fn add_at(
 }
 
 // The lines are added, one after the other, to arrays that hold no net yet.
-fn add_lines(text: &[u8], tokens: &mut [u16; 32], arcs: &mut [u8; 3072]) -> Stepped
+fn add_lines(text: &[u8], tokens: &mut [u16; TOKENS], arcs: &mut [u8; ARCS]) -> Stepped
     requires { ⌜ Blank (now tokens) (now arcs) ⌝ }
     ensures { λ q. ⌜ ReadsLines (now (text .entry)) q (arraysAt (now (tokens .exit)) (now (arcs .exit))) ⌝ }
 {
@@ -180,7 +183,7 @@ fn add_lines(text: &[u8], tokens: &mut [u16; 32], arcs: &mut [u8; 3072]) -> Step
 }
 
 // Whether some place is joined to the transition, by the kind of arc that stands from `at` on.
-fn any_cell(arcs: &[u8; 3072], at: usize, t: usize, places: usize) -> bool
+fn any_cell(arcs: &[u8; ARCS], at: usize, t: usize, places: usize) -> bool
     requires { ⌜ (at ≤ 2048) × (t < 32) × (places ≤ 32) ⌝ }
     ensures { λ r. ⌜ r ≡ anyCell (column at 1024 (now (arcs .entry))) t places ⌝ }
 {
@@ -195,7 +198,7 @@ fn any_cell(arcs: &[u8; 3072], at: usize, t: usize, places: usize) -> bool
 }
 
 // Whether the transition lacks an input or an output.
-fn lacks(arcs: &[u8; 3072], t: usize, places: usize) -> bool
+fn lacks(arcs: &[u8; ARCS], t: usize, places: usize) -> bool
     requires { ⌜ (t < 32) × (places ≤ 32) ⌝ }
     ensures { λ r. ⌜ r ≡ lacksOf (column 0 1024 (now (arcs .entry))) (column 1024 1024 (now (arcs .entry))) places t ⌝ }
 {
@@ -203,7 +206,7 @@ fn lacks(arcs: &[u8; 3072], t: usize, places: usize) -> bool
 }
 
 // The answer to all lines, and then to the rule that is judged after them.
-fn finish(read: Stepped, arcs: &[u8; 3072]) -> NetAnswer
+fn finish(read: Stepped, arcs: &[u8; ARCS]) -> NetAnswer
     requires { ⌜ (goesOf (read .answer) ≡ true → Few (read .size)) ⌝ }
     ensures { λ r. ⌜ Finishes read (now (arcs .entry)) r ⌝ }
 {
@@ -225,7 +228,7 @@ fn finish(read: Stepped, arcs: &[u8; 3072]) -> NetAnswer
 }
 
 // The net that a text declares, in arrays that are all zero before; where it is refused they hold no net.
-pub fn read_into(net: &[u8], tokens: &mut [u16; 32], arcs: &mut [u8; 3072]) -> NetAnswer
+pub fn read_into(net: &[u8], tokens: &mut [u16; TOKENS], arcs: &mut [u8; ARCS]) -> NetAnswer
     requires { ⌜ Blank (now tokens) (now arcs) ⌝ }
     ensures { λ r. ⌜ ReadsInto (now (net .entry)) r (now (tokens .exit)) (now (arcs .exit)) ⌝ }
 {
@@ -237,19 +240,19 @@ pub fn read_into(net: &[u8], tokens: &mut [u16; 32], arcs: &mut [u8; 3072]) -> N
 pub fn net_answer(net: &[u8]) -> NetAnswer
     ensures { λ r. ⌜ Answers (now (net .entry)) r ⌝ }
 {
-    let mut tokens = [0u16; 32];
-    let mut arcs = [0u8; 3072];
+    let mut tokens = [0u16; TOKENS];
+    let mut arcs = [0u8; ARCS];
     read_into(net, &mut tokens, &mut arcs)
 }
 
 // The arcs of one kind.
-fn arcs_of(arcs: &[u8; 3072], at: usize) -> [u8; 1024]
+fn arcs_of(arcs: &[u8; ARCS], at: usize) -> [u8; KIND]
     requires { ⌜ (at ≤ 2048) ⌝ }
     ensures { λ r. ⌜ Copies (now (arcs .entry)) at r ⌝ }
 {
-    let mut r = [0u8; 1024];
+    let mut r = [0u8; KIND];
     let mut i: usize = 0;
-    while i < 1024 {
+    while i < KIND {
         r[i] = arcs[at + i];
         i += 1;
     }
@@ -263,10 +266,10 @@ fn no_net() -> Net
     Net {
         places: 0,
         transitions: 0,
-        tokens: [0u16; 32],
-        inputs: [0u8; 1024],
-        outputs: [0u8; 1024],
-        inhibitors: [0u8; 1024],
+        tokens: [0u16; TOKENS],
+        inputs: [0u8; KIND],
+        outputs: [0u8; KIND],
+        inhibitors: [0u8; KIND],
     }
 }
 
@@ -280,8 +283,8 @@ pub struct NetRead {
 pub fn read_net(net: &[u8]) -> NetRead
     ensures { λ r. ⌜ Reads (now (net .entry)) r ⌝ }
 {
-    let mut tokens = [0u16; 32];
-    let mut arcs = [0u8; 3072];
+    let mut tokens = [0u16; TOKENS];
+    let mut arcs = [0u8; ARCS];
     let answer = read_into(net, &mut tokens, &mut arcs);
     if let NetAnswer::Accepted(places, transitions) = answer {
         return NetRead {

@@ -19,6 +19,9 @@ use fields::number_at;
 use machine_numbers::greater;
 use spec::Class;
 
+// The numbers of a line that are kept: no more events are in one.
+pub const NUMBERS: usize = 128;
+
 // Whether a line is ended, and is this letter and one number or more.
 pub fn is_list_line(k: Class, l: &[u8], ended: bool) -> bool
     ensures { λ r. ⌜ r ≡ (ended && isList mostDigits k (now (l .entry))) ⌝ }
@@ -69,7 +72,7 @@ pub fn numbers(l: &[u8]) -> [u8; 128]
     requires { ⌜ Few 128 256 (valuesOf mostDigits (now l)) ⌝ }
     ensures { λ r. ⌜ Begins r (valuesOf mostDigits (now (l .entry))) ⌝ }
 {
-    let mut xs = [0u8; 128];
+    let mut xs = [0u8; NUMBERS];
     let mut i: usize = 0;
     let a = letter_at(l);
     let mut at = a.next;
@@ -91,7 +94,7 @@ pub struct Listed {
 }
 
 // Number i of a line goes into an array that has room for the first 128, each below 256.
-fn put(xs: &mut [u8; 128], i: usize, v: usize)
+fn put(xs: &mut [u8; NUMBERS], i: usize, v: usize)
     requires { ⌜ length (now xs) ≡ 128 ⌝ }
     ensures { λ _. ⌜ Puts (now (xs .entry)) i v (now (xs .exit)) ⌝ }
 {
@@ -103,7 +106,7 @@ fn put(xs: &mut [u8; 128], i: usize, v: usize)
 
 // The line that starts at a position, if it is ended and is this letter and one number or more. A line of another form
 // leaves `next` at the position, for the functions above.
-pub fn list_at(letter: u8, text: &[u8], at: usize, xs: &mut [u8; 128]) -> Listed
+pub fn list_at(letter: u8, text: &[u8], at: usize, xs: &mut [u8; NUMBERS]) -> Listed
     requires { ⌜ Opens letter × (length (now xs) ≡ 128) ⌝ }
     ensures { λ r. ⌜ ListAt (classOf letter) (now (text .entry)) at r (now (xs .exit)) ⌝ }
 {

@@ -165,8 +165,8 @@ dash-field most {s} {at} h = let z : at + 1 - at ≡ suc 0 = omega arith in rw (
 
 -- ---- a byte behind what was read
 
-pub behind : {from e b : ℕ} (s : List ℕ) → e < length s → (leb e from || not (eqb (getD s e 0) b)) ≡ false → (from < e) × Stands b s e
-behind {from} {e} {b} s l h = let z = or-false (leb e from) (not (eqb (getD s e 0) b)) h in (leb-false e from (z .0), record { within = l; byte = eqb-true (getD s e 0) b (not-false _ (z .1)) })
+pub behind : (s : List ℕ) (from e b : ℕ) → (leb e from || not (eqb (getD s e 0) b)) ≡ false → e < length s → (from < e) × Stands b s e
+behind s from e b h l = let z = or-false (leb e from) (not (eqb (getD s e 0) b)) h in (leb-false e from (z .0), record { within = l; byte = eqb-true (getD s e 0) b (not-false _ (z .1)) })
 
 -- ---- a line that is read, and one of another form
 

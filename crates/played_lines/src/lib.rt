@@ -6,11 +6,12 @@ ghost use Rattle.reach.specs.Rows.{Good};
 ghost use Rattle.marking_rows.specs.Rows.{linedSize};
 ghost use Rattle.played_lines.specs.Lines.{JudgesLines};
 use arrangement_reader::ArrangementAnswer;
+use arrangement_reader::LINED;
+use arrangement_reader::STANDS;
 use arrangement_reader::finish;
 use arrangement_reader::first_broken;
 use arrangement_reader::goes;
 use arrangement_reader::read_lines;
-use marking_rows::LINED;
 use reach::WORDS;
 
 // The lines of a text, of the n events whose closed order is in the rows of bits w. Where they are an arrangement,
@@ -24,7 +25,7 @@ pub fn judge_lines(
     requires { ⌜ (n ≤ 128) × Good (now w) × (now lined ≡ replicate linedSize 0) ⌝ }
     ensures { λ r. ⌜ JudgesLines n (now (w .entry)) (now (text .entry)) r (now (lined .exit)) ⌝ }
 {
-    let mut stands = [0u8; 128];
+    let mut stands = [0u8; STANDS];
     let read = read_lines(text, n, &mut stands, lined);
     let lines = read.lines;
     let broken = first_broken(w, n, &stands, lined, lines);

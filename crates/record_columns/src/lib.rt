@@ -16,6 +16,18 @@ use reach::related;
 use spec::Limits;
 use spec::MarkKind;
 
+// How many events and conditions a record has room for; its bytes, and the words of its marks, four for each condition; and the
+// byte of a producer or consumer that is none.
+pub const EVENTS: usize = 128;
+
+pub const CONDITIONS: usize = 512;
+
+pub const RECORD: usize = 1664;
+
+pub const MARK_WORDS: usize = 2048;
+
+pub const NO_EVENT: u8 = 128;
+
 // Where the bytes of a record stand. Before PLACES stand the transitions of the events; then from each number on the places
 // of the conditions, their producers, their consumers. The marks stand in words beside them, as `reach` has its rows: in the row of a
 // condition an event has 1 under B, 2 under A, and 0 where there is no mark.

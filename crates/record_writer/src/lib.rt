@@ -19,9 +19,11 @@ use line_writer::put_condition;
 use line_writer::put_event;
 use line_writer::put_mark;
 use machine_numbers::wide_word;
+use net::ARCS;
 use reach::raise;
 use record_columns::CONSUMERS;
 use record_columns::Counts;
+use record_columns::EVENTS;
 use record_columns::PLACES;
 use record_columns::PRODUCERS;
 
@@ -92,7 +94,7 @@ fn join(watched: &mut [u64; 256], t: usize, sets: &[u64; 256], p: usize)
 }
 
 // The set of place p joins that of transition t if it inhibits t.
-fn watch_place(watched: &mut [u64; 256], t: usize, sets: &[u64; 256], arcs: &[u8; 3072], p: usize)
+fn watch_place(watched: &mut [u64; 256], t: usize, sets: &[u64; 256], arcs: &[u8; ARCS], p: usize)
     requires { ⌜ (t < 32) × (p < 32) × (length (now watched) ≡ 256) × WatchedBy (now arcs) (now sets) t p (now watched) ⌝ }
     ensures { λ _. ⌜ WatchedBy (now (arcs .entry)) (now (sets .entry)) t (p + 1) (now (watched .exit)) × OthersKept t (now (watched .entry)) (now (watched .exit)) ⌝ }
 {
@@ -102,7 +104,7 @@ fn watch_place(watched: &mut [u64; 256], t: usize, sets: &[u64; 256], arcs: &[u8
 }
 
 // The set of transition t, which is empty yet: the conditions of the places that inhibit it.
-fn watch(watched: &mut [u64; 256], t: usize, sets: &[u64; 256], arcs: &[u8; 3072])
+fn watch(watched: &mut [u64; 256], t: usize, sets: &[u64; 256], arcs: &[u8; ARCS])
     requires { ⌜ (t < 32) × (length (now watched) ≡ 256) × ((c : ℕ) → c < 512 → bitAt (now watched) t c ≡ 0) ⌝ }
     ensures { λ _. ⌜ WatchedBy (now (arcs .entry)) (now (sets .entry)) t 32 (now (watched .exit)) × OthersKept t (now (watched .entry)) (now (watched .exit)) ⌝ }
 {
@@ -119,7 +121,7 @@ fn ready(
     known: &mut [u8; 32],
     t: usize,
     sets: &[u64; 256],
-    arcs: &[u8; 3072],
+    arcs: &[u8; ARCS],
 )
     requires { ⌜ (t < 32) × Ready (now arcs) (now sets) (now known) (now watched) ⌝ }
     ensures { λ _. ⌜ Ready (now (arcs .entry)) (now (sets .entry)) (now (known .exit)) (now (watched .exit)) × WatchedBy (now (arcs .entry)) (now (sets .entry)) t 32 (now (watched .exit)) ⌝ }
@@ -147,7 +149,7 @@ fn put_due(
     marks: &mut [u64],
     rec: &[u8],
     ends: Ends,
-    steps: &[u8; 128],
+    steps: &[u8; EVENTS],
     e: usize,
     c: usize,
 ) -> Ends
@@ -178,7 +180,7 @@ fn put_word(
     marks: &mut [u64],
     rec: &[u8],
     ends: Ends,
-    steps: &[u8; 128],
+    steps: &[u8; EVENTS],
     e: usize,
     part: Part,
 ) -> Ends
@@ -201,7 +203,7 @@ fn put_row(
     marks: &mut [u64],
     rec: &[u8],
     ends: Ends,
-    steps: &[u8; 128],
+    steps: &[u8; EVENTS],
     e: usize,
     watched: &[u64; 256],
 ) -> Ends
@@ -228,8 +230,8 @@ fn put_marks(
     marks: &mut [u64],
     rec: &[u8],
     at: usize,
-    steps: &[u8; 128],
-    arcs: &[u8; 3072],
+    steps: &[u8; EVENTS],
+    arcs: &[u8; ARCS],
     s: Counts,
 ) -> Ends
     requires { ⌜ Writable (historyAt (s .events) (s .conditions) (now rec) (now steps) []) × (1664 ≤ length (now rec)) × Room (historyNotes (column 2048 1024 (now arcs)) (historyAt (s .events) (s .conditions) (now rec) (now steps) [])) (record { at = at; marks = 0 }) (now out) (now marks) ⌝ }
@@ -256,8 +258,8 @@ pub fn put_record(
     out: &mut [u8],
     marks: &mut [u64],
     rec: &[u8],
-    steps: &[u8; 128],
-    arcs: &[u8; 3072],
+    steps: &[u8; EVENTS],
+    arcs: &[u8; ARCS],
     s: Counts,
 ) -> Ends
     requires { ⌜ Writable (historyAt (s .events) (s .conditions) (now rec) (now steps) []) × (length (historyBytes (column 2048 1024 (now arcs)) (historyAt (s .events) (s .conditions) (now rec) (now steps) [])) ≤ length (now out)) × (length (historyNotes (column 2048 1024 (now arcs)) (historyAt (s .events) (s .conditions) (now rec) (now steps) [])) ≤ 4096) × (1664 ≤ length (now rec)) × ((c : ℕ) → Sub (rowOf (now marks) c)) ⌝ }

@@ -8,11 +8,16 @@ use accepting::Verdict;
 use accepting::accept;
 use accepting::bench;
 use arrangement_reader::ArrangementAnswer;
+use arrangement_reader::LINED;
 use arrangement_reader::goes;
 use arrangement_reader::lines_in;
 use bytes::bytes_at;
 use marking_rows::put_rows;
+use net::ARCS;
+use net::TOKENS;
 use played_lines::judge_lines;
+use reach::WORDS;
+use record_columns::RECORD;
 
 // What replaying answers: that the buffer is short, why the net or the record is refused, or the answer to the arrangement.
 pub enum ReplayAnswer {
@@ -29,16 +34,16 @@ pub fn replay(net: &[u8], text: &[u8], arrangement: &[u8], out: &mut [u16]) -> R
     if out.len() < 4128 {
         return ReplayAnswer::BufferShort;
     }
-    let mut tokens = [0u16; 32];
-    let mut arcs = [0u8; 3072];
-    let mut rec = [0u8; 1664];
-    let mut w = [0u64; 512];
+    let mut tokens = [0u16; TOKENS];
+    let mut arcs = [0u8; ARCS];
+    let mut rec = [0u8; RECORD];
+    let mut w = [0u64; WORDS];
     let accepted = accept(net, text, bench(), &mut tokens, &mut arcs, &mut rec, &mut w);
     let verdict = accepted.verdict;
     if let Verdict::Refused(why) = verdict {
         return ReplayAnswer::Refused(why);
     }
-    let mut lined = [0u8; 257];
+    let mut lined = [0u8; LINED];
     let answer = judge_lines(accepted.events, &w, arrangement, &mut lined);
     if !goes(answer) {
         return ReplayAnswer::Lines(answer);

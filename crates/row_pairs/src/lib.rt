@@ -13,6 +13,7 @@ use bit_sets::one;
 use bit_sets::union;
 use machine_numbers::wide;
 use reach::Row;
+use reach::WORDS;
 use reach::put_row;
 use reach::raise;
 use reach::row_at;
@@ -21,7 +22,7 @@ use record_columns::CONSUMERS;
 use record_columns::PRODUCERS;
 
 // The entry of e and f is that of a strict pair, where both are events.
-fn raise_pair(w: &mut [u64; 512], e: usize, f: usize)
+fn raise_pair(w: &mut [u64; WORDS], e: usize, f: usize)
     requires { ⌜ (length (now w) ≡ 512) × Good (now w) ⌝ }
     ensures { λ _. ⌜ Raised (now (w .entry)) (pairIn e f 2) (now (w .exit)) ⌝ }
 {
@@ -35,7 +36,7 @@ fn raise_pair(w: &mut [u64; 512], e: usize, f: usize)
 }
 
 // The pairs of the conditions.
-pub fn raise_conditions(rec: &[u8], m: usize, w: &mut [u64; 512])
+pub fn raise_conditions(rec: &[u8], m: usize, w: &mut [u64; WORDS])
     requires { ⌜ (m ≤ 512) × (1664 ≤ length (now rec)) × (length (now w) ≡ 512) × Good (now w) ⌝ }
     ensures { λ _. ⌜ Raised (now (w .entry)) (overall (conditionPairIn (now (rec .entry))) m) (now (w .exit)) ⌝ }
 {
@@ -47,7 +48,7 @@ pub fn raise_conditions(rec: &[u8], m: usize, w: &mut [u64; 512])
 }
 
 // A strict pair of f and each event of a set, where f is an event: the set joins the row of f.
-fn raise_afters(w: &mut [u64; 512], f: usize, set: Set)
+fn raise_afters(w: &mut [u64; WORDS], f: usize, set: Set)
     requires { ⌜ (length (now w) ≡ 512) × Good (now w) ⌝ }
     ensures { λ _. ⌜ Raised (now (w .entry)) (aftersIn f (has set)) (now (w .exit)) ⌝ }
 {
@@ -61,7 +62,7 @@ fn raise_afters(w: &mut [u64; 512], f: usize, set: Set)
 }
 
 // A weak pair of each event of a set and f, where f is an event.
-fn raise_befores(w: &mut [u64; 512], f: usize, set: Set)
+fn raise_befores(w: &mut [u64; WORDS], f: usize, set: Set)
     requires { ⌜ (length (now w) ≡ 512) × Good (now w) ⌝ }
     ensures { λ _. ⌜ Raised (now (w .entry)) (beforesIn f (has set)) (now (w .exit)) ⌝ }
 {
@@ -78,7 +79,7 @@ fn raise_befores(w: &mut [u64; 512], f: usize, set: Set)
 }
 
 // The pairs of the marks at condition c.
-fn raise_row(rec: &[u8], marks: &[u64], c: usize, w: &mut [u64; 512])
+fn raise_row(rec: &[u8], marks: &[u64], c: usize, w: &mut [u64; WORDS])
     requires { ⌜ (c < 512) × (1664 ≤ length (now rec)) × (4 * c + 4 ≤ length (now marks)) × Sub (rowOf (now marks) c) × (length (now w) ≡ 512) × Good (now w) ⌝ }
     ensures { λ _. ⌜ Raised (now (w .entry)) (markPairIn (now (rec .entry)) (now (marks .entry)) c) (now (w .exit)) ⌝ }
 {
@@ -93,7 +94,7 @@ fn raise_row(rec: &[u8], marks: &[u64], c: usize, w: &mut [u64; 512])
 }
 
 // The pairs of the marks.
-pub fn raise_marks(rec: &[u8], marks: &[u64], m: usize, w: &mut [u64; 512])
+pub fn raise_marks(rec: &[u8], marks: &[u64], m: usize, w: &mut [u64; WORDS])
     requires { ⌜ (m ≤ 512) × (1664 ≤ length (now rec)) × (4 * m ≤ length (now marks)) × ((c : ℕ) → Sub (rowOf (now marks) c)) × (length (now w) ≡ 512) × Good (now w) ⌝ }
     ensures { λ _. ⌜ Raised (now (w .entry)) (overall (markPairIn (now (rec .entry)) (now (marks .entry))) m) (now (w .exit)) ⌝ }
 {

@@ -10,16 +10,21 @@ ghost use Rattle.steps.specs.StepArrays.{IsStep};
 ghost use Rattle.run_counts.specs.Tally.{sizeOf, bothOf, timesAt, AtMost};
 use arc_sets::GUARDS;
 use arc_sets::MADE;
+use arc_sets::SETS;
 use arc_sets::size;
 use machine_numbers::wide;
 use machine_numbers::wide_word;
+use steps::STEP;
+
+// The counts by place: three for each.
+pub const COUNTS: usize = 96;
 
 // The counts by place stand in one array, 32 entries each: the conditions, the events that the place inhibits, and the first
 // condition that may be free.
 pub const WATCHED: usize = 32;
 
 // How many conditions the events of a step make.
-pub fn made_all(step: &[u8; 128], count: usize, sets: &[u64; 96]) -> usize
+pub fn made_all(step: &[u8; STEP], count: usize, sets: &[u64; SETS]) -> usize
     requires { ⌜ IsStep (now step) count ⌝ }
     ensures { λ r. ⌜ (r ≡ sumOf (sizeOf (now (sets .entry))) (take count (now (step .entry)))) × (r ≤ 64 * count) ⌝ }
 {
@@ -33,7 +38,7 @@ pub fn made_all(step: &[u8; 128], count: usize, sets: &[u64; 96]) -> usize
 }
 
 // How often they make one in a place that inhibits them.
-pub fn own_all(step: &[u8; 128], count: usize, sets: &[u64; 96]) -> usize
+pub fn own_all(step: &[u8; STEP], count: usize, sets: &[u64; SETS]) -> usize
     requires { ⌜ IsStep (now step) count ⌝ }
     ensures { λ r. ⌜ (r ≡ sumOf (bothOf (now (sets .entry))) (take count (now (step .entry)))) × (r ≤ 64 * count) ⌝ }
 {
@@ -48,7 +53,7 @@ pub fn own_all(step: &[u8; 128], count: usize, sets: &[u64; 96]) -> usize
 }
 
 // In the first m places, the conditions times the events that the place inhibits.
-pub fn products(counts: &[u32; 96], m: usize) -> usize
+pub fn products(counts: &[u32; COUNTS], m: usize) -> usize
     requires { ⌜ (m ≤ 32) × AtMost 1000000 m (column 0 32 (now counts)) × AtMost 1000000 m (column 32 32 (now counts)) ⌝ }
     ensures { λ r. ⌜ r ≡ sumOf (timesAt (column 0 32 (now (counts .entry))) (column 32 32 (now (counts .entry)))) (upTo m) ⌝ }
 {

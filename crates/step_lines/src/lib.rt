@@ -7,13 +7,16 @@ ghost use Rattle.arc_sets.specs.Sets.{Within};
 ghost use Rattle.steps.specs.declared.StepAnswer.the-variants.{Goes, Refused};
 ghost use Rattle.steps.specs.Judged.{stepAnswer, countStep};
 ghost use Rattle.step_lines.specs.Lines.{Readable, ReadLine, ReadAt, LineAt};
+use arc_sets::SETS;
 use lines::line_at;
 use number_lines::any_unknown;
 use number_lines::count_numbers;
 use number_lines::is_step_line;
 use number_lines::list_at;
 use number_lines::numbers;
+use steps::MARKING;
 use steps::Position;
+use steps::STEP;
 use steps::StepAnswer;
 use steps::StepRefusal;
 use steps::judge;
@@ -46,7 +49,7 @@ fn going(count: usize, next: usize) -> StepLine
 }
 
 // Any line, read: 21 and 22. Its transitions go into an array, if it has room for them.
-fn any_line(l: &[u8], ended: bool, next: usize, x: Position, step: &mut [u8; 128]) -> StepLine
+fn any_line(l: &[u8], ended: bool, next: usize, x: Position, step: &mut [u8; STEP]) -> StepLine
     requires { ⌜ Readable x (now step) ⌝ }
     ensures { λ r. ⌜ (r .next ≡ next) × ReadLine (lineOf (now (l .entry)) ended) x (r .answer) (r .count) (now (step .exit)) ⌝ }
 {
@@ -65,7 +68,7 @@ fn any_line(l: &[u8], ended: bool, next: usize, x: Position, step: &mut [u8; 128
 }
 
 // The line that starts at a position, read: a plain one is read in one walk.
-pub fn read_step(log: &[u8], at: usize, x: Position, step: &mut [u8; 128]) -> StepLine
+pub fn read_step(log: &[u8], at: usize, x: Position, step: &mut [u8; STEP]) -> StepLine
     requires { ⌜ (at < length (now log)) × Readable x (now step) ⌝ }
     ensures { λ r. ⌜ ReadAt (now (log .entry)) at x r (now (step .exit)) ⌝ }
 {
@@ -96,10 +99,10 @@ pub fn count_step(x: Position, count: usize) -> StepAnswer
 pub fn judge_line(
     log: &[u8],
     at: usize,
-    sets: &[u64; 96],
+    sets: &[u64; SETS],
     x: Position,
-    marking: &[u32; 32],
-    step: &mut [u8; 128],
+    marking: &[u32; MARKING],
+    step: &mut [u8; STEP],
 ) -> StepLine
     requires { ⌜ (at < length (now log)) × Readable x (now step) × (x .places ≤ 32) × Within 32 (now sets) ⌝ }
     ensures { λ r. ⌜ LineAt (now (log .entry)) at (now (sets .entry)) x (now (marking .entry)) r (now (step .exit)) ⌝ }

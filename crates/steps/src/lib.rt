@@ -8,8 +8,15 @@ ghost use Rattle.steps.specs.StepArrays.{IsStep, Addable, AddedSet, Take
 ghost use Rattle.steps.specs.Judged.{Judges};
 use arc_sets::GUARDS;
 use arc_sets::MADE;
+use arc_sets::SETS;
 use arc_sets::lowest;
 use machine_numbers::wide;
+use net::TOKENS;
+
+// A step: the transitions of its events. A marking: the tokens of each place.
+pub const STEP: usize = 128;
+
+pub const MARKING: usize = 32;
 
 // What a line of a log is refused for without its record being built, with its line: it is malformed, it names an unknown
 // transition, it has more events than are left, or its step is not enabled at the marking.
@@ -51,9 +58,9 @@ fn add_set(xs: &mut [u32], from: usize, set: u64)
 
 // The same for each event of a step, by the sets that start at `at`.
 pub fn add_all(
-    step: &[u8; 128],
+    step: &[u8; STEP],
     count: usize,
-    sets: &[u64; 96],
+    sets: &[u64; SETS],
     at: usize,
     xs: &mut [u32],
     from: usize,
@@ -69,7 +76,7 @@ pub fn add_all(
 }
 
 // One less at each place of a set.
-fn take_set(xs: &mut [u32; 32], set: u64)
+fn take_set(xs: &mut [u32; MARKING], set: u64)
     requires { ⌜ (length (now xs) ≡ 32) × Payable set (now xs) ⌝ }
     ensures { λ _. ⌜ TakenSet set (now (xs .entry)) (now (xs .exit)) ⌝ }
 {
@@ -82,7 +89,7 @@ fn take_set(xs: &mut [u32; 32], set: u64)
 }
 
 // The inputs of each event of a step are taken from a marking.
-fn take_all(step: &[u8; 128], count: usize, sets: &[u64; 96], marking: &mut [u32; 32])
+fn take_all(step: &[u8; STEP], count: usize, sets: &[u64; SETS], marking: &mut [u32; MARKING])
     requires { ⌜ IsStep (now step) count × Playable (now sets) (take count (now step)) (now marking) ⌝ }
     ensures { λ _. ⌜ Paid (arcAt (now (sets .entry)) 0) (take count (now (step .entry))) (now (marking .entry)) (now (marking .exit)) ⌝ }
 {
@@ -96,7 +103,7 @@ fn take_all(step: &[u8; 128], count: usize, sets: &[u64; 96], marking: &mut [u32
 // ---- a step at a marking
 
 // Whether some place has fewer tokens than are taken from it.
-fn short(marking: &[u32; 32], taken: &[u32; 32], places: usize) -> bool
+fn short(marking: &[u32; MARKING], taken: &[u32; MARKING], places: usize) -> bool
     requires { ⌜ places ≤ 32 ⌝ }
     ensures { λ r. ⌜ r ≡ falls (now (marking .entry)) (now (taken .entry)) places ⌝ }
 {
@@ -111,7 +118,7 @@ fn short(marking: &[u32; 32], taken: &[u32; 32], places: usize) -> bool
 }
 
 // The places that inhibit one of the step's events.
-fn guards_of(step: &[u8; 128], count: usize, sets: &[u64; 96]) -> u64
+fn guards_of(step: &[u8; STEP], count: usize, sets: &[u64; SETS]) -> u64
     requires { ⌜ IsStep (now step) count ⌝ }
     ensures { λ r. ⌜ Joined (arcAt (now (sets .entry)) 64) (take count (now (step .entry))) r ⌝ }
 {
@@ -125,7 +132,7 @@ fn guards_of(step: &[u8; 128], count: usize, sets: &[u64; 96]) -> u64
 }
 
 // Whether some place of a set is not empty.
-fn inhibited(marking: &[u32; 32], guards: u64) -> bool
+fn inhibited(marking: &[u32; MARKING], guards: u64) -> bool
     requires { ⌜ Within32 guards ⌝ }
     ensures { λ r. ⌜ Blocks (now (marking .entry)) guards r ⌝ }
 {
@@ -142,17 +149,17 @@ fn inhibited(marking: &[u32; 32], guards: u64) -> bool
 
 // A step of line `line`, of known transitions, judged at a marking: 24 and 25.
 pub fn judge(
-    step: &[u8; 128],
+    step: &[u8; STEP],
     count: usize,
-    sets: &[u64; 96],
-    marking: &[u32; 32],
+    sets: &[u64; SETS],
+    marking: &[u32; MARKING],
     places: usize,
     line: usize,
 ) -> StepAnswer
     requires { ⌜ IsStep (now step) count × (places ≤ 32) × Within 32 (now sets) ⌝ }
     ensures { λ r. ⌜ Judges (now (step .entry)) count (now (sets .entry)) (now (marking .entry)) places line r ⌝ }
 {
-    let mut taken = [0u32; 32];
+    let mut taken = [0u32; MARKING];
     add_all(step, count, sets, 0, &mut taken, 0);
     if short(marking, &taken, places) {
         return StepAnswer::Refused(StepRefusal::TooFewTokens(line));
@@ -164,7 +171,7 @@ pub fn judge(
 }
 
 // The marking after a step that is enabled: what its events take is taken first, and then what they make is there.
-pub fn play(step: &[u8; 128], count: usize, sets: &[u64; 96], marking: &mut [u32; 32])
+pub fn play(step: &[u8; STEP], count: usize, sets: &[u64; SETS], marking: &mut [u32; MARKING])
     requires { ⌜ IsStep (now step) count × Playable (now sets) (take count (now step)) (now marking) ⌝ }
     ensures { λ _. ⌜ MovedBy (now (sets .entry)) (take count (now (step .entry))) (now (marking .entry)) (now (marking .exit)) ⌝ }
 {
@@ -180,7 +187,7 @@ fn wide_count(k: u16) -> u32
 }
 
 // The token counts of a net, put into an array from `at` on.
-pub fn put_tokens(tokens: &[u16; 32], counts: &mut [u32], at: usize)
+pub fn put_tokens(tokens: &[u16; TOKENS], counts: &mut [u32], at: usize)
     requires { ⌜ at + 32 ≤ length (now counts) ⌝ }
     ensures { λ _. ⌜ MappedFrom (now (counts .entry)) at 32 (λ p. getD (now (tokens .entry)) p 0) (now (counts .exit)) ⌝ }
 {

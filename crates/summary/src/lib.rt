@@ -11,6 +11,7 @@ ghost use Rattle.representation.specs.Noted.{Noted};
 ghost use Rattle.summary.specs.Summaries.{Counted};
 use accepting::order;
 use arrangement_writer::line_count;
+use reach::WORDS;
 use record_columns::Counts;
 use row_facts::independent_pairs;
 use row_levels::levels;
@@ -18,7 +19,7 @@ use spec::Field;
 use writing::put_line;
 
 // How many lines the arrangement of n events has, by the rows of their closed order.
-fn lines_of(w: &[u64; 512], n: usize) -> usize
+fn lines_of(w: &[u64; WORDS], n: usize) -> usize
     requires { ⌜ Ready n (now w) × Order n (cellOf (now w)) ⌝ }
     ensures { λ r. ⌜ r ≡ lineCount (levelsIn n (now (w .entry))) ⌝ }
 {
@@ -32,7 +33,7 @@ pub fn put_counts(s: Counts, rec: &[u8], marks: &[u64], out: &mut [u8], n: usize
     requires { ⌜ (n + 19 ≤ length (now out)) × Noted s (now rec) (now marks) ⌝ }
     ensures { λ r. ⌜ Counted s (now (rec .entry)) (now (marks .entry)) n (now (out .entry)) r (now (out .exit)) ⌝ }
 {
-    let mut w = [0u64; 512];
+    let mut w = [0u64; WORDS];
     let _low = order(s, rec, marks, &mut w);
     let events = s.events;
     let fields = [

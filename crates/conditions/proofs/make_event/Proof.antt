@@ -39,7 +39,7 @@ loop-less : tie.Need-loop-less Inv-loop μ-loop
 loop-less c = let o = c .before .before .before .before in let l = o .before .before in let s = l .before .before in let v = l .loop .inv in let L = at-lowest (v .2) (o .lowest .ensures) (o .before .loop-test .taken) in rest-less (v .2) (o .lowest .ensures) (L .left) (L .low)
 
 loop-again : tie.Need-loop-again Inv-loop μ-loop
-loop-again c = let o = c .before .before .before .before in let l = o .before .before in let s = l .before .before in let v = l .loop .inv in let L = at-lowest (v .2) (o .lowest .ensures) (o .before .loop-test .taken) in let A = makes-as (v .3) (ap (map made-of) (tokens-skip (s .args .set) (s .args .e) (v .0) _ (L .within) (L .passed))) refl in (_, omega (arith, L .low), left-rest (v .2) (o .lowest .ensures) (L .left) (L .low), makes-as (makes-then A (c .before .before .make-times .ensures)) (outputs-next (s .args .set) _ _ 1 (s .pre .0) (sym (L .set))) refl)
+loop-again c = let o = c .before .before .before .before in let l = o .before .before in let s = l .before .before in let v = l .loop .inv in let L = at-lowest (v .2) (o .lowest .ensures) (o .before .loop-test .taken) in let A = makes-as (v .3) (ap (map made-of) (tokens-skip (s .args .set) (s .args .e) (v .0) _ (L .within) (L .passed))) refl in (o .lowest .result + 1, omega (arith, L .low), left-rest (v .2) (o .lowest .ensures) (L .left) (L .low), makes-as (makes-then A (c .before .before .make-times .ensures)) (outputs-next (s .args .set) _ _ 1 (s .pre .0) (sym (L .set))) refl)
 
 same-length : tie.Need-same-length Inv-loop μ-loop
 same-length c = c .before .loop .inv .3 .long

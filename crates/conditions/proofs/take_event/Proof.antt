@@ -32,7 +32,7 @@ loop-less : tie.Need-loop-less Inv-loop μ-loop
 loop-less c = let o = c .before .before .before .before .before in let l = o .before .before in let s = l .before .before in let v = l .loop .inv in let L = at-lowest (v .2) (o .lowest .ensures) (o .before .loop-test .taken) in rest-less (v .2) (o .lowest .ensures) (L .left) (L .low)
 
 loop-again : tie.Need-loop-again Inv-loop μ-loop
-loop-again c = let o = c .before .before .before .before .before in let l = o .before .before in let s = l .before .before in let v = l .loop .inv in let L = at-lowest (v .2) (o .lowest .ensures) (o .before .loop-test .taken) in (_, omega (arith, L .low), left-rest (v .2) (o .lowest .ensures) (L .left) (L .low), takes-as (takes-then (takes-as (v .3) (tokens-skip _ _ (v .0) _ (L .within) (L .passed))) (c .before .before .take-one .ensures)) (tokens-next (s .args .set) _ _ 1 (sym (L .set))))
+loop-again c = let o = c .before .before .before .before .before in let l = o .before .before in let s = l .before .before in let v = l .loop .inv in let L = at-lowest (v .2) (o .lowest .ensures) (o .before .loop-test .taken) in (o .lowest .result + 1, omega (arith, L .low), left-rest (v .2) (o .lowest .ensures) (L .left) (L .low), takes-as (takes-then (takes-as (v .3) (tokens-skip _ _ (v .0) _ (L .within) (L .passed))) (c .before .before .take-one .ensures)) (tokens-next (s .args .set) _ _ 1 (sym (L .set))))
 
 same-length : tie.Need-same-length Inv-loop μ-loop
 same-length c = c .before .loop .inv .3 .long

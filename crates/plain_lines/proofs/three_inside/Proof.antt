@@ -1,4 +1,5 @@
 -- `plain_lines::three_inside` meets its contract: the fields that were read, each with the byte behind it, are the line.
+use Prim.Native.Nat.{_+_}
 use native.Mathlib.Omega.{arith}
 use borrow.Author.Needs.{needs}
 use Rattle.plain_lines.proofs.Plain.{last-field, more-fields, plain-line, behind, stays-three}
@@ -54,14 +55,14 @@ add-t17 : tie.Need-add-t17
 add-t17 c = search needs
 
 returns-5 : tie.Need-returns-5
-returns-5 c most m = let z = c .before .before in let k = z .before in let y = k .before .before in let j = y .before in let x = j .before .before in let i = x .before in let p = i .before .before .before .pre in
-    let q = behind _ (omega (arith, x .number-inside .ensures .few)) (j .if2 .left) in
-    let r = behind _ (omega (arith, x .number-inside .ensures .few, y .field-inside .ensures .few)) (k .if3 .left) in
-    let e = behind _ (omega (arith, x .number-inside .ensures .few, y .field-inside .ensures .few, z .field-inside2 .ensures .few)) (c .if4 .left) in
+returns-5 c most m = let z = c .before .before in let k = z .before in let y = k .before .before in let j = y .before in let x = j .before .before in let i = x .before in let s = i .before .before .before in let t = s .args .s .now in
+    let q = behind t (s .args .at + 2) (x .number-inside .result .end) 44 (j .if2 .left) (omega (arith, x .number-inside .ensures .few)) in
+    let r = behind t (x .number-inside .result .end + 1) (y .field-inside .result .end) 44 (k .if3 .left) (omega (arith, x .number-inside .ensures .few, y .field-inside .ensures .few)) in
+    let e = behind t (y .field-inside .result .end + 1) (z .field-inside2 .result .end) 10 (c .if4 .left) (omega (arith, x .number-inside .ensures .few, y .field-inside .ensures .few, z .field-inside2 .ensures .few)) in
     let n = x .number-inside .ensures .number most m in let u = y .field-inside .ensures .read most m in let v = z .field-inside2 .ensures .read most m in record {
       read = record {
         within = omega (arith, e .1 .within);
-        line = λ h. plain-line (p .1) (record { within = omega arith; byte = i .if1 .left })
+        line = λ h. plain-line (s .pre .1) (record { within = omega arith; byte = i .if1 .left })
             (more-fields (n .start) (n .number (q .0)) (q .1) (more-fields (u .start) (u .field (r .0)) (r .1) (last-field (v .start) (v .field (e .0)) (e .1))));
       };
       second = λ h. u .kind (r .0);

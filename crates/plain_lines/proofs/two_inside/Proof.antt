@@ -1,4 +1,5 @@
 -- `plain_lines::two_inside` meets its contract: the fields that were read, each with the byte behind it, are the line.
+use Prim.Native.Nat.{_+_}
 use native.Mathlib.Omega.{arith}
 use borrow.Author.Needs.{needs}
 use Rattle.plain_lines.proofs.Plain.{last-field, more-fields, plain-line, behind, stays}
@@ -42,11 +43,12 @@ add-t10 : tie.Need-add-t10
 add-t10 c = search needs
 
 returns-4 : tie.Need-returns-4
-returns-4 c most m = let y = c .before .before in let j = y .before in let x = j .before .before in let i = x .before in let p = i .before .before .before .pre in
-    let q = behind _ (omega (arith, x .number-inside .ensures .few)) (j .if2 .left) in let e = behind _ (omega (arith, x .number-inside .ensures .few, y .number-inside2 .ensures .few)) (c .if3 .left) in
+returns-4 c most m = let y = c .before .before in let j = y .before in let x = j .before .before in let i = x .before in let s = i .before .before .before in let t = s .args .s .now in
+    let q = behind t (s .args .at + 2) (x .number-inside .result .end) 44 (j .if2 .left) (omega (arith, x .number-inside .ensures .few)) in
+    let e = behind t (x .number-inside .result .end + 1) (y .number-inside2 .result .end) 10 (c .if3 .left) (omega (arith, x .number-inside .ensures .few, y .number-inside2 .ensures .few)) in
     let n = x .number-inside .ensures .number most m in let k = y .number-inside2 .ensures .number most m in record {
       within = omega (arith, e .1 .within);
-      line = λ h. plain-line (p .1) (record { within = omega arith; byte = i .if1 .left }) (more-fields (n .start) (n .number (q .0)) (q .1) (last-field (k .start) (k .number (e .0)) (e .1)));
+      line = λ h. plain-line (s .pre .1) (record { within = omega arith; byte = i .if1 .left }) (more-fields (n .start) (n .number (q .0)) (q .1) (last-field (k .start) (k .number (e .0)) (e .1)));
     }
 
 pub two-inside-spec : {M : Type 1} → statement M

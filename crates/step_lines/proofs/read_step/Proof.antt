@@ -7,6 +7,7 @@ use Rattle.lines.specs.Lines.{lineOf}
 use Rattle.number_lines.proofs.Lines.{few-known}
 use Rattle.number_lines.proofs.Listing.{list-to}
 use Rattle.step_lines.proofs.Lines.{opens-step, list-step, reads-22, reads-step}
+use Rattle.lines.proofs.Lines.{line-to}
 use Rattle.step_lines.proofs.read_step.Statement.{statement}
 use Rattle.step_lines.proofs.read_step.Tie as tie
 
@@ -51,7 +52,7 @@ any-line-requires c κs = let la = c .before .before .before .before .before in 
 
 returns-3 : tie.Need-returns-3
 returns-3 c = let A = c .before .before .before .line-at .ensures in let e = c .any-line .ensures .0 in record {
-  found = record { line = _; lines = rw e (A .lines); on = omega (arith, A .start, A .on); within = omega (arith, A .next) };
+  found = record { line = line-to A .line; lines = rw e (A .lines); on = omega (arith, A .start, A .on); within = omega (arith, A .next) };
   read = c .any-line .ensures .1;
 }
 
