@@ -10,17 +10,17 @@ pub fn wide(b: u8) -> usize
 }
 
 // A half word of 16 bits.
-pub fn wide_half(x: u16) -> usize
-    ensures { λ r. ⌜ r ≡ x ⌝ }
+pub fn wide_half(h: u16) -> usize
+    ensures { λ r. ⌜ r ≡ h ⌝ }
 {
-    x as usize
+    h as usize
 }
 
 // A word of 32 bits.
-pub fn wide_word(x: u32) -> usize
-    ensures { λ r. ⌜ (r ≡ x) × (r ≤ 4294967295) ⌝ }
+pub fn wide_word(w: u32) -> usize
+    ensures { λ r. ⌜ (r ≡ w) × (r ≤ 4294967295) ⌝ }
 {
-    x as usize
+    w as usize
 }
 
 // The greater of two numbers.
