@@ -8,7 +8,7 @@ use Rattle.columns.specs.Columns.{column}
 use Rattle.spec.specs.Answer.{Answer, gives}
 use Rattle.lines.specs.Agree.{Agrees, refusedAs}
 use Rattle.spec.specs.Lists.{sum, asCount}
-use Rattle.spec.specs.Net.{Net as NetD, takes, makes, inhibits}
+use Rattle.spec.specs.Net.{Net as NetD, takes, makes, inhibits, addPlace, addTransition, addArc}
 use Rattle.spec.specs.Values.{netValues}
 use Rattle.net.specs.declared.Net.{Net}
 use Rattle.spec.specs.declared.ArcKind.{ArcKind}
@@ -20,10 +20,30 @@ use Rattle.net.specs.declared.NetAnswer.the-variants.{Accepted, Refused}
 use Rattle.net.specs.declared.NetRefusal.{NetRefusal}
 use Rattle.net.specs.declared.NetRefusal.the-variants.{Malformed, LimitPassed, Undeclared, ArcRepeated, Lacking}
 
--- at 32 × t + p an array has what f says of t and p
+-- the tokens, one entry for each place; the arcs of a transition, of a kind and of all kinds; and where the outputs and
+-- the inhibitors start behind the inputs
+abbrev pub tokenCount : ℕ
+tokenCount = 32
+
+abbrev pub rowSize : ℕ
+rowSize = 32
+
+abbrev pub kindCount : ℕ
+kindCount = 1024
+
+abbrev pub arcCount : ℕ
+arcCount = 3072
+
+abbrev pub outputsAt : ℕ
+outputsAt = 1024
+
+abbrev pub inhibitorsAt : ℕ
+inhibitorsAt = 2048
+
+-- in the row of t, at p, an array has what f says of t and p
 pub record Cells (xs : List ℕ) (f : ℕ → ℕ → ℕ) : Type 0 where
-  pub long : length xs ≡ 1024
-  pub cell : (t p : ℕ) → t < 32 → p < 32 → getD xs (32 * t + p) 0 ≡ f t p
+  pub long : length xs ≡ kindCount
+  pub cell : (t p : ℕ) → t < 32 → p < rowSize → getD xs (rowSize * t + p) 0 ≡ f t p
 
 -- the counts and the tokens of the code, and those of the definition
 pub record Counts (ps ts : ℕ) (xs tokensD : List ℕ) (transitionsD : ℕ) : Type 0 where
@@ -31,7 +51,7 @@ pub record Counts (ps ts : ℕ) (xs tokensD : List ℕ) (transitionsD : ℕ) : T
   pub transitions : ts ≡ transitionsD
   pub fewPlaces : ps ≤ 32
   pub fewTransitions : ts ≤ 32
-  pub long : length xs ≡ 32
+  pub long : length xs ≡ tokenCount
   pub tokens : (p : ℕ) → getD xs p 0 ≡ getD tokensD p 0
   pub most : sum tokensD ≤ 512
 
@@ -70,24 +90,45 @@ withCells Inhibitor a xs = arrays (a .tokens) (a .inputs) (a .outputs) xs
 -- where a kind stands in the array of arcs
 abbrev pub offsetOf : ArcKind → ℕ
 offsetOf Input = 0
-offsetOf Output = 1024
-offsetOf Inhibitor = 2048
+offsetOf Output = outputsAt
+offsetOf Inhibitor = inhibitorsAt
+
+-- the arcs of one kind in the array of arcs
+abbrev pub inputsIn : List ℕ → List ℕ
+inputsIn arcs = column 0 kindCount arcs
+
+abbrev pub outputsIn : List ℕ → List ℕ
+outputsIn arcs = column outputsAt kindCount arcs
+
+abbrev pub inhibitorsIn : List ℕ → List ℕ
+inhibitorsIn arcs = column inhibitorsAt kindCount arcs
 
 -- the tokens and one array with the arcs of every kind
 abbrev pub arraysAt : List ℕ → List ℕ → Arrays
-arraysAt tokens arcs = arrays tokens (column 0 1024 arcs) (column 1024 1024 arcs) (column 2048 1024 arcs)
+arraysAt tokens arcs = arrays tokens (inputsIn arcs) (outputsIn arcs) (inhibitorsIn arcs)
 
 -- the net of a size and of arrays
 abbrev pub netWith : Size → Arrays → Net
-netWith s a = record { places = s .places; transitions = s .transitions; tokens = a .tokens; inputs = a .inputs; outputs = a .outputs; inhibitors = a .inhibitors }
+netWith s a = record {
+  places = s .places;
+  transitions = s .transitions;
+  tokens = a .tokens;
+  inputs = a .inputs;
+  outputs = a .outputs;
+  inhibitors = a .inhibitors;
+}
 
 -- they hold the net, and the size has the sum of its tokens
 pub record Draft (s : Size) (a : Arrays) (m : NetD) : Type 0 where
   pub holds : Holds (netWith s a) m
   pub total : s .total ≡ sum (m .tokens)
 
+-- the size of so many places and transitions with so many tokens
+abbrev pub sizeOf : ℕ → ℕ → ℕ → Size
+sizeOf places transitions total = record { places = places; transitions = transitions; total = total }
+
 abbrev pub noSize : Size
-noSize = record { places = 0; transitions = 0; total = 0 }
+noSize = sizeOf 0 0 0
 
 -- the paper's number and spot of a refusal
 abbrev pub netRefusal : NetRefusal → ℕ × ℕ
@@ -110,6 +151,25 @@ goesOf (Refused x) = false
 abbrev pub Steps : Size → Arrays → (NetD → Answer NetD) → Stepped → Arrays → Type 0
 Steps s a f r a′ = (m : NetD) → Draft s a m → Agrees netValues (answerOf (r .answer)) (Draft (r .size) a′) (f m)
 
+-- a place of v tokens is added as line k adds it, whatever the arcs are
+abbrev pub AddsPlace : ℕ → ℕ → Size → List ℕ → Stepped → List ℕ → Type 0
+AddsPlace k v s tokens r tokens′ =
+    (arcs : List ℕ) → Steps s (arraysAt tokens arcs) (addPlace k v) r (arraysAt tokens′ arcs)
+
+-- a transition is added as line k adds it, whatever the arrays are
+abbrev pub AddsTransition : ℕ → Size → Stepped → Type 0
+AddsTransition k s r = (a : Arrays) → Steps s a (addTransition k) r a
+
+-- an arc of the kind that stands from `at` on is added as line k adds it, whatever the tokens are
+abbrev pub AddsArc : ℕ → ℕ → ℕ → ℕ → Size → List ℕ → Stepped → List ℕ → Type 0
+AddsArc at k p t s arcs r arcs′ =
+    (x : ArcKind) (tokens : List ℕ) → at ≡ offsetOf x
+    → Steps s (arraysAt tokens arcs) (addArc x k p t) r (arraysAt tokens arcs′)
+
+-- the lines so far are accepted, and the net has this size
+abbrev pub acceptedWith : Size → Stepped
+acceptedWith s = record { answer = Accepted (s .places) (s .transitions); size = s }
+
 -- the bounds that the code relies on
 pub record Few (s : Size) : Type 0 where
   pub places : s .places ≤ 32
@@ -121,7 +181,7 @@ pub record Fits (s : Size) : Type 0 where
 
 -- the net of two counts and of lent arrays
 abbrev pub netAt : ℕ → ℕ → List ℕ → List ℕ → Net
-netAt ps ts tokens arcs = netWith (record { places = ps; transitions = ts; total = 0 }) (arraysAt tokens arcs)
+netAt ps ts tokens arcs = netWith (sizeOf ps ts 0) (arraysAt tokens arcs)
 
 -- lent arrays hold the net
 abbrev pub HoldsAt : List ℕ → List ℕ → NetD → Type 0

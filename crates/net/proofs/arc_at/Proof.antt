@@ -1,3 +1,4 @@
+-- `net::arc_at` meets its contract: an entry of a column is the entry of the array that far behind the column's start.
 use mathlib.Core.Path.{sym}
 use native.Mathlib.Omega.{arith}
 use Rattle.columns.specs.Columns.{column-at}
