@@ -1,23 +1,21 @@
 // Where a record stands in bytes and words, and how an event, a condition or a mark is entered there, or refused.
 ghost use mathlib.Core.Path.{_≡_};
 ghost use mathlib.Core.Bool.{true};
-ghost use Prim.Native.Nat.{ℕ, _≤_, _<_};
-ghost use mathlib.Core.List.{List};
-ghost use Rattle.spec.specs.Net.{Net, places as placesOf};
+ghost use Prim.Native.Nat.{_≤_};
 ghost use Rattle.spec.specs.Process.{isBelow};
-ghost use Rattle.spec.specs.Checking.{enterEvent, enterCondition, enterMark};
 ghost use Rattle.line_forms.specs.Rows.{eventOf};
 ghost use Rattle.reach.specs.Rows.{way};
-ghost use Rattle.record_columns.specs.Layout.{eventCode, kindCode};
-ghost use Rattle.record_columns.specs.Enters.{Room, Fits, Spans, Enters, conditionIn, markOf};
+ghost use Rattle.record_columns.specs.Layout.{eventsMost, eventCode, kindCode};
+ghost use Rattle.record_columns.specs.Enters.{countsOf, conditionIn, markOf};
+ghost use Rattle.record_columns.specs.Enters.{Room, Fits, Spans, EntersEvent, EntersCondition, EntersMark};
 use line_forms::Slot;
 use reach::raise;
 use reach::related;
 use spec::Limits;
 use spec::MarkKind;
 
-// How many events and conditions a record has room for; its bytes, and the words of its marks, four for each condition; and the
-// byte of a producer or consumer that is none.
+// How many events and conditions a record has room for; its bytes, and the words of its marks, four for each condition;
+// and the byte of a producer or consumer that is none.
 pub const EVENTS: usize = 128;
 
 pub const CONDITIONS: usize = 512;
@@ -28,9 +26,9 @@ pub const MARK_WORDS: usize = 2048;
 
 pub const NO_EVENT: u8 = 128;
 
-// Where the bytes of a record stand. Before PLACES stand the transitions of the events; then from each number on the places
-// of the conditions, their producers, their consumers. The marks stand in words beside them, as `reach` has its rows: in the row of a
-// condition an event has 1 under B, 2 under A, and 0 where there is no mark.
+// Where the bytes of a record stand. Before PLACES stand the transitions of the events; then from each number on the
+// places of the conditions, their producers, their consumers. The marks stand in words beside them, as `reach` has its
+// rows: in the row of a condition an event has 1 under B, 2 under A, and 0 where there is no mark.
 pub const PLACES: usize = 128;
 
 pub const PRODUCERS: usize = 640;
@@ -51,8 +49,8 @@ pub struct Counts {
     pub marks: usize,
 }
 
-// Why a record is refused: by its reader, with the line, or by a rule of processes, with the lowest place or event. The answers of
-// all operations that take a record hold it.
+// Why a record is refused: by its reader, with the line, or by a rule of processes, with the lowest place or event. The
+// answers of all operations that take a record hold it.
 pub enum RecordRefusal {
     Malformed(usize),
     LimitPassed(usize),
@@ -89,15 +87,15 @@ fn event_below(n: usize, f: Slot) -> bool
     }
 }
 
-// The byte of a producer or consumer.
+// The byte of a producer or consumer: none is the number behind the last event that there can be.
 fn event_code(f: Slot) -> usize
     ensures { λ r. ⌜ r ≡ eventCode (eventOf f) ⌝ }
 {
     match f {
         Slot::Number(e) => e,
-        Slot::Dash => 128,
-        Slot::Wrong => 128,
-        Slot::Absent => 128,
+        Slot::Dash => EVENTS,
+        Slot::Wrong => EVENTS,
+        Slot::Absent => EVENTS,
     }
 }
 
@@ -113,7 +111,7 @@ fn is_after(x: MarkKind) -> bool
 
 // The record so far has these counts.
 pub fn entered(events: usize, conditions: usize, marks: usize) -> RecordRead
-    ensures { λ r. ⌜ r ≡ record { answer = RecordAnswer.Read; counts = record { events = events; conditions = conditions; marks = marks } } ⌝ }
+    ensures { λ r. ⌜ r ≡ record { answer = RecordAnswer.Read; counts = countsOf events conditions marks } ⌝ }
 {
     RecordRead {
         answer: RecordAnswer::Read,
@@ -138,7 +136,7 @@ pub fn refused(why: RecordRefusal, s: Counts) -> RecordRead
 // One more event.
 pub fn enter_event(b: Bounds, k: usize, t: usize, s: Counts, rec: &mut [u8]) -> RecordRead
     requires { ⌜ Room b × Fits s (now rec) ⌝ }
-    ensures { λ r. ⌜ ((N : Net) (marks : List ℕ) → N .transitions ≡ b .transitions → Enters s (now (rec .entry)) marks (enterEvent (b .limits) N k t) r (now (rec .exit)) marks) ⌝ }
+    ensures { λ r. ⌜ EntersEvent b k t s (now (rec .entry)) r (now (rec .exit)) ⌝ }
 {
     let lim = b.limits;
     if (s.conditions != 0) | (s.marks != 0) {
@@ -166,7 +164,7 @@ pub fn enter_condition(
     rec: &mut [u8],
 ) -> RecordRead
     requires { ⌜ Room b × Fits s (now rec) ⌝ }
-    ensures { λ r. ⌜ ((N : Net) (marks : List ℕ) → placesOf N ≡ b .places → Enters s (now (rec .entry)) marks (enterCondition (b .limits) N k (conditionIn p producer consumer)) r (now (rec .exit)) marks) ⌝ }
+    ensures { λ r. ⌜ EntersCondition b k (conditionIn p producer consumer) s (now (rec .entry)) r (now (rec .exit)) ⌝ }
 {
     let lim = b.limits;
     if s.marks != 0 {
@@ -196,8 +194,8 @@ pub fn enter_mark(
     s: Counts,
     marks: &mut [u64],
 ) -> RecordRead
-    requires { ⌜ Room b × (s .events ≤ 128) × Spans s (now marks) ⌝ }
-    ensures { λ r. ⌜ ((rec : List ℕ) → Enters s rec (now (marks .entry)) (enterMark (b .limits) k (markOf x c e)) r rec (now (marks .exit))) ⌝ }
+    requires { ⌜ Room b × (s .events ≤ eventsMost) × Spans s (now marks) ⌝ }
+    ensures { λ r. ⌜ EntersMark b k (markOf x c e) s (now (marks .entry)) r (now (marks .exit)) ⌝ }
 {
     let lim = b.limits;
     if lim.marks <= s.marks {

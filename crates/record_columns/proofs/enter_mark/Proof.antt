@@ -1,8 +1,12 @@
+-- `record_columns::enter_mark` meets its contract: its tests are the three refusals of the definitions, in their order,
+-- the second asked of the condition and then of the event. There is a mark where the words have a value, and the value
+-- that is raised is that of the new mark.
 use mathlib.Core.Path.{refl, sym, subst, _∙_}
 use native.Mathlib.Omega.{arith}
 use borrow.Author.Tests.{le-leb, lt-leb}
-use Rattle.lines.specs.Agree.{giving, refusing}
+use Rattle.spec.specs.Checking.{withMark}
 use Rattle.reach.specs.Rows.{Raised}
+use Rattle.record_columns.proofs.Answers.{line-refused, line-entered}
 use Rattle.record_columns.proofs.Stores.{mark-counted, mark-raised}
 use Rattle.record_columns.proofs.Steps.{first, second, third, through, mark-is, mark-read, no-condition, no-event, both-declared}
 use Rattle.record_columns.proofs.enter_mark.Statement.{statement}
@@ -12,19 +16,35 @@ refused-requires : tie.Need-refused-requires
 refused-requires c κs = tt
 
 returns : tie.Need-returns
-returns c rec = record { answers = λ R h. rw (c .refused .ensures) (refusing 32 _ (mark-is (h .columns) _ _ _ ∙ first _ _ _ _ _ _ _ _ (le-leb _ _ (c .before .if1 .taken))) refl); grown = rw (c .refused .ensures) (omega arith) }
+returns c rec =
+    line-refused _ (c .refused .ensures) (λ R h.
+    mark-is (h .columns) _ _ _ ∙ first _ _ _ _ _ _ _ _ (le-leb _ _ (c .before .if1 .taken)))
 
 refused-requires-2 : tie.Need-refused-requires-2
 refused-requires-2 c κs = tt
 
 returns-2 : tie.Need-returns-2
-returns-2 c rec = let a = c .before .before .before .before .before .before .before .before .args in record { answers = λ R h. rw (c .refused2 .ensures) (refusing 33 _ (mark-is (h .columns) _ _ _ ∙ second _ _ _ _ _ _ _ _ (lt-leb _ _ (c .before .before .before .if1 .left)) (no-condition (a .c) (a .s .conditions) (a .e) (a .s .events) (c .before .if2 .taken))) refl); grown = rw (c .refused2 .ensures) (omega arith) }
+returns-2 c rec =
+    let k = c .before in
+    let l = k .before .before in
+    let a = l .before .before .before .before .before .args in
+    line-refused _ (c .refused2 .ensures) (λ R h.
+    mark-is (h .columns) _ _ _
+    ∙ second _ _ _ _ _ _ _ _ (lt-leb _ _ (l .if1 .left))
+    (no-condition (a .c) (a .s .conditions) (a .e) (a .s .events) (k .if2 .taken)))
 
 refused-requires-3 : tie.Need-refused-requires-3
 refused-requires-3 c κs = tt
 
 returns-3 : tie.Need-returns-3
-returns-3 c rec = let a = c .before .before .before .before .before .before .before .before .before .before .args in record { answers = λ R h. rw (c .refused3 .ensures) (refusing 33 _ (mark-is (h .columns) _ _ _ ∙ second _ _ _ _ _ _ _ _ (lt-leb _ _ (c .before .before .before .before .before .if1 .left)) (no-event (a .c) (a .s .conditions) (a .e) (a .s .events) (c .before .if3 .taken))) refl); grown = rw (c .refused3 .ensures) (omega arith) }
+returns-3 c rec =
+    let k = c .before in
+    let l = k .before .before .before .before in
+    let a = l .before .before .before .before .before .args in
+    line-refused _ (c .refused3 .ensures) (λ R h.
+    mark-is (h .columns) _ _ _
+    ∙ second _ _ _ _ _ _ _ _ (lt-leb _ _ (l .if1 .left))
+    (no-event (a .c) (a .s .conditions) (a .e) (a .s .events) (k .if3 .taken)))
 
 related-requires : tie.Need-related-requires
 related-requires c κs = (omega arith, omega arith, c .before .before .before .before .before .before .before .before .before .before .pre .2 .sub _)
@@ -36,7 +56,15 @@ same-length : tie.Need-same-length
 same-length c = omega arith
 
 returns-4 : tie.Need-returns-4
-returns-4 c rec = record { answers = λ R h. rw (c .refused4 .ensures) (refusing 34 _ (mark-is (h .columns) _ _ _ ∙ third _ _ _ _ _ _ _ _ (lt-leb _ _ (c .before .before .before .before .before .before .before .before .if1 .left)) (both-declared _ _ _ _ (c .before .before .before .before .before .before .if2 .left) (c .before .before .before .before .if3 .left)) (mark-read (h .marks) _ _ ∙ sym (c .before .before .related .ensures) ∙ c .before .if4 .taken)) refl); grown = rw (c .refused4 .ensures) (omega arith) }
+returns-4 c rec =
+    let m = c .before .before in
+    let e = m .before .before in
+    let k = e .before .before in
+    let l = k .before .before in
+    line-refused _ (c .refused4 .ensures) (λ R h.
+    mark-is (h .columns) _ _ _
+    ∙ third _ _ _ _ _ _ _ _ (lt-leb _ _ (l .if1 .left)) (both-declared _ _ _ _ (k .if2 .left) (e .if3 .left))
+    (mark-read (h .marks) _ _ ∙ sym (m .related .ensures) ∙ c .before .if4 .taken))
 
 is-after-requires : tie.Need-is-after-requires
 is-after-requires c κs = tt
@@ -54,11 +82,21 @@ same-length-2 : tie.Need-same-length-2
 same-length-2 c = c .before .before .before .before .raise .ensures .long
 
 returns-5 : tie.Need-returns-5
-returns-5 c rec = record {
-  answers = λ R h. rw (c .entered .ensures) (giving _ (mark-is (h .columns) _ _ _ ∙ through _ _ _ _ _ _ _ _ (lt-leb _ _ (c .before .before .before .before .before .before .before .before .before .before .before .before .before .before .if1 .left)) (both-declared _ _ _ _ (c .before .before .before .before .before .before .before .before .before .before .before .before .if2 .left) (c .before .before .before .before .before .before .before .before .before .before .if3 .left)) (mark-read (h .marks) _ _ ∙ sym (c .before .before .before .before .before .before .before .before .related .ensures) ∙ c .before .before .before .before .before .before .before .if4 .left)) refl
-      (record { columns = mark-counted (h .columns) _; marks = mark-raised (h .marks) _ (rw (c .before .before .before .before .before .is-after .ensures) at (c .before .before .before .before .raise .ensures)) }));
-  grown = rw (c .entered .ensures) (omega arith);
-}
+returns-5 c rec =
+    let r = c .before .before .before .before in
+    let m = r .before .before .before .before in
+    let e = m .before .before in
+    let k = e .before .before in
+    let l = k .before .before in
+    line-entered _ (c .entered .ensures) (omega arith) (withMark _) (λ R h. (
+      mark-is (h .columns) _ _ _
+          ∙ through _ _ _ _ _ _ _ _ (lt-leb _ _ (l .if1 .left)) (both-declared _ _ _ _ (k .if2 .left) (e .if3 .left))
+          (mark-read (h .marks) _ _ ∙ sym (m .related .ensures) ∙ r .before .before .before .if4 .left),
+      record {
+        columns = mark-counted (h .columns) _;
+        marks = mark-raised (h .marks) _ (rw (r .before .is-after .ensures) at (r .raise .ensures));
+      },
+    ))
 
 pub enter-mark-spec : {M : Type 1} → statement M
 enter-mark-spec = tie.close (tie.spec refused-requires returns refused-requires-2 returns-2 refused-requires-3 returns-3 related-requires refused-requires-4 same-length returns-4 is-after-requires raise-requires add-entered entered-requires same-length-2 returns-5)

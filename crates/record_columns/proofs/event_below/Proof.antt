@@ -1,3 +1,5 @@
+-- `record_columns::event_below` meets its contract: a number is compared as `isBelow` compares it, and every other slot
+-- stands for no event, which is below any number.
 use borrow.Author.Needs.{needs}
 use Rattle.spec.specs.Process.{isBelow}
 use Rattle.record_columns.proofs.event_below.Statement.{statement}
