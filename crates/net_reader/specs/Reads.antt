@@ -23,12 +23,13 @@ use Rattle.net.specs.declared.Stepped.{Stepped}
 use Rattle.net_reader.specs.declared.Took.{Took}
 use Rattle.net_reader.specs.declared.NetRead.{NetRead}
 use Rattle.net.specs.declared.NetAnswer.{NetAnswer}
+use Rattle.net.specs.NetArrays.{tokenCount, rowSize, kindCount, arcCount}
 use Rattle.net.specs.NetArrays.{Holds, Arrays, arrays, arraysAt, netWith, Draft, noSize, answerOf, Steps, HoldsAt}
 
 -- all zero
 pub record Blank (ts xs : List ℕ) : Type 0 where
-  pub tokens : ts ≡ replicate 32 0
-  pub arcs : xs ≡ replicate 3072 0
+  pub tokens : ts ≡ replicate tokenCount 0
+  pub arcs : xs ≡ replicate arcCount 0
 
 -- what line k adds, by its row
 unfoldable pub addRow : ℕ → Row → NetD → Answer NetD
@@ -47,22 +48,28 @@ pub record Takes (text : List ℕ) (at k : ℕ) (s : Size) (a : Arrays) (r : Too
 
 -- some place below n has a mark at the transition
 unfoldable pub anyCell : List ℕ → ℕ → ℕ → Bool
-anyCell xs t n = any (λ p. ltb 0 (getD xs (32 * t + p) 0)) (upTo n)
+anyCell xs t n = any (λ p. ltb 0 (getD xs (rowSize * t + p) 0)) (upTo n)
 
 unfoldable pub lacksOf : List ℕ → List ℕ → ℕ → ℕ → Bool
 lacksOf is os n t = not (anyCell is t n) || not (anyCell os t n)
 
 -- the answer to all lines
 abbrev pub ReadsLines : List ℕ → Stepped → Arrays → Type 0
-ReadsLines text r a = Agrees netValues (answerOf (r .answer)) (Draft (r .size) a) (byLines addLine 1 (linesOf text) emptyNet)
+ReadsLines text r a =
+    Agrees netValues (answerOf (r .answer)) (Draft (r .size) a) (byLines addLine 1 (linesOf text) emptyNet)
 
 -- the last rule after an answer that agrees, of every net that the arrays hold
 abbrev pub Finishes : Stepped → List ℕ → NetAnswer → Type 0
-Finishes r arcs v = (tokens : List ℕ) (x : Answer NetD) → Agrees netValues (answerOf (r .answer)) (Draft (r .size) (arraysAt tokens arcs)) x → Agrees netValues (answerOf v) (HoldsAt tokens arcs) (x >>= whole)
+Finishes r arcs v =
+    (tokens : List ℕ) (x : Answer NetD)
+    → Agrees netValues (answerOf (r .answer)) (Draft (r .size) (arraysAt tokens arcs)) x
+    → Agrees netValues (answerOf v) (HoldsAt tokens arcs) (x >>= whole)
 
 -- the net of no text: no places, no transitions, arrays of zeros
 abbrev pub noNet : Net
-noNet = netWith noSize (arrays (replicate 32 0) (replicate 1024 0) (replicate 1024 0) (replicate 1024 0))
+noNet =
+    netWith noSize
+    (arrays (replicate tokenCount 0) (replicate kindCount 0) (replicate kindCount 0) (replicate kindCount 0))
 
 -- the answer is the paper's, and the net is the one that the text declares, or none where it is refused
 pub record Reads (text : List ℕ) (r : NetRead) : Type 0 where
@@ -81,4 +88,4 @@ pub record ReadsInto (text : List ℕ) (v : NetAnswer) (tokens arcs : List ℕ) 
 
 -- the entries of one kind, in an array of their own
 abbrev pub Copies : List ℕ → ℕ → List ℕ → Type 0
-Copies arcs o xs = Mapped (replicate 1024 0) 1024 (λ j. getD arcs (o + j) 0) xs
+Copies arcs o xs = Mapped (replicate kindCount 0) kindCount (λ j. getD arcs (o + j) 0) xs

@@ -7,8 +7,10 @@ ghost use Rattle.columns.specs.Columns.{column};
 ghost use Rattle.spec.specs.Net.{addLine};
 ghost use Rattle.lines.specs.Lines.{lineOf};
 ghost use Rattle.plain_lines.specs.Plain.{Opens};
+ghost use Rattle.net.specs.NetArrays.{kindCount, inhibitorsAt, inputsIn, outputsIn};
 ghost use Rattle.net.specs.NetArrays.{goesOf, arraysAt, Fits, Few, Steps};
-ghost use Rattle.net_reader.specs.Reads.{addRow, Blank, anyCell, lacksOf, Takes, ReadsLines, Finishes, noNet, ReadsInto, Reads, Answers, Copies};
+ghost use Rattle.net_reader.specs.Reads.{addRow, Blank, anyCell, lacksOf, Takes, ReadsLines, Finishes, noNet};
+ghost use Rattle.net_reader.specs.Reads.{ReadsInto, Reads, Answers, Copies};
 use fields::row_of;
 use line_forms::Row;
 use line_forms::is_alone;
@@ -41,7 +43,8 @@ use spec::Class;
 // What a line declares is added.
 fn add_row(k: usize, r: Row, s: Size, tokens: &mut [u16; TOKENS], arcs: &mut [u8; ARCS]) -> Stepped
     requires { ⌜ Fits s ⌝ }
-    ensures { λ q. ⌜ Steps s (arraysAt (now (tokens .entry)) (now (arcs .entry))) (addRow k r) q (arraysAt (now (tokens .exit)) (now (arcs .exit))) ⌝ }
+    ensures { λ q. ⌜ Steps s (arraysAt (now (tokens .entry)) (now (arcs .entry))) (addRow k r) q
+        (arraysAt (now (tokens .exit)) (now (arcs .exit))) ⌝ }
 {
     let first = r.first;
     let second = r.second;
@@ -75,7 +78,8 @@ fn add_line(
     arcs: &mut [u8; ARCS],
 ) -> Stepped
     requires { ⌜ Fits s ⌝ }
-    ensures { λ q. ⌜ Steps s (arraysAt (now (tokens .entry)) (now (arcs .entry))) (addLine k (lineOf (now (l .entry)) ended)) q (arraysAt (now (tokens .exit)) (now (arcs .exit))) ⌝ }
+    ensures { λ q. ⌜ Steps s (arraysAt (now (tokens .entry)) (now (arcs .entry)))
+        (addLine k (lineOf (now (l .entry)) ended)) q (arraysAt (now (tokens .exit)) (now (arcs .exit))) ⌝ }
 {
     if !ended {
         return refused(NetRefusal::Malformed(k), s);
@@ -102,8 +106,8 @@ fn arc_letter(b: u8) -> bool
     b == b'H'
 }
 
-// The line that starts at a position is added. A plain line is read in one walk; any other goes to the readers of lines and
-// fields, and so does every malformed one.
+// The line that starts at a position is added. A plain line is read in one walk; any other goes to the readers of lines
+// and fields, and so does every malformed one.
 fn add_at(
     k: usize,
     text: &[u8],
@@ -113,7 +117,8 @@ fn add_at(
     arcs: &mut [u8; ARCS],
 ) -> Took
     requires { ⌜ (at < length (now text)) × Fits s ⌝ }
-    ensures { λ q. ⌜ Takes (now (text .entry)) at k s (arraysAt (now (tokens .entry)) (now (arcs .entry))) q (arraysAt (now (tokens .exit)) (now (arcs .exit))) ⌝ }
+    ensures { λ q. ⌜ Takes (now (text .entry)) at k s (arraysAt (now (tokens .entry)) (now (arcs .entry))) q
+        (arraysAt (now (tokens .exit)) (now (arcs .exit))) ⌝ }
 {
     let letter = text[at];
     if arc_letter(letter) {
@@ -184,8 +189,8 @@ fn add_lines(text: &[u8], tokens: &mut [u16; TOKENS], arcs: &mut [u8; ARCS]) -> 
 
 // Whether some place is joined to the transition, by the kind of arc that stands from `at` on.
 fn any_cell(arcs: &[u8; ARCS], at: usize, t: usize, places: usize) -> bool
-    requires { ⌜ (at ≤ 2048) × (t < 32) × (places ≤ 32) ⌝ }
-    ensures { λ r. ⌜ r ≡ anyCell (column at 1024 (now (arcs .entry))) t places ⌝ }
+    requires { ⌜ (at ≤ inhibitorsAt) × (t < 32) × (places ≤ 32) ⌝ }
+    ensures { λ r. ⌜ r ≡ anyCell (column at kindCount (now (arcs .entry))) t places ⌝ }
 {
     let mut p: usize = 0;
     while p < places {
@@ -200,7 +205,7 @@ fn any_cell(arcs: &[u8; ARCS], at: usize, t: usize, places: usize) -> bool
 // Whether the transition lacks an input or an output.
 fn lacks(arcs: &[u8; ARCS], t: usize, places: usize) -> bool
     requires { ⌜ (t < 32) × (places ≤ 32) ⌝ }
-    ensures { λ r. ⌜ r ≡ lacksOf (column 0 1024 (now (arcs .entry))) (column 1024 1024 (now (arcs .entry))) places t ⌝ }
+    ensures { λ r. ⌜ r ≡ lacksOf (inputsIn (now (arcs .entry))) (outputsIn (now (arcs .entry))) places t ⌝ }
 {
     !any_cell(arcs, INPUTS, t, places) | !any_cell(arcs, OUTPUTS, t, places)
 }
@@ -247,7 +252,7 @@ pub fn net_answer(net: &[u8]) -> NetAnswer
 
 // The arcs of one kind.
 fn arcs_of(arcs: &[u8; ARCS], at: usize) -> [u8; KIND]
-    requires { ⌜ (at ≤ 2048) ⌝ }
+    requires { ⌜ (at ≤ inhibitorsAt) ⌝ }
     ensures { λ r. ⌜ Copies (now (arcs .entry)) at r ⌝ }
 {
     let mut r = [0u8; KIND];

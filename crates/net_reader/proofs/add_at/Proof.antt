@@ -1,3 +1,5 @@
+-- `net_reader::add_at` meets its contract: a plain line is added as the definitions add it, and so is any other, which
+-- is read as a line and then by its fields; both tell where the next line starts.
 use mathlib.Core.Path.{refl, sym, subst}
 use native.Mathlib.Omega.{arith}
 use borrow.Author.Needs.{needs}

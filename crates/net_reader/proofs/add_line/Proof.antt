@@ -1,3 +1,5 @@
+-- `net_reader::add_line` meets its contract: a line that is not ended has no form, so that the definitions refuse it as
+-- malformed; one that is ended they add by its row.
 use mathlib.Core.Path.{refl}
 use borrow.Author.Needs.{needs}
 use borrow.Author.Tests.{not-true, not-false}

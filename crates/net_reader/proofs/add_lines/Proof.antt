@@ -1,5 +1,5 @@
--- The lines so far leave a net that the arrays hold, and what is left of the text goes on from it; a line that is refused is the
--- answer.
+-- `net_reader::add_lines` meets its contract. The loop's invariant: the lines so far leave a net that the arrays hold,
+-- and what is left of the text goes on from it; a line that is refused is the answer.
 use Prim.Native.Nat.{_+_, _-_, _≤_}
 use native.Mathlib.Omega.{arith}
 use borrow.Author.Needs.{needs}

@@ -1,3 +1,5 @@
+-- `net_reader::add_row` meets its contract: its tests are those of `addRow`, in their order, and each adds what
+-- `addRow` adds there.
 use mathlib.Core.Path.{refl, sym, _∙_}
 use borrow.Author.Needs.{needs}
 use Rattle.spec.specs.declared.ArcKind.the-variants.{Input, Output, Inhibitor}
@@ -7,19 +9,15 @@ use Rattle.net_reader.proofs.add_row.Statement.{statement}
 use Rattle.net_reader.proofs.add_row.Tie as tie
 
 number-in-requires : tie.Need-number-in-requires
-unfolding addRow
 number-in-requires c κs = search needs
 
 number-in-requires-2 : tie.Need-number-in-requires-2
-unfolding addRow
 number-in-requires-2 c κs = search needs
 
 is-one-requires : tie.Need-is-one-requires
-unfolding addRow
 is-one-requires c κs = search needs
 
 add-place-requires : tie.Need-add-place-requires
-unfolding addRow
 add-place-requires c κs = search needs
 
 returns : tie.Need-returns
@@ -28,11 +26,9 @@ returns c m d = let i0 = c .before .before in let b = i0 .before .before in
     rw (sym (i0 .before .is-one .ensures) ∙ i0 .if1 .taken, ← b .before .number-in .ensures) (c .add-place .ensures _ m d)
 
 is-alone-requires : tie.Need-is-alone-requires
-unfolding addRow
 is-alone-requires c κs = search needs
 
 add-transition-requires : tie.Need-add-transition-requires
-unfolding addRow
 add-transition-requires c κs = search needs
 
 returns-2 : tie.Need-returns-2
@@ -41,11 +37,9 @@ returns-2 c m d = let i1 = c .before in let i0 = i1 .before .before in let b = i
     rw (sym (i0 .before .is-one .ensures) ∙ i0 .if1 .left, sym (i1 .before .is-alone .ensures) ∙ i1 .if2 .taken) (c .add-transition .ensures _ m d)
 
 is-two-requires : tie.Need-is-two-requires
-unfolding addRow
 is-two-requires c κs = search needs
 
 add-arc-requires : tie.Need-add-arc-requires
-unfolding addRow
 add-arc-requires c κs = search needs
 
 returns-3 : tie.Need-returns-3
@@ -54,11 +48,9 @@ returns-3 c m d = let i2 = c .before .before in let i1 = i2 .before .before in l
     rw (sym (i0 .before .is-one .ensures) ∙ i0 .if1 .left, sym (i1 .before .is-alone .ensures) ∙ i1 .if2 .left, sym (i2 .before .is-two .ensures) ∙ i2 .if3 .taken, ← b .before .number-in .ensures, ← b .number-in2 .ensures) (c .add-arc .ensures Input _ refl m d)
 
 is-two-requires-2 : tie.Need-is-two-requires-2
-unfolding addRow
 is-two-requires-2 c κs = search needs
 
 add-arc-requires-2 : tie.Need-add-arc-requires-2
-unfolding addRow
 add-arc-requires-2 c κs = search needs
 
 returns-4 : tie.Need-returns-4
@@ -67,11 +59,9 @@ returns-4 c m d = let i3 = c .before .before in let i2 = i3 .before .before in l
     rw (sym (i0 .before .is-one .ensures) ∙ i0 .if1 .left, sym (i1 .before .is-alone .ensures) ∙ i1 .if2 .left, sym (i2 .before .is-two .ensures) ∙ i2 .if3 .left, sym (i3 .before .is-two2 .ensures) ∙ i3 .if4 .taken, ← b .before .number-in .ensures, ← b .number-in2 .ensures) (c .add-arc2 .ensures Output _ refl m d)
 
 is-two-requires-3 : tie.Need-is-two-requires-3
-unfolding addRow
 is-two-requires-3 c κs = search needs
 
 add-arc-requires-3 : tie.Need-add-arc-requires-3
-unfolding addRow
 add-arc-requires-3 c κs = search needs
 
 returns-5 : tie.Need-returns-5
@@ -80,7 +70,6 @@ returns-5 c m d = let i4 = c .before .before in let i3 = i4 .before .before in l
     rw (sym (i0 .before .is-one .ensures) ∙ i0 .if1 .left, sym (i1 .before .is-alone .ensures) ∙ i1 .if2 .left, sym (i2 .before .is-two .ensures) ∙ i2 .if3 .left, sym (i3 .before .is-two2 .ensures) ∙ i3 .if4 .left, sym (i4 .before .is-two3 .ensures) ∙ i4 .if5 .taken, ← b .before .number-in .ensures, ← b .number-in2 .ensures) (c .add-arc3 .ensures Inhibitor _ refl m d)
 
 refused-requires : tie.Need-refused-requires
-unfolding addRow
 refused-requires c κs = search needs
 
 returns-6 : tie.Need-returns-6
@@ -89,5 +78,4 @@ returns-6 c m d = let i4 = c .before in let i3 = i4 .before .before in let i2 = 
     rw (c .refused .ensures, sym (i0 .before .is-one .ensures) ∙ i0 .if1 .left, sym (i1 .before .is-alone .ensures) ∙ i1 .if2 .left, sym (i2 .before .is-two .ensures) ∙ i2 .if3 .left, sym (i3 .before .is-two2 .ensures) ∙ i3 .if4 .left, sym (i4 .before .is-two3 .ensures) ∙ i4 .if5 .left) (refusing 11 _ refl refl)
 
 pub add-row-spec : {M : Type 1} → statement M
-unfolding addRow
 add-row-spec = tie.close (tie.spec number-in-requires number-in-requires-2 is-one-requires add-place-requires returns is-alone-requires add-transition-requires returns-2 is-two-requires add-arc-requires returns-3 is-two-requires-2 add-arc-requires-2 returns-4 is-two-requires-3 add-arc-requires-3 returns-5 refused-requires returns-6)

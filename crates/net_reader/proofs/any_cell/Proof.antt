@@ -1,3 +1,5 @@
+-- `net_reader::any_cell` meets its contract. The loop's invariant: some place from p on is joined to the transition if
+-- some place is at all, since none below p is.
 use Prim.Native.Nat.{ℕ, _+_, _-_, _*_, _≤_}
 use mathlib.Core.Path.{_≡_, sym, ap, _∙_}
 use mathlib.Core.Bool.{Bool}

@@ -1,3 +1,5 @@
+-- `net_reader::arc_letter` meets its contract: none of the three letters is a comma or the end of a line, which is what
+-- a line may open with.
 use mathlib.Core.Path.{sym, subst}
 use borrow.Author.Tests.{eqb-true}
 use Rattle.plain_lines.specs.Plain.{Opens}

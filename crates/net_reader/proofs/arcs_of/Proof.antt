@@ -1,4 +1,4 @@
--- The entries below i are copied.
+-- `net_reader::arcs_of` meets its contract. The loop's invariant: the entries below i are copied.
 use Prim.Native.Nat.{ℕ, _+_, _-_, _≤_}
 use mathlib.Core.Path.{_≡_, refl}
 use native.Mathlib.Omega.{arith}

@@ -1,4 +1,5 @@
--- The search for the lowest transition that lacks an input or an output: none below t does. A refused line is the answer.
+-- `net_reader::finish` meets its contract. The loop's invariant: the lowest transition from t on that lacks an input or
+-- an output is the lowest of all. A refused line stays the answer.
 use Prim.Native.Nat.{_-_, _≤_}
 use mathlib.Core.Path.{_≡_, sym, _∙_}
 use native.Mathlib.Omega.{arith}

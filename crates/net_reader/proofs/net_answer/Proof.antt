@@ -1,4 +1,5 @@
--- The arrays are dropped.
+-- `net_reader::net_answer` meets its contract: arrays of zeros are blank, and the answer of the reading into them does
+-- not depend on what becomes of them.
 use mathlib.Core.Path.{refl}
 use Rattle.net_reader.proofs.net_answer.Statement.{statement}
 use Rattle.net_reader.proofs.net_answer.Tie as tie

@@ -1,4 +1,5 @@
--- The lines, then the last rule.
+-- `net_reader::read_into` meets its contract: reading a net is, in the definitions too, the lines and then the last
+-- rule.
 use Rattle.net_reader.proofs.Reading.{few-read, reads-into}
 use Rattle.net_reader.proofs.read_into.Statement.{statement}
 use Rattle.net_reader.proofs.read_into.Tie as tie

@@ -1,4 +1,5 @@
--- The arrays that were read into, by value; where the text is refused, no net.
+-- `net_reader::read_net` meets its contract: the copies of the three columns are the columns, so that the net by value
+-- is the one that was read; where the text is refused, it is no net.
 use mathlib.Core.Path.{refl}
 use native.Mathlib.Omega.{arith}
 use borrow.Author.Needs.{needs}

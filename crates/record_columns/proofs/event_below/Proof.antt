@@ -6,19 +6,15 @@ use Rattle.record_columns.proofs.event_below.Statement.{statement}
 use Rattle.record_columns.proofs.event_below.Tie as tie
 
 enum-known-f : tie.Need-enum-known-f
-unfolding isBelow
 enum-known-f c = search needs
 
 enum-told : tie.Need-enum-told
-unfolding isBelow
 enum-told c = search needs
 
 enum-told-2 : tie.Need-enum-told-2
-unfolding isBelow
 enum-told-2 c = search needs
 
 enum-told-3 : tie.Need-enum-told-3
-unfolding isBelow
 enum-told-3 c = search needs
 
 returns : tie.Need-returns
@@ -38,5 +34,4 @@ unfolding isBelow
 returns-4 c = search needs
 
 pub event-below-spec : {M : Type 1} → statement M
-unfolding isBelow
 event-below-spec = tie.close (tie.spec enum-known-f enum-told enum-told-2 enum-told-3 returns returns-2 returns-3 returns-4)
