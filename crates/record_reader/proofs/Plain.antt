@@ -24,6 +24,7 @@ use Rattle.lines.proofs.Lines.{line-to}
 use Rattle.plain_lines.specs.Plain.{Opens, PlainLine, MayRead}
 use Rattle.plain_lines.proofs.Plain.{plain-to}
 use Rattle.record_columns.specs.Enters.{Enters, conditionIn, markOf}
+use Rattle.record_columns.proofs.Answers.{entered-same}
 use Rattle.record_reader.specs.Reads.{Declares, Takes, MarkLetter, kindBy, enterRow}
 use Rattle.record_columns.specs.declared.Bounds.{Bounds}
 use Rattle.record_columns.specs.declared.Counts.{Counts}
@@ -97,7 +98,7 @@ module _ {b : Bounds} {text : List ℕ} {i k : ℕ} {s : Counts} {old words new 
   pub plain-takes : {next : ℕ} {fs : List Slot} (f : Net → RunRecord → Answer RunRecord) → (r : MayRead 4 text i next fs) (h : i < next)
       → ((N : Net) (R : RunRecord) (l : PlainLine 4 text i next fs) → enterLine (b .limits) N k (lineOf (l .bytes) true) R ≡ f N R) → ((N : Net) → Declares b N → Enters s old words (f N) step new words′)
       → Takes b text i k s old words (record { step = step; next = next }) new words′
-  plain-takes f r h e g = record { found = plain-to r h; enters = λ N d. record { answers = λ R q. rw (e N R (r .line h)) (g N d .answers R q); grown = g N d .grown } }
+  plain-takes f r h e g = record { found = plain-to r h; enters = λ N d. entered-same _ (λ R. e N R (r .line h)) (g N d) }
 
   pub line-takes : {r : Span} → LineAt text i r → ((N : Net) → Declares b N → Enters s old words (enterLine (b .limits) N k (lineOf (take (r .end - i) (drop i text)) (r .ended))) step new words′)
       → Takes b text i k s old words (record { step = step; next = r .next }) new words′

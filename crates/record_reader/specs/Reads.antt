@@ -1,13 +1,13 @@
 -- What the functions of the reader promise.
 use Prim.Native.Nat.{ℕ, _*_, _≤_, min}
 use mathlib.Core.Path.{_≡_}
-use mathlib.Core.Bool.{cond}
+use mathlib.Core.Bool.{true, cond}
 use mathlib.Core.Logic.{_⊎_}
 use mathlib.Core.List.{List}
 use lib.ListN.{length, getD}
 use lib.Dec.{eqb}
 use Rattle.spec.specs.Answer.{Answer, refuses}
-use Rattle.spec.specs.Text.{linesOf, byLines}
+use Rattle.spec.specs.Text.{Line, linesOf, byLines}
 use Rattle.spec.specs.Net.{Net, places}
 use Rattle.spec.specs.Record.{RunRecord}
 use Rattle.spec.specs.Checking.{enterEvent, enterCondition, enterMark, enterLine, emptyRecord}
@@ -23,11 +23,13 @@ use Rattle.record_columns.specs.declared.Bounds.{Bounds}
 use Rattle.record_columns.specs.declared.Counts.{Counts}
 use Rattle.record_columns.specs.declared.RecordRead.{RecordRead}
 use Rattle.record_reader.specs.declared.Took.{Took}
-use Rattle.record_columns.specs.Enters.{answerOf, noValues, Holds, conditionIn, markOf, Enters}
+use Rattle.reach.specs.Rows.{rowWords}
+use Rattle.record_columns.specs.Layout.{markWords}
+use Rattle.record_columns.specs.Enters.{answerOf, goesOf, noValues, Holds, conditionIn, markOf, Enters}
 
 -- words that hold no mark yet, with four for each condition that a text can have: no more than there are bytes
 pub record Blank (text words : List ℕ) : Type 0 where
-  pub room : min 2048 (4 * length text) ≤ length words
+  pub room : min markWords (rowWords * length text) ≤ length words
   pub zero : (i : ℕ) → getD words i 0 ≡ 0
 
 -- the net has so many places and transitions
@@ -44,10 +46,20 @@ enterRow lim n k w r =
     (cond (isTwo LetterA w) (enterMark lim k (markOf After (valueOf (w .first)) (valueOf (w .second))) r)
     (refuses 31 k))))
 
+-- line k is entered as the definitions enter it beside any net of the bounds, by its row or by itself
+abbrev pub EntersRow : Bounds → ℕ → Row → Counts → List ℕ → List ℕ → RecordRead → List ℕ → List ℕ → Type 0
+EntersRow b k w s old words r new words′ =
+    (N : Net) → Declares b N → Enters s old words (enterRow (b .limits) N k w) r new words′
+
+abbrev pub EntersLine : Bounds → ℕ → Line → Counts → List ℕ → List ℕ → RecordRead → List ℕ → List ℕ → Type 0
+EntersLine b k l s old words r new words′ =
+    (N : Net) → Declares b N → Enters s old words (enterLine (b .limits) N k l) r new words′
+
 -- the line that starts at a position is entered as the definitions enter line k, and the next one starts at `next`
-pub record Takes (b : Bounds) (text : List ℕ) (at k : ℕ) (s : Counts) (old words : List ℕ) (r : Took) (new words′ : List ℕ) : Type 0 where
+pub record Takes (b : Bounds) (text : List ℕ) (at k : ℕ) (s : Counts) (old words : List ℕ) (r : Took)
+    (new words′ : List ℕ) : Type 0 where
   pub found : LineTo text at (r .next)
-  pub enters : (N : Net) → Declares b N → Enters s old words (enterLine (b .limits) N k (found .line)) (r .step) new words′
+  pub enters : EntersLine b k (found .line) s old words (r .step) new words′
 
 -- the letters B and A, and their kinds
 abbrev pub MarkLetter : ℕ → Type 0
@@ -58,4 +70,11 @@ kindBy b = cond (eqb b 65) After Before
 
 -- the answer is the paper's, and where it is a record the bytes and words hold it
 abbrev pub ReadsRecord : Bounds → List ℕ → RecordRead → List ℕ → List ℕ → Type 0
-ReadsRecord b text r rec words = (N : Net) → Declares b N → Agrees noValues (answerOf (r .answer)) (Holds (r .counts) rec words) (byLines (enterLine (b .limits) N) 1 (linesOf text) emptyRecord)
+ReadsRecord b text r rec words =
+    (N : Net) → Declares b N
+    → Agrees noValues (answerOf (r .answer)) (Holds (r .counts) rec words)
+    (byLines (enterLine (b .limits) N) 1 (linesOf text) emptyRecord)
+
+-- where it is a record, there are words for the marks of each of its conditions
+abbrev pub MarksFit : RecordRead → List ℕ → Type 0
+MarksFit r words = goesOf (r .answer) ≡ true → rowWords * r .counts .conditions ≤ length words

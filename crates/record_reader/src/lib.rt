@@ -1,13 +1,13 @@
 // The record reader: a text becomes a record of bytes and words, or a refusal.
 ghost use mathlib.Core.Path.{_≡_};
 ghost use mathlib.Core.Bool.{true};
-ghost use Prim.Native.Nat.{_*_, _≤_, _<_};
-ghost use Rattle.spec.specs.Net.{Net};
-ghost use Rattle.spec.specs.Checking.{enterLine};
-ghost use Rattle.lines.specs.Lines.{lineOf};
+ghost use Prim.Native.Nat.{_≤_, _<_};
 ghost use lib.ListN.{length};
-ghost use Rattle.record_columns.specs.Enters.{goesOf, Room, Fits, Spans, Enters};
-ghost use Rattle.record_reader.specs.Reads.{Blank, Declares, Takes, MarkLetter, kindBy, enterRow, ReadsRecord};
+ghost use Rattle.lines.specs.Lines.{lineOf};
+ghost use Rattle.record_columns.specs.Layout.{recordBytes};
+ghost use Rattle.record_columns.specs.Enters.{Room, Fits, Spans};
+ghost use Rattle.record_reader.specs.Reads.{Blank, EntersRow, EntersLine, Takes, MarkLetter, kindBy};
+ghost use Rattle.record_reader.specs.Reads.{ReadsRecord, MarksFit};
 use fields::row_of;
 use line_forms::Row;
 use line_forms::is_one;
@@ -41,7 +41,8 @@ fn enter_row(
     marks: &mut [u64],
 ) -> RecordRead
     requires { ⌜ Room b × Fits s (now rec) × Spans s (now marks) ⌝ }
-    ensures { λ r. ⌜ ((N : Net) → Declares b N → Enters s (now (rec .entry)) (now (marks .entry)) (enterRow (b .limits) N k w) r (now (rec .exit)) (now (marks .exit))) ⌝ }
+    ensures { λ r. ⌜ EntersRow b k w s (now (rec .entry)) (now (marks .entry)) r
+        (now (rec .exit)) (now (marks .exit)) ⌝ }
 {
     let first = w.first;
     let second = w.second;
@@ -74,7 +75,8 @@ fn enter_line(
     marks: &mut [u64],
 ) -> RecordRead
     requires { ⌜ Room b × Fits s (now rec) × Spans s (now marks) ⌝ }
-    ensures { λ r. ⌜ ((N : Net) → Declares b N → Enters s (now (rec .entry)) (now (marks .entry)) (enterLine (b .limits) N k (lineOf (now (l .entry)) ended)) r (now (rec .exit)) (now (marks .exit))) ⌝ }
+    ensures { λ r. ⌜ EntersLine b k (lineOf (now (l .entry)) ended) s (now (rec .entry)) (now (marks .entry)) r
+        (now (rec .exit)) (now (marks .exit)) ⌝ }
 {
     if !ended {
         return refused(RecordRefusal::Malformed(k), s);
@@ -120,7 +122,8 @@ fn enter_any(
     marks: &mut [u64],
 ) -> Took
     requires { ⌜ (at < length (now text)) × Room b × Fits s (now rec) × Spans s (now marks) ⌝ }
-    ensures { λ r. ⌜ Takes b (now (text .entry)) at k s (now (rec .entry)) (now (marks .entry)) r (now (rec .exit)) (now (marks .exit)) ⌝ }
+    ensures { λ r. ⌜ Takes b (now (text .entry)) at k s (now (rec .entry)) (now (marks .entry)) r
+        (now (rec .exit)) (now (marks .exit)) ⌝ }
 {
     let line = line_at(text, at);
     let end = line.end;
@@ -131,8 +134,8 @@ fn enter_any(
     }
 }
 
-// The line that starts at a position is entered. A plain line is read in one walk; any other goes to the readers of lines and
-// fields, and so does every malformed one.
+// The line that starts at a position is entered. A plain line is read in one walk; any other goes to the readers of
+// lines and fields, and so does every malformed one.
 fn enter_at(
     b: Bounds,
     k: usize,
@@ -143,7 +146,8 @@ fn enter_at(
     marks: &mut [u64],
 ) -> Took
     requires { ⌜ (at < length (now text)) × Room b × Fits s (now rec) × Spans s (now marks) ⌝ }
-    ensures { λ r. ⌜ Takes b (now (text .entry)) at k s (now (rec .entry)) (now (marks .entry)) r (now (rec .exit)) (now (marks .exit)) ⌝ }
+    ensures { λ r. ⌜ Takes b (now (text .entry)) at k s (now (rec .entry)) (now (marks .entry)) r
+        (now (rec .exit)) (now (marks .exit)) ⌝ }
 {
     let letter = text[at];
     if mark_letter(letter) {
@@ -174,8 +178,9 @@ fn enter_at(
 
 // The record that a text declares, in bytes and in words for its marks that are all zero before.
 pub fn read_record(b: Bounds, text: &[u8], rec: &mut [u8], marks: &mut [u64]) -> RecordRead
-    requires { ⌜ Room b × (1664 ≤ length (now rec)) × Blank (now text) (now marks) ⌝ }
-    ensures { λ r. ⌜ ReadsRecord b (now (text .entry)) r (now (rec .exit)) (now (marks .exit)) × (goesOf (r .answer) ≡ true → 4 * r .counts .conditions ≤ length (now (marks .exit))) ⌝ }
+    requires { ⌜ Room b × (recordBytes ≤ length (now rec)) × Blank (now text) (now marks) ⌝ }
+    ensures { λ r. ⌜ ReadsRecord b (now (text .entry)) r (now (rec .exit)) (now (marks .exit))
+        × MarksFit r (now (marks .exit)) ⌝ }
 {
     let mut s = Counts {
         events: 0,

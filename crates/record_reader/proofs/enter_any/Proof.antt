@@ -1,3 +1,5 @@
+-- `record_reader::enter_any` meets its contract: it is read as a line, which says where the next one starts, and
+-- entered as a line.
 use native.Mathlib.Omega.{arith}
 use Rattle.record_reader.proofs.Plain.{line-takes}
 use Rattle.record_reader.proofs.enter_any.Statement.{statement}

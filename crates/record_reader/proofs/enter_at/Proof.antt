@@ -1,3 +1,5 @@
+-- `record_reader::enter_at` meets its contract: a plain line is entered as the definitions enter it, by its letter; any
+-- other is read as a line.
 use mathlib.Core.Path.{sym, subst, _∙_}
 use native.Mathlib.Omega.{arith}
 use lib.ListN.{getD}
@@ -28,7 +30,17 @@ same-length : tie.Need-same-length
 same-length c = omega arith
 
 returns : tie.Need-returns
-returns c = let t = c .before .before .before .before .before .before .before in plain-takes (λ N. enterMark _ _ (markOf (kindBy (getD (c .before .before .before .before .before .before .before .before .before .before .before .before .before .before .args .text .now) (c .before .before .before .before .before .before .before .before .before .before .before .before .before .before .args .at) 0)) (t .two-at .result .a) (t .two-at .result .b))) (t .two-at .ensures) (c .before .before .before .before .before .if2 .taken) (λ N R l. mark-line _ _ N R l (c .before .before .before .before .before .before .before .before .before .mark-letter .ensures (c .before .before .before .before .before .before .before .before .if1 .taken))) (λ N d. rw (c .before .before .before .before .kind-of .ensures) at (c .before .before .enter-mark .ensures (c .before .before .before .before .before .before .before .before .before .before .before .before .before .before .args .rec .now)))
+returns c =
+    let e = c .before .before in
+    let n = e .before .before .before in
+    let t = n .before .before in
+    let i = t .before in
+    let a = i .before .before .before .before .before .before .args in
+    plain-takes
+    (λ N. enterMark _ _ (markOf (kindBy (getD (a .text .now) (a .at) 0)) (t .two-at .result .a) (t .two-at .result .b)))
+    (t .two-at .ensures) (n .if2 .taken)
+    (λ N R l. mark-line _ _ N R l (i .before .mark-letter .ensures (i .if1 .taken)))
+    (λ N d. rw (e .before .before .kind-of .ensures) at (e .enter-mark .ensures (a .rec .now)))
 
 three-at-requires : tie.Need-three-at-requires
 three-at-requires c κs = (omega arith, record { within = c .before .before .before .before .before .before .before .pre .0; letter = subst Opens (sym (c .if3 .taken)) opens-condition })
@@ -40,8 +52,14 @@ same-length-2 : tie.Need-same-length-2
 same-length-2 c = omega arith
 
 returns-2 : tie.Need-returns-2
-returns-2 c = let t = c .before .before .before .before .before .before in let e = t .three-at .ensures in let i = c .before .before .before .before .if4 .taken in
-    plain-takes (λ N. enterCondition _ N _ (conditionIn _ (t .three-at .result .b) (t .three-at .result .c))) (e .read) i (λ N R l. condition-line _ _ N R l (e .second i) (e .third i) (c .before .before .before .before .before .before .before .if3 .taken)) (λ N d. c .before .before .enter-condition .ensures N _ (d .places))
+returns-2 c =
+    let i = c .before .before .before .before in
+    let t = i .before .before in
+    let e = t .three-at .ensures in
+    plain-takes (λ N. enterCondition _ N _ (conditionIn _ (t .three-at .result .b) (t .three-at .result .c))) (e .read)
+    (i .if4 .taken)
+    (λ N R l. condition-line _ _ N R l (e .second (i .if4 .taken)) (e .third (i .if4 .taken)) (t .before .if3 .taken))
+    (λ N d. c .before .before .enter-condition .ensures N _ (d .places))
 
 one-at-requires : tie.Need-one-at-requires
 one-at-requires c κs = (omega arith, record { within = c .before .before .before .before .before .before .before .before .pre .0; letter = subst Opens (sym (c .if5 .taken)) opens-event })
@@ -53,7 +71,12 @@ same-length-3 : tie.Need-same-length-3
 same-length-3 c = omega arith
 
 returns-3 : tie.Need-returns-3
-returns-3 c = let t = c .before .before .before .before .before .before in plain-takes (λ N. enterEvent _ N _ _) (t .one-at .ensures) (c .before .before .before .before .if6 .taken) (λ N R l. event-line _ _ N R l (c .before .before .before .before .before .before .before .if5 .taken)) (λ N d. c .before .before .enter-event .ensures N _ (d .transitions))
+returns-3 c =
+    let i = c .before .before .before .before in
+    let t = i .before .before in
+    plain-takes (λ N. enterEvent _ N _ _) (t .one-at .ensures) (i .if6 .taken)
+    (λ N R l. event-line _ _ N R l (t .before .if5 .taken))
+    (λ N d. c .before .before .enter-event .ensures N _ (d .transitions))
 
 enter-any-requires : tie.Need-enter-any-requires
 enter-any-requires c κs = c .before .before .before .before .before .before .before .before .before .before .pre

@@ -1,3 +1,4 @@
+-- `record_reader::kind_of` meets its contract: `A` stands for after, and of the two letters the other for before.
 use borrow.Author.Tests.{eq-eqb, ne-eqb}
 use Rattle.record_reader.proofs.kind_of.Statement.{statement}
 use Rattle.record_reader.proofs.kind_of.Tie as tie

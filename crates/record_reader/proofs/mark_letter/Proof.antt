@@ -1,3 +1,4 @@
+-- `record_reader::mark_letter` meets its contract: the two letters that it passes are the two of `MarkLetter`.
 use mathlib.Core.Logic.{inl, inr}
 use borrow.Author.Tests.{eqb-true}
 use Rattle.record_reader.proofs.mark_letter.Statement.{statement}

@@ -1,5 +1,6 @@
--- The lines so far leave a record that the bytes and words hold, and what is left of the text goes on from it; a line that is
--- refused is the answer. A line has a byte and at most one condition, so there are words for each condition that was entered.
+-- `record_reader::read_record` meets its contract. The loop's invariant: the lines so far leave a record that the bytes
+-- and words hold, and what is left of the text goes on from it; a line that is refused is the answer. A line has a byte
+-- and at most one condition, so that there are words for each condition that was entered.
 use Prim.Native.Nat.{_+_, _-_, _≤_}
 use mathlib.Core.Path.{_≡_, refl, sym, _∙_}
 use mathlib.Core.Bool.{true≢false}
