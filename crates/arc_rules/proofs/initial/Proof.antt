@@ -1,8 +1,9 @@
--- The conditions before c are counted.
+-- `arc_rules::initial` meets its contract. The loop's invariant: the conditions below c that have no producer are
+-- counted.
 use Prim.Native.Nat.{_-_, _≤_}
 use native.Mathlib.Omega.{arith}
 use Rattle.arc_rules.specs.Tests.{Initial}
-use Rattle.arc_rules.proofs.Tallies.{initial-none, initial-end}
+use Rattle.arc_rules.proofs.Tallies.{placed-at, initial-none, initial-end}
 use Rattle.arc_rules.proofs.initial.Statement.{statement}
 use Rattle.arc_rules.proofs.initial.Tie as tie
 
@@ -16,8 +17,10 @@ loop-holds : tie.Need-loop-holds Inv-loop μ-loop
 loop-holds c = (omega arith, initial-none _)
 
 count-initial-requires : tie.Need-count-initial-requires Inv-loop μ-loop
-count-initial-requires c κs = let i = c .before in let l = i .before in let s = l .before .before in
-    (omega (arith, s .pre .0, i .loop-test .taken), s .pre .1, s .pre .2 .place (l .loop .c) (i .loop-test .taken), l .loop .inv .1)
+count-initial-requires c κs =
+    let i = c .before in
+    let l = i .before in
+    (placed-at (l .loop .c) (l .before .before .pre) (i .loop-test .taken), l .loop .inv .1)
 
 add-c : tie.Need-add-c Inv-loop μ-loop
 add-c c = omega arith
