@@ -1,4 +1,5 @@
--- The pairs of a record as a relation with the values 0, 1, 2, from its bytes and words, and what raising entries of the rows leaves behind.
+-- The pairs of a record as a relation with the values 0, 1, 2, from its bytes and words, and what raising entries of
+-- the rows leaves behind.
 use mathlib.Core.Path.{_≡_}
 use Prim.Native.Nat.{ℕ, _+_, _-_, _*_, _<_, min, max}
 use mathlib.Core.Bool.{_&&_, cond}
@@ -7,6 +8,7 @@ use lib.ListN.{length, getD}
 use lib.Dec.{eqb}
 use Rattle.order.specs.Below.{maxBelow}
 use Rattle.reach.specs.Rows.{cellOf, Good}
+use Rattle.record_columns.specs.Layout.{eventsMost, producersAt, consumersAt}
 use Rattle.record_columns.specs.declared.Counts.{Counts}
 
 -- v for e and f, else 0
@@ -15,7 +17,7 @@ pairIn e f v i j = cond (eqb e i && eqb f j) v 0
 
 -- condition c: producer to consumer is strict
 unfoldable pub conditionPairIn : List ℕ → ℕ → ℕ → ℕ → ℕ
-conditionPairIn rec c i j = pairIn (getD rec (640 + c) 0) (getD rec (1152 + c) 0) 2 i j
+conditionPairIn rec c i j = pairIn (getD rec (producersAt + c) 0) (getD rec (consumersAt + c) 0) 2 i j
 
 -- a weak pair of each event of a set and f, and a strict pair of f and each event of a set
 unfoldable pub beforesIn : ℕ → (ℕ → ℕ) → ℕ → ℕ → ℕ
@@ -33,7 +35,9 @@ before v = min v (2 - v)
 
 -- the marks at condition c: under B the event to the producer is weak, under A the consumer to the event is strict
 unfoldable pub markPairIn : List ℕ → List ℕ → ℕ → ℕ → ℕ → ℕ
-markPairIn rec words c i j = max (aftersIn (getD rec (1152 + c) 0) (λ e. after (cellOf words c e)) i j) (beforesIn (getD rec (640 + c) 0) (λ e. before (cellOf words c e)) i j)
+markPairIn rec words c i j =
+    max (aftersIn (getD rec (consumersAt + c) 0) (λ e. after (cellOf words c e)) i j)
+    (beforesIn (getD rec (producersAt + c) 0) (λ e. before (cellOf words c e)) i j)
 
 -- the greatest that the first n say
 unfoldable pub overall : (ℕ → ℕ → ℕ → ℕ) → ℕ → ℕ → ℕ → ℕ
@@ -41,7 +45,8 @@ overall v n i j = maxBelow n (λ k. v k i j)
 
 -- all pairs
 unfoldable pub relationIn : Counts → List ℕ → List ℕ → ℕ → ℕ → ℕ
-relationIn s rec words i j = max (overall (conditionPairIn rec) (s .conditions) i j) (overall (markPairIn rec words) (s .conditions) i j)
+relationIn s rec words i j =
+    max (overall (conditionPairIn rec) (s .conditions) i j) (overall (markPairIn rec words) (s .conditions) i j)
 
 -- ---- the rows
 
@@ -49,10 +54,10 @@ relationIn s rec words i j = max (overall (conditionPairIn rec) (s .conditions) 
 pub record Raised (old : List ℕ) (v : ℕ → ℕ → ℕ) (new : List ℕ) : Type 0 where
   pub long : length new ≡ length old
   pub good : Good old → Good new
-  pub cell : (i j : ℕ) → i < 128 → j < 128 → cellOf new i j ≡ max (cellOf old i j) (v i j)
+  pub cell : (i j : ℕ) → i < eventsMost → j < eventsMost → cellOf new i j ≡ max (cellOf old i j) (v i j)
 
 -- the rows are the relation
 pub record Filled (old : List ℕ) (v : ℕ → ℕ → ℕ) (new : List ℕ) : Type 0 where
   pub long : length new ≡ length old
   pub good : Good old → Good new
-  pub cell : (i j : ℕ) → i < 128 → j < 128 → cellOf new i j ≡ v i j
+  pub cell : (i j : ℕ) → i < eventsMost → j < eventsMost → cellOf new i j ≡ v i j

@@ -2,9 +2,11 @@
 ghost use mathlib.Core.Path.{_≡_};
 ghost use Prim.Native.Nat.{ℕ, _*_, _+_, _<_, _≤_};
 ghost use Rattle.bit_sets.specs.Sets.{has};
-ghost use Rattle.reach.specs.Rows.{Good, Sub, rowOf, way};
 ghost use lib.ListN.{length};
-ghost use Rattle.row_pairs.specs.Relation.{pairIn, beforesIn, aftersIn, conditionPairIn, markPairIn, overall, Raised};
+ghost use Rattle.reach.specs.Rows.{words, rowWords, Good, Sub, rowOf};
+ghost use Rattle.record_columns.specs.Layout.{conditionsMost, recordBytes};
+ghost use Rattle.row_pairs.specs.Relation.{pairIn, beforesIn, aftersIn, conditionPairIn, markPairIn};
+ghost use Rattle.row_pairs.specs.Relation.{overall, Raised};
 use bit_sets::Set;
 use bit_sets::first;
 use bit_sets::is_none;
@@ -19,17 +21,18 @@ use reach::raise;
 use reach::row_at;
 use reach::row_in;
 use record_columns::CONSUMERS;
+use record_columns::EVENTS;
 use record_columns::PRODUCERS;
 
 // The entry of e and f is that of a strict pair, where both are events.
 fn raise_pair(w: &mut [u64; WORDS], e: usize, f: usize)
-    requires { ⌜ (length (now w) ≡ 512) × Good (now w) ⌝ }
+    requires { ⌜ (length (now w) ≡ words) × Good (now w) ⌝ }
     ensures { λ _. ⌜ Raised (now (w .entry)) (pairIn e f 2) (now (w .exit)) ⌝ }
 {
-    if 128 <= e {
+    if EVENTS <= e {
         return;
     }
-    if 128 <= f {
+    if EVENTS <= f {
         return;
     }
     raise(w, e, f, true);
@@ -37,7 +40,7 @@ fn raise_pair(w: &mut [u64; WORDS], e: usize, f: usize)
 
 // The pairs of the conditions.
 pub fn raise_conditions(rec: &[u8], m: usize, w: &mut [u64; WORDS])
-    requires { ⌜ (m ≤ 512) × (1664 ≤ length (now rec)) × (length (now w) ≡ 512) × Good (now w) ⌝ }
+    requires { ⌜ (m ≤ conditionsMost) × (recordBytes ≤ length (now rec)) × (length (now w) ≡ words) × Good (now w) ⌝ }
     ensures { λ _. ⌜ Raised (now (w .entry)) (overall (conditionPairIn (now (rec .entry))) m) (now (w .exit)) ⌝ }
 {
     let mut c: usize = 0;
@@ -49,10 +52,10 @@ pub fn raise_conditions(rec: &[u8], m: usize, w: &mut [u64; WORDS])
 
 // A strict pair of f and each event of a set, where f is an event: the set joins the row of f.
 fn raise_afters(w: &mut [u64; WORDS], f: usize, set: Set)
-    requires { ⌜ (length (now w) ≡ 512) × Good (now w) ⌝ }
+    requires { ⌜ (length (now w) ≡ words) × Good (now w) ⌝ }
     ensures { λ _. ⌜ Raised (now (w .entry)) (aftersIn f (has set)) (now (w .exit)) ⌝ }
 {
-    if 128 <= f {
+    if EVENTS <= f {
         return;
     }
     let row = row_at(w, f);
@@ -63,15 +66,15 @@ fn raise_afters(w: &mut [u64; WORDS], f: usize, set: Set)
 
 // A weak pair of each event of a set and f, where f is an event.
 fn raise_befores(w: &mut [u64; WORDS], f: usize, set: Set)
-    requires { ⌜ (length (now w) ≡ 512) × Good (now w) ⌝ }
+    requires { ⌜ (length (now w) ≡ words) × Good (now w) ⌝ }
     ensures { λ _. ⌜ Raised (now (w .entry)) (beforesIn f (has set)) (now (w .exit)) ⌝ }
 {
-    if 128 <= f {
+    if EVENTS <= f {
         return;
     }
     let mut rest = set;
     let mut e = first(rest);
-    while e < 128 {
+    while e < EVENTS {
         raise(w, e, f, false);
         rest = less(rest, one(e));
         e = first(rest);
@@ -80,7 +83,9 @@ fn raise_befores(w: &mut [u64; WORDS], f: usize, set: Set)
 
 // The pairs of the marks at condition c.
 fn raise_row(rec: &[u8], marks: &[u64], c: usize, w: &mut [u64; WORDS])
-    requires { ⌜ (c < 512) × (1664 ≤ length (now rec)) × (4 * c + 4 ≤ length (now marks)) × Sub (rowOf (now marks) c) × (length (now w) ≡ 512) × Good (now w) ⌝ }
+    requires { ⌜ (c < conditionsMost) × (recordBytes ≤ length (now rec))
+        × (rowWords * c + rowWords ≤ length (now marks)) × Sub (rowOf (now marks) c)
+        × (length (now w) ≡ words) × Good (now w) ⌝ }
     ensures { λ _. ⌜ Raised (now (w .entry)) (markPairIn (now (rec .entry)) (now (marks .entry)) c) (now (w .exit)) ⌝ }
 {
     let row = row_in(marks, c);
@@ -95,8 +100,11 @@ fn raise_row(rec: &[u8], marks: &[u64], c: usize, w: &mut [u64; WORDS])
 
 // The pairs of the marks.
 pub fn raise_marks(rec: &[u8], marks: &[u64], m: usize, w: &mut [u64; WORDS])
-    requires { ⌜ (m ≤ 512) × (1664 ≤ length (now rec)) × (4 * m ≤ length (now marks)) × ((c : ℕ) → Sub (rowOf (now marks) c)) × (length (now w) ≡ 512) × Good (now w) ⌝ }
-    ensures { λ _. ⌜ Raised (now (w .entry)) (overall (markPairIn (now (rec .entry)) (now (marks .entry))) m) (now (w .exit)) ⌝ }
+    requires { ⌜ (m ≤ conditionsMost) × (recordBytes ≤ length (now rec))
+        × (rowWords * m ≤ length (now marks)) × ((c : ℕ) → Sub (rowOf (now marks) c))
+        × (length (now w) ≡ words) × Good (now w) ⌝ }
+    ensures { λ _. ⌜ Raised (now (w .entry)) (overall (markPairIn (now (rec .entry)) (now (marks .entry))) m)
+        (now (w .exit)) ⌝ }
 {
     let mut c: usize = 0;
     while c < m {

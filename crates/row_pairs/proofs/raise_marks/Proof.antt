@@ -1,3 +1,5 @@
+-- `row_pairs::raise_marks` meets its contract. The loop's invariant: the rows have the pairs of the marks at the
+-- conditions below c.
 use Prim.Native.Nat.{_-_, _≤_}
 use native.Mathlib.Omega.{arith}
 use mathlib.Core.Path.{_≡_, refl}

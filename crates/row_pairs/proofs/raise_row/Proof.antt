@@ -1,3 +1,5 @@
+-- `row_pairs::raise_row` meets its contract: in the row of a condition the strict set has the events of its marks A,
+-- and the rest of the path set those of its marks B; where the path set is empty there is no mark.
 use native.Mathlib.Omega.{arith}
 use Rattle.row_pairs.proofs.Raising.{row-none, row-raised}
 use Rattle.row_pairs.proofs.raise_row.Statement.{statement}
@@ -10,7 +12,9 @@ is-none-requires : tie.Need-is-none-requires
 is-none-requires c κs = tt
 
 returns : tie.Need-returns
-returns c = row-none _ _ _ (c .before .before .before .before .row-in .ensures) (c .before .before .before .before .before .before .before .pre .3) _ (c .before .is-none .ensures (c .if1 .taken))
+returns c =
+    let r = c .before .before .before .before in
+    row-none _ _ _ (r .row-in .ensures) (r .before .before .before .pre .3) _ (c .before .is-none .ensures (c .if1 .taken))
 
 add-wide : tie.Need-add-wide
 add-wide c = omega arith
@@ -37,10 +41,17 @@ less-requires : tie.Need-less-requires
 less-requires c κs = tt
 
 raise-befores-requires : tie.Need-raise-befores-requires
-raise-befores-requires c κs = let p = c .before .before .before .before .before .before .before .before .before .before .before .before .before .before .before .pre in let x = c .before .before .before .before .raise-afters .ensures in (omega (arith, p .4, x .long), x .good (p .5))
+raise-befores-requires c κs =
+    let a = c .before .before .before .before in
+    let p = a .before .before .before .before .before .before .before .before .before .before .before .pre in
+    (omega (arith, p .4, a .raise-afters .ensures .long), a .raise-afters .ensures .good (p .5))
 
 returns-2 : tie.Need-returns-2
-returns-2 c = row-raised _ _ _ (c .before .before .before .before .before .before .before .before .before .before .before .before .before .row-in .ensures) (c .before .before .before .before .before .before .before .before .before .before .before .before .before .before .before .before .pre .3) _ (c .before .before .before .before .before .before .wide .ensures .0) (c .before .before .wide2 .ensures .0) (c .before .less .ensures) (c .before .before .before .before .before .raise-afters .ensures) (c .raise-befores .ensures)
+returns-2 c =
+    let a = c .before .before .before .before .before in
+    let r = a .before .before .before .before .before .before .before .before in
+    row-raised _ _ _ (r .row-in .ensures) (r .before .before .before .pre .3) _ (a .before .wide .ensures .0)
+    (c .before .before .wide2 .ensures .0) (c .before .less .ensures) (a .raise-afters .ensures) (c .raise-befores .ensures)
 
 pub raise-row-spec : {M : Type 1} → statement M
 raise-row-spec = tie.close (tie.spec row-in-requires is-none-requires returns add-wide shared-slice-read-wide wide-requires raise-afters-requires add-wide-2 shared-slice-read-wide-2 wide-requires-2 less-requires raise-befores-requires returns-2)
