@@ -19,7 +19,7 @@ use Rattle.bit_sets.specs.declared.Set.{Set}
 use Rattle.reach.specs.declared.Row.{Row}
 use Rattle.reach.specs.Rows.{cellOf, Good, Sub, rowOf, valueOf}
 use Rattle.lists.specs.Laws.{here, at-in, flat-take-suc, in-upTo, upTo-in, true-or-false, true-or-l, true-or-r, true-and, and-true, or-true, not-is-true, clash, same-tests, any-in, any-found}
-use Rattle.arrangement_reader.specs.Lined.{TellsOrder, Taken, IsSet, Meets, Unites, pathOf, strictOf, Lacks, WithLacking, Grouped, brokenFrom}
+use Rattle.arrangement_reader.specs.Lined.{EventsIn, TellsOrder, Taken, IsSet, Meets, Unites, pathOf, strictOf, Lacks, WithLacking, Grouped, brokenFrom}
 use Rattle.arrangement_reader.specs.declared.Group.{Group}
 use Rattle.arrangement_reader.proofs.Distinct.{member-in, in-member, repeats-apart, distinct-few}
 use Rattle.arrangement_reader.proofs.Ordering.{end-next, end-most, parted, line-out}
@@ -239,20 +239,21 @@ module _ {n m : ℕ} {xs lined : List ℕ} {gs : List (List ℕ)} (T : Taken n m
 
   -- where line k starts and ends, and its events
   pub line-ends : {k from to : ℕ} → n ≤ 128 → 0 < k → k ≤ m → from ≡ getD lined (127 + k) 0 → to ≡ getD lined (128 + k) 0
-      → (from ≤ to) × (to ≤ 128) × (length lined ≡ 257) × ((i : ℕ) → i < to → getD lined i 0 < 128)
+      → EventsIn lined from to
   line-ends {k} {from} {to} few some most p q =
       let j : ℕ = k - 1 in
       let a : 127 + k ≡ 128 + j = omega arith in
       let b : k ≡ suc j = omega arith in
       let x : from ≡ length (flat (take j gs)) = p ∙ ap (λ (z : ℕ). getD lined z 0) a ∙ T .ordered .ends j (omega (arith, T .lines)) in
       let y : to ≡ length (flat (take (suc j) gs)) = q ∙ T .ordered .ends k (omega (arith, T .lines)) ∙ ap (λ (z : ℕ). length (flat (take z gs))) b in
-      let l : length (flat gs) ≤ n = distinct-few n (flat gs) (T .known) (T .once) in (
-        omega (arith, end-next (T .ordered) j (omega (arith, T .lines))),
-        omega (arith, end-most (T .ordered) (suc j)),
-        T .ordered .long,
-        λ i h. let u : i < length (flat gs) = omega (arith, end-most (T .ordered) (suc j)) in
-            omega (arith, sym (getD-take (length (flat gs)) lined i 0 u) ∙ ap (λ (z : List ℕ). getD z i 0) (T .ordered .events), T .known _ (at-in 0 (flat gs) i u)),
-      )
+      let l : length (flat gs) ≤ n = distinct-few n (flat gs) (T .known) (T .once) in
+      record {
+        order = omega (arith, end-next (T .ordered) j (omega (arith, T .lines)));
+        most = omega (arith, end-most (T .ordered) (suc j));
+        long = T .ordered .long;
+        known = λ i h. let u : i < length (flat gs) = omega (arith, end-most (T .ordered) (suc j)) in
+            omega (arith, sym (getD-take (length (flat gs)) lined i 0 u) ∙ ap (λ (z : List ℕ). getD z i 0) (T .ordered .events), T .known _ (at-in 0 (flat gs) i u));
+      }
 
 pub behind-more : {n m : ℕ} {t xs lined : List ℕ} (j : ℕ) {r r′ from to : ℕ} {late late′ u : Set} {g : Group} {b : Bool} → n ≤ 128 → Good t → j < m → from ≡ getD lined (128 + j) 0 → to ≡ getD lined (128 + suc j) 0
     → Grouped t (take (to - from) (drop from lined)) g → ((f : ℕ) → has u f ≡ max (has late f) (has (g .strict) f)) → Meets u (g .line) b → r′ ≡ cond b (suc j) r

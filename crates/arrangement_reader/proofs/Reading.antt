@@ -29,7 +29,7 @@ use Rattle.number_lines.specs.Numbers.{Begins, Listing, ListAt}
 use Rattle.number_lines.specs.declared.Listed.{Listed}
 use Rattle.number_lines.proofs.Lines.{few-known}
 use Rattle.number_lines.proofs.Listing.{list-to}
-use Rattle.arrangement_reader.specs.Lined.{Stands, Lined, Ordered, Taken, Entered, EntersFrom, AddsLine, brokenFrom}
+use Rattle.arrangement_reader.specs.Lined.{Enterable, Addable, Stands, Lined, Ordered, Taken, Entered, EntersFrom, AddsLine, brokenFrom}
 use Rattle.arrangement_reader.specs.Arrangement.{answerOf, goesOf, KnownBy, malformed, unknown, known, KnownLine, KnownAt, unlessBroken, ReadsLines}
 use Rattle.arrangement_reader.specs.declared.Known.{Known}
 use Rattle.arrangement_reader.specs.declared.ArrangementAnswer.{ArrangementAnswer}
@@ -247,16 +247,16 @@ module _ {n : ℕ} {text : List ℕ} {k i : ℕ} {xs lined : List ℕ} (g : Read
       low = all-below n now .0 (kept .low)
 
       -- what entering the events relies on
-      pub enter-room : (0 < k) × (length xs ≡ 128) × (length events ≡ 128) × (a .count ≤ 128 → (j : ℕ) → j < a .count → getD events j 0 < 128)
-      enter-room = (
-        omega (arith, g .stood .lines),
-        g .stood .stands .long,
-        K .long,
-        λ h j l.
+      pub enter-room : Enterable k xs events (a .count)
+      enter-room = record {
+        line = omega (arith, g .stood .lines);
+        long = g .stood .stands .long;
+        events-long = K .long;
+        known = λ h j l.
             let b = kept .begins h in
             let u : j < length now = omega (arith, kept .counted) in
-            omega (arith, low _ (at-in 0 now j u), g .few, sym (getD-take (length now) events j 0 u) ∙ ap (λ (zs : List ℕ). getD zs j 0) (b .numbers)),
-      )
+            omega (arith, low _ (at-in 0 now j u), g .few, sym (getD-take (length now) events j 0 u) ∙ ap (λ (zs : List ℕ). getD zs j 0) (b .numbers));
+      }
 
       own : a .count ≤ 128 → take (a .count) events ≡ now
       own h = ap (λ (j : ℕ). take j events) (kept .counted) ∙ kept .begins h .numbers
@@ -285,14 +285,14 @@ module _ {n : ℕ} {text : List ℕ} {k i : ℕ} {xs lined : List ℕ} (g : Read
           stood-more = lined-more (g .stood) low once (has-number (K .found .line) (kept .formed)) (entered short .stands q)
 
           -- what putting the events behind those before relies on
-          pub add-room : (length lined ≡ 257) × (length events ≡ 128) × (0 < k) × (k ≤ 128) × (getD lined (127 + k) 0 + a .count ≤ 128)
-          add-room = (
-            g .ordered .long,
-            K .long,
-            omega (arith, g .stood .lines),
-            omega (arith, lines-few stood-more (g .few)),
-            omega (arith, from-is (g .ordered) (g .stood .lines), all-few (g .stood) low once (g .few), kept .counted),
-          )
+          pub add-room : Addable lined events (a .count) k
+          add-room = record {
+            long = g .ordered .long;
+            events-long = K .long;
+            some = omega (arith, g .stood .lines);
+            few = omega (arith, lines-few stood-more (g .few));
+            room = omega (arith, from-is (g .ordered) (g .stood .lines), all-few (g .stood) low once (g .few), kept .counted);
+          }
 
           pub turn : {lined′ : List ℕ} → AddsLine lined events (a .count) k lined′ → Reading n text (k + 1) (a .next) xs′ lined′
           turn A = record {

@@ -1,13 +1,16 @@
-// The lines of an arrangement: read and entered one after the other (refusals 41 to 43), held to the order of their events
-// from the last to the first (44), and searched for an event that is missing (45).
+// The lines of an arrangement: read and entered one after the other (refusals 41 to 43), held to the order of their
+// events from the last to the first (44), and searched for an event that is missing (45).
 ghost use mathlib.Core.Path.{_≡_};
 ghost use mathlib.Core.Bool.{cond};
-ghost use Prim.Native.Nat.{ℕ, _+_, _-_, _<_, _≤_};
-ghost use lib.ListN.{length, getD, take, drop, replicate};
+ghost use Prim.Native.Nat.{_-_, _<_, _≤_};
+ghost use lib.ListN.{length, take, drop, replicate};
 ghost use Rattle.lines.specs.Lines.{lineOf};
 ghost use Rattle.reach.specs.Rows.{Good};
-ghost use Rattle.arrangement_reader.specs.Lined.{EntersFrom, AddsLine, AnyTaken, Meets, Unites, pathOf, Lacks, WithLacking, Grouped, FindsBroken};
-ghost use Rattle.arrangement_reader.specs.Arrangement.{answerOf, goesOf, linesIn, KnownLine, KnownAt, ReadsLines, finished};
+ghost use Rattle.arrangement_reader.specs.Lined.{eventCount, linedSize, Enterable, EntersFrom, Addable};
+ghost use Rattle.arrangement_reader.specs.Lined.{AddsLine, AnyTaken, Meets, Unites, pathOf, Lacks, WithLacking};
+ghost use Rattle.arrangement_reader.specs.Lined.{EventsIn, Grouped, FindsBroken};
+ghost use Rattle.arrangement_reader.specs.Arrangement.{answerOf, goesOf, linesIn, KnownLine, KnownAt};
+ghost use Rattle.arrangement_reader.specs.Arrangement.{ReadsLines, finished};
 use bit_sets::Set;
 use bit_sets::first;
 use bit_sets::meet;
@@ -30,6 +33,12 @@ use spec::Class;
 pub const STANDS: usize = 128;
 
 pub const LINED: usize = 257;
+
+// Where it starts to say how many events the first lines have, none of them first; and where it says of line k, counted
+// from 1, how many the lines before it have.
+pub const ENDS: usize = 128;
+
+const BEFORE: usize = ENDS - 1;
 
 // What is answered to an arrangement: how many lines keep the order, or a refusal with its line or the missing event.
 pub enum ArrangementAnswer {
@@ -100,7 +109,7 @@ pub fn lines_in(a: ArrangementAnswer) -> usize
     }
 }
 
-// 41 and 42 of a line, with its numbers for an array that has room for 128.
+// 41 and 42 of a line, with its numbers, if there is room for them in an array.
 fn known_line(
     k: usize,
     l: &[u8],
@@ -109,7 +118,7 @@ fn known_line(
     next: usize,
     events: &mut [u8; NUMBERS],
 ) -> Known
-    requires { ⌜ (n ≤ 128) × (length (now events) ≡ 128) ⌝ }
+    requires { ⌜ (n ≤ eventCount) × (length (now events) ≡ eventCount) ⌝ }
     ensures { λ r. ⌜ KnownLine n k (lineOf (now (l .entry)) ended) next r (now (events .exit)) ⌝ }
 {
     if !is_list_line(Class::LetterG, l, ended) {
@@ -119,7 +128,7 @@ fn known_line(
         return line_known(ArrangementAnswer::Unknown(k), 0, next);
     }
     let count = count_numbers(l);
-    if 128 < count {
+    if NUMBERS < count {
         return line_known(ArrangementAnswer::Keeps(k), count, next);
     }
     let xs = numbers(l);
@@ -127,10 +136,10 @@ fn known_line(
     line_known(ArrangementAnswer::Keeps(k), count, next)
 }
 
-// 41 and 42 of the line that starts at a position. A plain line is read in one walk; any other goes to the readers of lines
-// and fields, and so does every malformed one.
+// 41 and 42 of the line that starts at a position. A plain line is read in one walk; any other goes to the readers of
+// lines and fields, and so does every malformed one.
 fn known_at(k: usize, text: &[u8], at: usize, n: usize, events: &mut [u8; NUMBERS]) -> Known
-    requires { ⌜ (at < length (now text)) × (n ≤ 128) × (length (now events) ≡ 128) ⌝ }
+    requires { ⌜ (at < length (now text)) × (n ≤ eventCount) × (length (now events) ≡ eventCount) ⌝ }
     ensures { λ r. ⌜ KnownAt n k (now (text .entry)) at r (now (events .exit)) ⌝ }
 {
     let f = list_at(b'G', text, at, events);
@@ -147,10 +156,10 @@ fn known_at(k: usize, text: &[u8], at: usize, n: usize, events: &mut [u8; NUMBER
 
 // 43: each event of line k is entered; whether one of them has a line already, as it is with more than there are.
 fn enter_events(stands: &mut [u8; STANDS], events: &[u8; NUMBERS], count: usize, k: u8) -> bool
-    requires { ⌜ (0 < k) × (length (now stands) ≡ 128) × (length (now events) ≡ 128) × (count ≤ 128 → (i : ℕ) → i < count → getD (now events) i 0 < 128) ⌝ }
+    requires { ⌜ Enterable k (now stands) (now events) count ⌝ }
     ensures { λ r. ⌜ EntersFrom k (now (stands .entry)) (now (events .entry)) count r (now (stands .exit)) ⌝ }
 {
-    if 128 < count {
+    if NUMBERS < count {
         return true;
     }
     let mut i: usize = 0;
@@ -167,16 +176,16 @@ fn enter_events(stands: &mut [u8; STANDS], events: &[u8; NUMBERS], count: usize,
 
 // The events of line k are put behind those of the lines before it.
 fn add_line(lined: &mut [u8; LINED], events: &[u8; NUMBERS], count: usize, k: usize)
-    requires { ⌜ (length (now lined) ≡ 257) × (length (now events) ≡ 128) × (0 < k) × (k ≤ 128) × (getD (now lined) (127 + k) 0 + count ≤ 128) ⌝ }
+    requires { ⌜ Addable (now lined) (now events) count k ⌝ }
     ensures { λ _. ⌜ AddsLine (now (lined .entry)) (now (events .entry)) count k (now (lined .exit)) ⌝ }
 {
-    let from = wide(lined[127 + k]);
+    let from = wide(lined[BEFORE + k]);
     let mut i: usize = 0;
     while i < count {
         lined[from + i] = events[i];
         i += 1;
     }
-    lined[128 + k] = (from + count) as u8;
+    lined[ENDS + k] = (from + count) as u8;
 }
 
 // The answer to the lines, and how many were taken.
@@ -193,7 +202,7 @@ pub fn read_lines(
     stands: &mut [u8; STANDS],
     lined: &mut [u8; LINED],
 ) -> LinesRead
-    requires { ⌜ (n ≤ 128) × (now stands ≡ replicate 128 0) × (now lined ≡ replicate 257 0) ⌝ }
+    requires { ⌜ (n ≤ eventCount) × (now stands ≡ replicate eventCount 0) × (now lined ≡ replicate linedSize 0) ⌝ }
     ensures { λ r. ⌜ ReadsLines n (now (text .entry)) r (now (stands .exit)) (now (lined .exit)) ⌝ }
 {
     let mut events = [0u8; NUMBERS];
@@ -225,7 +234,7 @@ fn meets(a: Set, b: Set) -> bool
 
 // The set, and with it that of an event in line x where x is none of the first lines.
 fn with_lacking(r: Set, more: Set, lines: usize, x: usize) -> Set
-    requires { ⌜ lines ≤ 128 ⌝ }
+    requires { ⌜ lines ≤ eventCount ⌝ }
     ensures { λ s. ⌜ WithLacking r more lines x s ⌝ }
 {
     if (0 < x) & (x < lines + 1) {
@@ -236,7 +245,7 @@ fn with_lacking(r: Set, more: Set, lines: usize, x: usize) -> Set
 
 // What one of the events without a line is not later than.
 fn behind_lacking(w: &[u64; WORDS], n: usize, stands: &[u8; STANDS], lines: usize) -> Set
-    requires { ⌜ (n ≤ 128) × (lines ≤ 128) ⌝ }
+    requires { ⌜ (n ≤ eventCount) × (lines ≤ eventCount) ⌝ }
     ensures { λ r. ⌜ Unites (pathOf (now (w .entry))) (Lacks n lines (now (stands .entry))) r ⌝ }
 {
     let mut r = none();
@@ -251,7 +260,7 @@ fn behind_lacking(w: &[u64; WORDS], n: usize, stands: &[u8; STANDS], lines: usiz
 
 // The events from one place of an array up to another.
 fn group_of(w: &[u64; WORDS], lined: &[u8; LINED], from: usize, to: usize) -> Group
-    requires { ⌜ (from ≤ to) × (to ≤ 128) × (length (now lined) ≡ 257) × ((i : ℕ) → i < to → getD (now lined) i 0 < 128) ⌝ }
+    requires { ⌜ EventsIn (now lined) from to ⌝ }
     ensures { λ r. ⌜ Grouped (now (w .entry)) (take (to - from) (drop from (now (lined .entry)))) r ⌝ }
 {
     let mut line = none();
@@ -276,8 +285,8 @@ fn choose(t: bool, k: usize, r: usize) -> usize
     if t { k } else { r }
 }
 
-// 44: the lowest line that breaks the order, or 0. From the last line to the first `late` has what an event that stands in
-// no line up to this one is not later than.
+// 44: the lowest line that breaks the order, or 0. From the last line to the first `late` has what an event that stands
+// in no line up to this one is not later than.
 pub fn first_broken(
     w: &[u64; WORDS],
     n: usize,
@@ -285,15 +294,15 @@ pub fn first_broken(
     lined: &[u8; LINED],
     lines: usize,
 ) -> usize
-    requires { ⌜ (n ≤ 128) × Good (now w) × AnyTaken n lines (now stands) (now lined) ⌝ }
+    requires { ⌜ (n ≤ eventCount) × Good (now w) × AnyTaken n lines (now stands) (now lined) ⌝ }
     ensures { λ r. ⌜ FindsBroken n lines (now (w .entry)) (now (stands .entry)) (now (lined .entry)) r ⌝ }
 {
     let mut late = behind_lacking(w, n, stands, lines);
     let mut r: usize = 0;
     let mut k = lines;
     while 0 < k {
-        let from = wide(lined[127 + k]);
-        let to = wide(lined[128 + k]);
+        let from = wide(lined[BEFORE + k]);
+        let to = wide(lined[ENDS + k]);
         let g = group_of(w, lined, from, to);
         r = choose(meets(union(late, g.strict), g.line), k, r);
         late = union(late, g.path);
@@ -304,7 +313,7 @@ pub fn first_broken(
 
 // 45: the lowest event that no line has, after so many lines.
 pub fn finish(stands: &[u8; STANDS], n: usize, lines: usize) -> ArrangementAnswer
-    requires { ⌜ n ≤ 128 ⌝ }
+    requires { ⌜ n ≤ eventCount ⌝ }
     ensures { λ r. ⌜ answerOf r ≡ finished (now (stands .entry)) n lines ⌝ }
 {
     let mut e: usize = 0;

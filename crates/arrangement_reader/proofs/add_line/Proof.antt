@@ -1,5 +1,6 @@
--- The first i events stand behind those of the lines before.
-use Prim.Native.Nat.{_-_, _≤_}
+-- `arrangement_reader::add_line` meets its contract. The loop's invariant: the first i events of the line stand behind
+-- those of the lines before.
+use Prim.Native.Nat.{_+_, _-_, _≤_}
 use mathlib.Core.Path.{refl}
 use native.Mathlib.Omega.{arith}
 use Rattle.arrangement_reader.proofs.Ordering.{Adding, adding-none, adding-more, adding-end}
@@ -13,25 +14,33 @@ abbrev μ-loop : tie.MeasureT-loop
 μ-loop lined₀ events count k from i₀ lined i = count - i
 
 add-wide : tie.Need-add-wide Inv-loop μ-loop
-add-wide c = omega (arith, c .pre .3)
+add-wide c = omega (arith, c .pre .few)
 
 element-copy-out-wide : tie.Need-element-copy-out-wide Inv-loop μ-loop
-element-copy-out-wide c = omega (arith, c .pre .3)
+element-copy-out-wide c = omega (arith, c .pre .few)
 
 wide-requires : tie.Need-wide-requires Inv-loop μ-loop
 wide-requires c κs = tt
 
 loop-holds : tie.Need-loop-holds Inv-loop μ-loop
-loop-holds c = (omega arith, adding-none (c .before .before .pre .0))
+loop-holds c = (omega arith, adding-none (c .before .before .pre .long))
+
+-- the start, seen from the head of the loop
+abbrev start : tie.At-loop Inv-loop μ-loop → tie.Start Inv-loop μ-loop
+start l = l .before .before .before
+
+-- the events of the line stand in front of the counts
+room : (l : tie.At-loop Inv-loop μ-loop) → l .before .wide .result + start l .args .count ≤ 128
+room l = omega (arith, start l .pre .room, l .before .wide .ensures .0)
 
 element-copy-out-lined : tie.Need-element-copy-out-lined Inv-loop μ-loop
-element-copy-out-lined c = let l = c .before in let s = l .before .before .before in omega (arith, s .pre .4)
+element-copy-out-lined c = let s = start (c .before) in omega (arith, s .pre .room, s .pre .events-long)
 
 add-lined : tie.Need-add-lined Inv-loop μ-loop
-add-lined c = let l = c .before .before in let s = l .before .before .before in omega (arith, s .pre .4, l .before .wide .ensures .0)
+add-lined c = omega (arith, room (c .before .before))
 
 element-write-lined : tie.Need-element-write-lined Inv-loop μ-loop
-element-write-lined c = let l = c .before .before in let s = l .before .before .before in omega (arith, s .pre .4, l .before .wide .ensures .0)
+element-write-lined c = omega (arith, room (c .before .before))
 
 add-i : tie.Need-add-i Inv-loop μ-loop
 add-i c = omega arith
@@ -40,24 +49,28 @@ loop-less : tie.Need-loop-less Inv-loop μ-loop
 loop-less c = omega arith
 
 loop-again : tie.Need-loop-again Inv-loop μ-loop
-loop-again c = let l = c .before .before in let s = l .before .before .before in
-    (omega arith, adding-more (omega (arith, s .pre .4, l .before .wide .ensures .0)) (omega (arith, s .pre .1, s .pre .4)) (l .loop .inv .1))
+loop-again c =
+    let l = c .before .before in
+    let p = start l .pre in
+    (omega arith, adding-more (omega (arith, room l)) (omega (arith, p .events-long, p .room)) (l .loop .inv .1))
 
 add-lined-2 : tie.Need-add-lined-2 Inv-loop μ-loop
-add-lined-2 c = let l = c .before in let s = l .before .before .before in omega (arith, s .pre .4, l .before .wide .ensures .0)
+add-lined-2 c = omega (arith, room (c .before))
 
 cast-lined : tie.Need-cast-lined Inv-loop μ-loop
-cast-lined c = let l = c .before in let s = l .before .before .before in omega (arith, s .pre .4, l .before .wide .ensures .0)
+cast-lined c = omega (arith, room (c .before))
 
 add-lined-3 : tie.Need-add-lined-3 Inv-loop μ-loop
-add-lined-3 c = let s = c .before .before .before .before in omega (arith, s .pre .3)
+add-lined-3 c = omega (arith, start (c .before) .pre .few)
 
 element-write-lined-2 : tie.Need-element-write-lined-2 Inv-loop μ-loop
-element-write-lined-2 c = let s = c .before .before .before .before in omega (arith, s .pre .3)
+element-write-lined-2 c = omega (arith, start (c .before) .pre .few)
 
 returns : tie.Need-returns Inv-loop μ-loop
-returns c = let l = c .before in let s = l .before .before .before in
-    adding-end (l .before .wide .ensures .0) (omega arith) (omega (arith, s .pre .4, l .before .wide .ensures .0)) (s .pre .3) (s .pre .2) refl (l .loop .inv .1)
+returns c =
+    let l = c .before in
+    let p = start l .pre in
+    adding-end (l .before .wide .ensures .0) (omega arith) (room l) (p .few) (p .some) refl (l .loop .inv .1)
 
 pub add-line-spec : {M : Type 1} → statement M
 add-line-spec = tie.close (tie.spec Inv-loop μ-loop add-wide element-copy-out-wide wide-requires loop-holds element-copy-out-lined add-lined element-write-lined add-i loop-less loop-again add-lined-2 cast-lined add-lined-3 element-write-lined-2 returns)

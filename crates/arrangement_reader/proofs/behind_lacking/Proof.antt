@@ -1,4 +1,5 @@
--- The events below d have been looked at.
+-- `arrangement_reader::behind_lacking` meets its contract. The loop's invariant: the set has what those events below d
+-- that stand in none of the lines are not later than.
 use Prim.Native.Nat.{_-_, _≤_}
 use native.Mathlib.Omega.{arith}
 use Rattle.arrangement_reader.specs.Lined.{Unites, pathOf, Lacks}

@@ -1,3 +1,5 @@
+-- `arrangement_reader::finish` meets its contract. The loop's invariant: the lowest event from e on that has no line is
+-- the lowest of all.
 use Prim.Native.Nat.{_-_, _≤_}
 use native.Mathlib.Omega.{arith}
 use Rattle.arrangement_reader.proofs.Finishing.{MissingFrom, missing-start, missing-hit, missing-on, missing-end}

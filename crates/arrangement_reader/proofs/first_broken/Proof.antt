@@ -1,4 +1,5 @@
--- Lines k + 1 and on have been looked at.
+-- `arrangement_reader::first_broken` meets its contract. The loop's invariant: `r` is the lowest line behind line k
+-- that breaks the order, or 0, and `late` has what an event in none of the first k lines is not later than.
 use Prim.Native.Nat.{_≤_}
 use native.Mathlib.Omega.{arith}
 use Rattle.arrangement_reader.proofs.Lateness.{Behind, behind-all, behind-before, behind-none, lines-most, line-ends}
@@ -17,27 +18,35 @@ behind-lacking-requires c κs = let p = c .pre in (p .0, lines-most (p .2 .taken
 loop-holds : tie.Need-loop-holds Inv-loop μ-loop
 loop-holds c = let p = c .before .pre in (omega arith, behind-all (p .0) (c .behind-lacking .ensures))
 
+-- there are no more lines than events
+few-lines : (l : tie.At-loop Inv-loop μ-loop) → l .before .before .args .lines ≤ 128
+few-lines l = let p = l .before .before .pre in lines-most (p .2 .taken) (p .0)
+
 add-wide : tie.Need-add-wide Inv-loop μ-loop
-add-wide c = let l = c .before in let p = l .before .before .pre in omega (arith, lines-most (p .2 .taken) (p .0))
+add-wide c = omega (arith, few-lines (c .before))
 
 element-copy-out-wide : tie.Need-element-copy-out-wide Inv-loop μ-loop
-element-copy-out-wide c = let l = c .before in let p = l .before .before .pre in omega (arith, lines-most (p .2 .taken) (p .0))
+element-copy-out-wide c = omega (arith, few-lines (c .before))
 
 wide-requires : tie.Need-wide-requires Inv-loop μ-loop
 wide-requires c κs = tt
 
 add-wide-2 : tie.Need-add-wide-2 Inv-loop μ-loop
-add-wide-2 c = let l = c .before .before .before in let p = l .before .before .pre in omega (arith, lines-most (p .2 .taken) (p .0))
+add-wide-2 c = omega (arith, few-lines (c .before .before .before))
 
 element-copy-out-wide-2 : tie.Need-element-copy-out-wide-2 Inv-loop μ-loop
-element-copy-out-wide-2 c = let l = c .before .before .before in let p = l .before .before .pre in omega (arith, lines-most (p .2 .taken) (p .0))
+element-copy-out-wide-2 c = omega (arith, few-lines (c .before .before .before))
 
 wide-requires-2 : tie.Need-wide-requires-2 Inv-loop μ-loop
 wide-requires-2 c κs = tt
 
 group-of-requires : tie.Need-group-of-requires Inv-loop μ-loop
-group-of-requires c κs = let v = c .before .before in let l = v .before .before .before in let p = l .before .before .pre in
-    line-ends (p .2 .taken) (p .0) (v .before .before .loop-test .taken) (l .loop .inv .0) (v .wide .ensures .0) (c .wide2 .ensures .0)
+group-of-requires c κs =
+    let v = c .before .before in
+    let i = v .before .before in
+    let l = i .before in
+    let p = l .before .before .pre in
+    line-ends (p .2 .taken) (p .0) (i .loop-test .taken) (l .loop .inv .0) (v .wide .ensures .0) (c .wide2 .ensures .0)
 
 union-requires : tie.Need-union-requires Inv-loop μ-loop
 union-requires c κs = tt
@@ -58,8 +67,21 @@ loop-less : tie.Need-loop-less Inv-loop μ-loop
 loop-less c = omega arith
 
 loop-again : tie.Need-loop-again Inv-loop μ-loop
-loop-again c = let h = c .before in let m = h .before in let u = m .before in let g = u .before in let y = g .before in let v = y .before .before in let i = v .before .before in let l = i .before in let p = l .before .before .pre in
-    (omega arith, behind-before (p .0) (p .1) (i .loop-test .taken) (l .loop .inv .0) (v .wide .ensures .0) (y .wide2 .ensures .0) (g .group-of .ensures) (u .union .ensures) (m .meets .ensures) (h .choose .ensures) (c .union2 .ensures) (l .loop .inv .1))
+loop-again c =
+    let h = c .before in
+    let m = h .before in
+    let u = m .before in
+    let g = u .before in
+    let y = g .before in
+    let v = y .before .before in
+    let i = v .before .before in
+    let l = i .before in
+    let p = l .before .before .pre in (
+      omega arith,
+      behind-before (p .0) (p .1) (i .loop-test .taken) (l .loop .inv .0) (v .wide .ensures .0) (y .wide2 .ensures .0)
+          (g .group-of .ensures) (u .union .ensures) (m .meets .ensures) (h .choose .ensures) (c .union2 .ensures)
+          (l .loop .inv .1),
+    )
 
 returns : tie.Need-returns Inv-loop μ-loop
 returns c = behind-none (c .loop-test .left) (c .before .loop .inv .1)

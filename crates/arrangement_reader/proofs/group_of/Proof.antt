@@ -1,5 +1,6 @@
--- The events before place i have been looked at.
-use Prim.Native.Nat.{_-_, _≤_}
+-- `arrangement_reader::group_of` meets its contract. The loop's invariant: the sets are those of the events that stand
+-- before place i.
+use Prim.Native.Nat.{_-_, _≤_, _<_}
 use native.Mathlib.Omega.{arith}
 use lib.ListN.{take, drop}
 use Rattle.arrangement_reader.specs.Lined.{Grouped}
@@ -23,19 +24,33 @@ none-requires-3 : tie.Need-none-requires-3 Inv-loop μ-loop
 none-requires-3 c κs = tt
 
 loop-holds : tie.Need-loop-holds Inv-loop μ-loop
-loop-holds c = let s = c .before .before .before in (omega arith, s .pre .0, grouped-none (s .args .w .now) (s .args .lined .now) (s .args .from) (c .before .before .none .ensures) (c .before .none2 .ensures) (c .none3 .ensures))
+loop-holds c =
+    let s = c .before .before .before in (
+      omega arith,
+      s .pre .order,
+      grouped-none (s .args .w .now) (s .args .lined .now) (s .args .from) (c .before .before .none .ensures)
+          (c .before .none2 .ensures) (c .none3 .ensures),
+    )
 
 element-copy-out-wide : tie.Need-element-copy-out-wide Inv-loop μ-loop
-element-copy-out-wide c = let s = c .before .before .before .before .before in omega (arith, s .pre .1, c .loop-test .taken)
+element-copy-out-wide c = let s = c .before .before .before .before .before in omega (arith, s .pre .most, c .loop-test .taken)
 
 wide-requires : tie.Need-wide-requires Inv-loop μ-loop
 wide-requires c κs = tt
 
+-- what stands in the array before the end is an event
+known-event : (v : tie.After-wide Inv-loop μ-loop) → v .wide .result < 128
+known-event v =
+    let i = v .before .before in
+    let l = i .before in
+    let s = l .before .before .before .before in
+    omega (arith, v .wide .ensures .0, s .pre .known (l .loop .i) (i .loop-test .taken))
+
 row-at-requires : tie.Need-row-at-requires Inv-loop μ-loop
-row-at-requires c κs = let l = c .before .before .before in let s = l .before .before .before .before in omega (arith, c .wide .ensures .0, s .pre .3 (l .loop .i) (c .before .before .loop-test .taken))
+row-at-requires c κs = known-event c
 
 one-requires : tie.Need-one-requires Inv-loop μ-loop
-one-requires c κs = let v = c .before in let l = v .before .before .before in let s = l .before .before .before .before in omega (arith, v .wide .ensures .0, s .pre .3 (l .loop .i) (v .before .before .loop-test .taken))
+one-requires c κs = known-event (c .before)
 
 union-requires : tie.Need-union-requires Inv-loop μ-loop
 union-requires c κs = tt
@@ -53,12 +68,19 @@ loop-less : tie.Need-loop-less Inv-loop μ-loop
 loop-less c = omega arith
 
 loop-again : tie.Need-loop-again Inv-loop μ-loop
-loop-again c = let o = c .before .before .before in let v = o .before .before in let i = v .before .before in let l = i .before in let s = l .before .before .before .before in (
-  omega (arith, l .loop .inv .0),
-  omega (arith, i .loop-test .taken),
-  grouped-more (s .args .w .now) (s .args .lined .now) (s .args .from) (l .loop .i) (v .wide .result) (o .one .result) (l .loop .inv .0) (omega (arith, s .pre .1, s .pre .2, i .loop-test .taken)) (v .wide .ensures .0)
-      (omega (arith, v .wide .ensures .0, s .pre .3 (l .loop .i) (i .loop-test .taken))) (o .before .row-at .ensures) (o .one .ensures) (c .before .before .union .ensures) (c .before .union2 .ensures) (c .union3 .ensures) (l .loop .inv .2),
-)
+loop-again c =
+    let o = c .before .before .before in
+    let v = o .before .before in
+    let i = v .before .before in
+    let l = i .before in
+    let s = l .before .before .before .before in (
+      omega (arith, l .loop .inv .0),
+      omega (arith, i .loop-test .taken),
+      grouped-more (s .args .w .now) (s .args .lined .now) (s .args .from) (l .loop .i) (v .wide .result) (o .one .result)
+          (l .loop .inv .0) (omega (arith, s .pre .most, s .pre .long, i .loop-test .taken)) (v .wide .ensures .0)
+          (known-event v) (o .before .row-at .ensures) (o .one .ensures) (c .before .before .union .ensures)
+          (c .before .union2 .ensures) (c .union3 .ensures) (l .loop .inv .2),
+    )
 
 returns : tie.Need-returns Inv-loop μ-loop
 returns c = let l = c .before in let s = l .before .before .before .before in

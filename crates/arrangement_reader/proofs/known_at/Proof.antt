@@ -1,3 +1,5 @@
+-- `arrangement_reader::known_at` meets its contract: a plain line is known by its letter and its numbers as the
+-- definitions know it, and any other is read as a line.
 use borrow.Author.Needs.{needs}
 use Rattle.arrangement_reader.proofs.Reading.{opens-group, plain-unknown, plain-kept, line-known-at}
 use Rattle.arrangement_reader.proofs.known_at.Statement.{statement}

@@ -1,3 +1,5 @@
+-- `arrangement_reader::meets` meets its contract: the lowest number of what two sets have in common tells whether there
+-- is one.
 use Rattle.arrangement_reader.proofs.Lateness.{meets-is}
 use Rattle.arrangement_reader.proofs.meets.Statement.{statement}
 use Rattle.arrangement_reader.proofs.meets.Tie as tie

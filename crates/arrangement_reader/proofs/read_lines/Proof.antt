@@ -1,9 +1,12 @@
--- The lines up to a position are read.
+-- `arrangement_reader::read_lines` meets its contract. The loop's invariant: the lines up to a position are taken, and
+-- what is left of the text goes on from them; a line that is refused ends the reading.
 use Prim.Native.Nat.{_+_, _-_, _≤_}
 use mathlib.Core.Path.{_≡_, refl, sym, _∙_}
 use native.Mathlib.Omega.{arith}
 use lib.ListN.{length}
 use borrow.Author.Tests.{not-true, not-false}
+use mathlib.Core.Bool.{true}
+use Rattle.arrangement_reader.specs.Arrangement.{goesOf}
 use Rattle.arrangement_reader.proofs.Reading.{Reading, begun, stop, enter-room, again-stop, add-room, turn, done, lines-few}
 use Rattle.arrangement_reader.proofs.read_lines.Statement.{statement}
 use Rattle.arrangement_reader.proofs.read_lines.Tie as tie
@@ -24,45 +27,78 @@ goes-requires : tie.Need-goes-requires Inv-loop μ-loop
 goes-requires c κs = tt
 
 sub-read-to : tie.Need-sub-read-to Inv-loop μ-loop
-sub-read-to c = let a = c .before .before in let g = a .before .before .before .loop .inv .2 in omega (arith, g .stood .lines)
+sub-read-to c = omega (arith, c .before .before .before .before .before .loop .inv .2 .stood .lines)
 
 read-to-requires : tie.Need-read-to-requires Inv-loop μ-loop
 read-to-requires c κs = tt
 
 returns : tie.Need-returns Inv-loop μ-loop
-returns c = let i = c .before in let a = i .before .before in let g = a .before .before .before .loop .inv .2 in
-    rw (c .read-to .ensures) (stop g (a .known-at .ensures) (sym (i .before .goes .ensures) ∙ not-true _ (i .if1 .taken)))
+returns c =
+    let i = c .before in
+    let a = i .before .before in
+    rw (c .read-to .ensures)
+    (stop (a .before .before .before .loop .inv .2) (a .known-at .ensures)
+    (sym (i .before .goes .ensures) ∙ not-true _ (i .if1 .taken)))
+
+-- behind the first test the line is one of known events
+goes-on : (i : tie.Else1 Inv-loop μ-loop) → goesOf (i .before .before .known-at .result .answer) ≡ true
+goes-on i = sym (i .before .goes .ensures) ∙ not-false _ (i .if1 .left)
+
+-- what is read so far, seen from there
+abbrev lines-of : (i : tie.Else1 Inv-loop μ-loop) → tie.At-loop Inv-loop μ-loop
+lines-of i = i .before .before .before .before .before
 
 cast-enter-events : tie.Need-cast-enter-events Inv-loop μ-loop
-cast-enter-events c = let i = c .before .before in let a = i .before .before in let g = a .before .before .before .loop .inv .2 in omega (arith, lines-few (g .stood) (g .few))
+cast-enter-events c = let g = lines-of (c .before .before) .loop .inv .2 in omega (arith, lines-few (g .stood) (g .few))
 
 enter-events-requires : tie.Need-enter-events-requires Inv-loop μ-loop
-enter-events-requires c κs = let i = c .before .before in let a = i .before .before in let g = a .before .before .before .loop .inv .2 in
-    enter-room g (a .known-at .ensures) (sym (i .before .goes .ensures) ∙ not-false _ (i .if1 .left))
+enter-events-requires c κs =
+    let i = c .before .before in
+    enter-room (lines-of i .loop .inv .2) (i .before .before .known-at .ensures) (goes-on i)
 
 sub-read-to-2 : tie.Need-sub-read-to-2 Inv-loop μ-loop
-sub-read-to-2 c = let i = c .before .before .before .before in let a = i .before .before in let g = a .before .before .before .loop .inv .2 in omega (arith, g .stood .lines)
+sub-read-to-2 c = omega (arith, lines-of (c .before .before .before .before) .loop .inv .2 .stood .lines)
 
 read-to-requires-2 : tie.Need-read-to-requires-2 Inv-loop μ-loop
 read-to-requires-2 c κs = tt
 
 returns-2 : tie.Need-returns-2 Inv-loop μ-loop
-returns-2 c = let j = c .before in let e = j .before in let i = e .before .before .before in let a = i .before .before in let g = a .before .before .before .loop .inv .2 in
-    rw (c .read-to2 .ensures) (again-stop g (a .known-at .ensures) (sym (i .before .goes .ensures) ∙ not-false _ (i .if1 .left)) (e .enter-events .ensures) (j .if2 .taken))
+returns-2 c =
+    let j = c .before in
+    let e = j .before in
+    let i = e .before .before .before in
+    rw (c .read-to2 .ensures)
+    (again-stop (lines-of i .loop .inv .2) (i .before .before .known-at .ensures) (goes-on i) (e .enter-events .ensures)
+    (j .if2 .taken))
 
 add-line-requires : tie.Need-add-line-requires Inv-loop μ-loop
-add-line-requires c κs = let j = c .before .before in let e = j .before in let i = e .before .before .before in let a = i .before .before in let g = a .before .before .before .loop .inv .2 in
-    add-room g (a .known-at .ensures) (sym (i .before .goes .ensures) ∙ not-false _ (i .if1 .left)) (e .enter-events .ensures) (j .if2 .left)
+add-line-requires c κs =
+    let j = c .before .before in
+    let e = j .before in
+    let i = e .before .before .before in
+    add-room (lines-of i .loop .inv .2) (i .before .before .known-at .ensures) (goes-on i) (e .enter-events .ensures)
+    (j .if2 .left)
 
 add-k : tie.Need-add-k Inv-loop μ-loop
-add-k c = let j = c .before .before .before in let e = j .before in let i = e .before .before .before in let a = i .before .before in let g = a .before .before .before .loop .inv .2 in omega (arith, lines-few (g .stood) (g .few))
+add-k c =
+    let g = lines-of (c .before .before .before .before .before .before .before) .loop .inv .2 in
+    omega (arith, lines-few (g .stood) (g .few))
 
 loop-less : tie.Need-loop-less Inv-loop μ-loop
-loop-less c = let j = c .before .before .before in let e = j .before in let i = e .before .before .before in let a = i .before .before in omega (arith, a .known-at .ensures .found .on, a .known-at .ensures .found .within)
+loop-less c =
+    let a = c .before .before .before .before .before .before .before .before .before .known-at .ensures in
+    omega (arith, a .found .on, a .found .within)
 
 loop-again : tie.Need-loop-again Inv-loop μ-loop
-loop-again c = let j = c .before .before .before in let e = j .before in let i = e .before .before .before in let a = i .before .before in let g = a .before .before .before .loop .inv .2 in
-    (a .known-at .ensures .found .within, a .known-at .ensures .long, turn g (a .known-at .ensures) (sym (i .before .goes .ensures) ∙ not-false _ (i .if1 .left)) (e .enter-events .ensures) (j .if2 .left) (c .add-line .ensures))
+loop-again c =
+    let j = c .before .before .before in
+    let e = j .before in
+    let i = e .before .before .before in
+    let a = i .before .before .known-at .ensures in (
+      a .found .within,
+      a .long,
+      turn (lines-of i .loop .inv .2) a (goes-on i) (e .enter-events .ensures) (j .if2 .left) (c .add-line .ensures),
+    )
 
 sub-t25 : tie.Need-sub-t25 Inv-loop μ-loop
 sub-t25 c = let g = c .before .loop .inv .2 in omega (arith, g .stood .lines)

@@ -1,3 +1,5 @@
+-- `arrangement_reader::with_lacking` meets its contract: the test on the event's line is that of `WithLacking`, and
+-- each branch is one of its two cases.
 use mathlib.Core.Path.{refl}
 use native.Mathlib.Omega.{arith}
 use Rattle.lists.specs.Laws.{clash}
