@@ -18,12 +18,13 @@ use Rattle.lists.specs.Laws
 use Rattle.lists.specs.Tables.{table-same}
 use Rattle.columns.specs.Columns.{column, column-at}
 use Rattle.bit_sets.specs.Bits.{bit}
+use Rattle.arc_sets.specs.Walk.{Left, lowest, lowest-word, left-within, skipped, left-rest, rest-less, nothing-left}
 use Rattle.line_writer.specs.Lines.{cellAt, dueAt, earlierAt, kindIf, markBytes}
 use Rattle.record_writer.specs.Bytes.{joinedTo, eventBytes, conditionBytes, marksBytes, historyBytes, CodedTo, Writable}
 use Rattle.record_writer.specs.Notes.{noteOf, notesOf, notesTo, historyNotes, noteIf, notesIf, Puts, Room, textOf}
 use Rattle.record_writer.specs.Sets.{bitAt, Placed, WatchedBy}
 use Rattle.record_writer.specs.declared.Ends.{Ends}
-use Rattle.record_writer.proofs.Words.{at-most, Left, lowest, lowest-word, left-within, skipped, left-rest, rest-less, nothing-left}
+use Rattle.record_writer.proofs.Words.{at-most}
 use Rattle.record_writer.proofs.Noting.{puts-as, puts-after, room-as, room-before, room-behind, text-one, text-parts, parts-begin, parts-next, parts-room, parts-skip, parts-behind}
 
 -- ---- one mark

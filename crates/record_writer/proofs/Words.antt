@@ -1,20 +1,15 @@
 -- The words of sets of conditions.
-use Prim.Native.Nat.{ℕ, zero, suc, _+_, _-_, _*_, _/_, _%_, _^_, _≤_, _<_, min, max}
+use Prim.Native.Nat.{ℕ, _+_, _*_, _/_, _%_, _^_, _<_, max}
 use mathlib.Core.Path.{_≡_, refl, sym, ap, _∙_, subst}
-use mathlib.Core.Logic.{inl, inr}
 use mathlib.Core.List.{List}
-use native.Mathlib.Nat.{one-mul, pow-suc, not-suc-le-zero}
 use native.Mathlib.Decide.{ℕ-discrete, decLt}
 use native.Mathlib.Omega.{arith}
-use lib.Dec.{lit<}
-use lib.Pow.{shl-exact}
-use lib.Bits.{bitAnd, bitOr, bitXor, and-le-l}
-use lib.Count.{trailingZeros, under}
+use lib.Bits.{bitOr}
 use lib.ListN.{length, getD, set, length-set}
 use lib.Seq.{getD-set-same, getD-set-other}
-use Rattle.lists.specs.Stretch.{MappedFrom}
-use Rattle.bit_sets.specs.Bits.{bit, bit-most, bit-or, bit-less, bit-zero, bit-suc, bit-low, bit-pow, bit-pow-other, trailing}
-use Rattle.record_writer.specs.Sets.{bitAt, Tells, Placed, Watched, WatchedBy, OthersKept, Ready}
+use Rattle.bit_sets.specs.Bits.{bit, bit-most, bit-or, bit-zero, bit-pow, bit-pow-other}
+use Rattle.arc_sets.specs.Walk.{word-one}
+use Rattle.record_writer.specs.Sets.{bitAt, JoinsRow, EmptyRow, Tells, Placed, Watched, WatchedBy, OthersKept, Ready}
 
 pub at-most : (sets : List ℕ) (r c : ℕ) → bitAt sets r c < 2
 unfolding bitAt
@@ -23,9 +18,6 @@ at-most sets r c = bit-most (getD sets (8 * r + c / 64) 0) (c % 64)
 at-none : (sets : List ℕ) → ((i : ℕ) → getD sets i 0 ≡ 0) → (r c : ℕ) → bitAt sets r c ≡ 0
 unfolding bitAt
 at-none sets z r c = ap (λ (w : ℕ). bit w (c % 64)) (z (8 * r + c / 64)) ∙ bit-zero (c % 64)
-
-pub word-one : (k : ℕ) → k < 64 → (1 * 2 ^ k) % 2 ^ 64 ≡ 2 ^ k
-word-one k h = shl-exact 1 k 64 (lit< tt) (omega arith) ∙ one-mul (2 ^ k)
 
 -- ---- the sets of the places
 
@@ -86,7 +78,7 @@ watched-end {arcs} {sets} {watched} {t} n e W = subst (λ (k : ℕ). WatchedBy a
 pub others-none : (t : ℕ) (watched : List ℕ) → OthersKept t watched watched
 others-none t watched = record { long = refl; kept = λ r c d h. refl }
 
-module _ {old new : List ℕ} (sets : List ℕ) (t p : ℕ) (m : MappedFrom old (8 * t) 8 (λ w. bitOr (getD old (8 * t + w) 0) (getD sets (8 * p + w) 0)) new) where
+module _ {old new : List ℕ} (sets : List ℕ) (t p : ℕ) (m : JoinsRow old t sets p new) where
   pub joined : (c : ℕ) → c < 512 → bitAt new t c ≡ max (bitAt old t c) (bitAt sets p c)
   unfolding bitAt
   joined c h = ap (λ (w : ℕ). bit w (c % 64)) (m .here (c / 64) (omega arith)) ∙ bit-or (getD old (8 * t + c / 64) 0) (getD sets (8 * p + c / 64) 0) (c % 64)
@@ -102,7 +94,7 @@ module _ {old new : List ℕ} (sets : List ℕ) (t p : ℕ) (m : MappedFrom old 
   }
 
 module _ {arcs sets : List ℕ} {t : ℕ} where
-  pub watched-none : {watched : List ℕ} → ((c : ℕ) → c < 512 → bitAt watched t c ≡ 0) → WatchedBy arcs sets t 0 watched
+  pub watched-none : {watched : List ℕ} → EmptyRow watched t → WatchedBy arcs sets t 0 watched
   watched-none z = record { tells = λ c h. record { holds = λ x. absurd (omega (arith, x .1)); says = λ e. absurd (omega (arith, e, z c h)) } }
 
   -- the set of one place more that inhibits the transition
@@ -140,7 +132,7 @@ module _ {arcs sets known watched : List ℕ} where
   ready-none kl wl z k = record { wide = kl; long = wl; tells = λ t c l h. record { holds = λ x. absurd (x .0 (k t)); says = λ e. absurd (omega (arith, e, at-none watched z t c)) } }
 
   module _ (t : ℕ) (l : t < 32) (R : Ready arcs sets known watched) where
-    pub ready-empty : getD known t 0 ≡ 0 → (c : ℕ) → c < 512 → bitAt watched t c ≡ 0
+    pub ready-empty : getD known t 0 ≡ 0 → EmptyRow watched t
     ready-empty z c h = elim (ℕ-discrete (bitAt watched t c) 1) [
       | yes q ↦ absurd (R .tells t c l h .says q .0 z)
       | no d ↦ omega (arith, at-most watched t c)
@@ -162,73 +154,3 @@ module _ {arcs sets known watched : List ℕ} where
             record { holds = λ x. K .kept r c d h ∙ R .tells r c lr h .holds (λ z. x .0 (k ∙ z), x .1); says = λ e. let y = R .tells r c lr h .says (sym (K .kept r c d h) ∙ e) in (λ z. y .0 (sym k ∙ z), y .1) }
       ];
     }
-
--- ---- the bits of a word, from the lowest on
-
-pub trailing-below : (k x f : ℕ) → f < trailingZeros k x → bit x f ≡ 0
-unfolding trailingZeros
-trailing-below zero x f h = absurd (not-suc-le-zero h)
-trailing-below (suc k) x f h = go (x % 2) refl (trailing-below k (x / 2)) f h
-  where
-    go : (d : ℕ) → x % 2 ≡ d → ((f : ℕ) → f < trailingZeros k (x / 2) → bit (x / 2) f ≡ 0) → (f : ℕ) → f < under d (trailingZeros k (x / 2)) → bit x f ≡ 0
-    go (suc d) q b f u = absurd (not-suc-le-zero u)
-    go zero q b zero u = bit-low x ∙ q
-    go zero q b (suc f) u = bit-suc x f ∙ b f (omega arith)
-
-no-bits : (k x : ℕ) → x < 2 ^ k → ((f : ℕ) → f < k → bit x f ≡ 0) → x ≡ 0
-no-bits zero x l z = omega arith
-no-bits (suc k) x l z =
-    let q : 2 ^ suc k ≡ 2 ^ k * 2 = pow-suc 2 k in
-    omega (arith, bit-low x, z 0 (omega arith), no-bits k (x / 2) (omega arith) (λ f h. sym (bit-suc x f) ∙ z (suc f) (omega arith)))
-
--- bits holds those of word from d on
-pub record Left (word bits d : ℕ) : Type 0 where
-  pub small : bits < 2 ^ 64
-  pub done : (i : ℕ) → i < d → bit bits i ≡ 0
-  pub left : (i : ℕ) → d ≤ i → bit bits i ≡ bit word i
-
-pub left-all : (word : ℕ) → word < 2 ^ 64 → Left word word 0
-left-all word h = record { small = h; done = λ i h. absurd (not-suc-le-zero h); left = λ i h. refl }
-
-module _ {word bits d i : ℕ} (L : Left word bits d) (t : i ≡ trailingZeros 64 bits) where
-  pub lowest : (bits ≡ 0 → ⊥) → (i < 64) × (bit bits i ≡ 1)
-  lowest z = elim (trailing 64 bits) [
-    | inl r ↦ (omega (arith, r .0), ap (bit bits) t ∙ r .1)
-    | inr r ↦ absurd (z (no-bits 64 bits (L .small) (r .1)))
-  ]
-
-  module _ (b : bit bits i ≡ 1) where
-    pub left-within : d ≤ i
-    left-within = elim (decLt i d) [ yes h ↦ absurd (omega (arith, L .done i h)) | no g ↦ omega arith ]
-
-    pub lowest-word : bit word i ≡ 1
-    lowest-word = sym (L .left i left-within) ∙ b
-
-    pub skipped : (j : ℕ) → d ≤ j → j < i → bit word j ≡ 0
-    skipped j h l = sym (L .left j h) ∙ trailing-below 64 bits j (omega arith)
-
-    abbrev rest : ℕ
-    rest = bitAnd bits (bitXor bits ((1 * 2 ^ i) % 2 ^ 64))
-
-    rest-bit : i < 64 → (j : ℕ) → bit rest j ≡ min (bit bits j) (1 - bit (2 ^ i) j)
-    rest-bit h j = ap (λ (z : ℕ). bit (bitAnd bits (bitXor bits z)) j) (word-one i h) ∙ bit-less bits (2 ^ i) j
-
-    pub left-rest : i < 64 → Left word rest (i + 1)
-    left-rest h = record {
-      small = omega (arith, L .small, and-le-l bits (bitXor bits ((1 * 2 ^ i) % 2 ^ 64)));
-      done = λ j l. elim (ℕ-discrete j i) [
-        | yes q ↦ rw q (omega (arith, rest-bit h i, bit-pow i))
-        | no g ↦ omega (arith, rest-bit h j, trailing-below 64 bits j (omega arith))
-      ];
-      left = λ j l. omega (arith, rest-bit h j, bit-pow-other i j (λ q. omega arith), L .left j (omega (arith, left-within)), bit-most bits j);
-    }
-
-    -- the word gets less
-    pub rest-less : i < 64 → rest < bits
-    rest-less h = elim (ℕ-discrete rest bits) [
-      | yes q ↦ absurd (omega (arith, ap (λ (z : ℕ). bit z i) q, rest-bit h i, bit-pow i))
-      | no g ↦ omega (arith, and-le-l bits (bitXor bits ((1 * 2 ^ i) % 2 ^ 64)))
-    ]
-
-pub nothing-left : {word bits d : ℕ} → Left word bits d → bits ≡ 0 → (j : ℕ) → d ≤ j → bit word j ≡ 0
-nothing-left L z j h = sym (L .left j h) ∙ ap (λ (x : ℕ). bit x j) z ∙ bit-zero j

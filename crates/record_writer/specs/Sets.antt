@@ -1,38 +1,81 @@
 -- Sets of conditions in rows of eight words.
-use Prim.Native.Nat.{ℕ, _+_, _*_, _/_, _%_, _<_}
+use Prim.Native.Nat.{ℕ, _+_, _*_, _/_, _%_, _≤_, _<_}
 use mathlib.Core.Path.{_≡_}
 use mathlib.Core.List.{List}
+use lib.Bits.{bitOr}
 use lib.ListN.{length, getD}
+use Rattle.lists.specs.Stretch.{MappedFrom}
 use Rattle.bit_sets.specs.Bits.{bit}
+use Rattle.net.specs.NetArrays.{rowSize, inhibitorsAt}
+use Rattle.record_columns.specs.Layout.{conditionsMost, recordBytes, placesAt}
+
+-- the words of the sets by place or by transition; those of one set, and the conditions of a word; and the transitions
+-- whose sets can be known
+abbrev pub setsSize : ℕ
+setsSize = 256
+
+abbrev pub setWords : ℕ
+setWords = 8
+
+abbrev pub wordBits : ℕ
+wordBits = 64
+
+abbrev pub knownSize : ℕ
+knownSize = 32
 
 -- 1 if condition c is in the set of row r, else 0
 unfoldable pub bitAt : List ℕ → ℕ → ℕ → ℕ
-bitAt sets r c = bit (getD sets (8 * r + c / 64) 0) (c % 64)
+bitAt sets r c = bit (getD sets (setWords * r + c / wordBits) 0) (c % wordBits)
+
+-- row r has no condition
+abbrev pub EmptyRow : List ℕ → ℕ → Type 0
+EmptyRow sets r = (c : ℕ) → c < conditionsMost → bitAt sets r c ≡ 0
+
+-- what row p of some sets has joins row t of others
+abbrev pub JoinsRow : List ℕ → ℕ → List ℕ → ℕ → List ℕ → Type 0
+JoinsRow old t sets p new =
+    MappedFrom old (setWords * t) setWords
+    (λ w. bitOr (getD old (setWords * t + w) 0) (getD sets (setWords * p + w) 0)) new
 
 -- b is 1 exactly where P holds
 pub record Tells (b : ℕ) (P : Type 0) : Type 0 where
   pub holds : P → b ≡ 1
   pub says : b ≡ 1 → P
 
+-- what entering the first n conditions relies on: they stand in places of the net, and the sets are empty
+pub record Placeable (rec : List ℕ) (n : ℕ) (sets : List ℕ) : Type 0 where
+  pub few : n ≤ conditionsMost
+  pub long : recordBytes ≤ length rec
+  pub place : (c : ℕ) → c < n → getD rec (placesAt + c) 0 < 32
+  pub sets-long : length sets ≡ setsSize
+  pub zero : (i : ℕ) → getD sets i 0 ≡ 0
+
 -- the set of each place is those of the first n conditions that stand in it
 pub record Placed (rec : List ℕ) (n : ℕ) (sets : List ℕ) : Type 0 where
-  pub tells : (p c : ℕ) → p < 32 → c < 512 → Tells (bitAt sets p c) ((c < n) × (getD rec (128 + c) 0 ≡ p))
+  pub tells : (p c : ℕ) → p < 32 → c < conditionsMost
+      → Tells (bitAt sets p c) ((c < n) × (getD rec (placesAt + c) 0 ≡ p))
 
 -- condition c is in the set of one of the first n places, which inhibits transition t
 abbrev pub Watched : List ℕ → List ℕ → ℕ → ℕ → ℕ → Type 0
-Watched arcs sets t n c = (p : ℕ) × (p < n) × (0 < getD arcs (2048 + (32 * t + p)) 0) × (bitAt sets p c ≡ 1)
+Watched arcs sets t n c =
+    (p : ℕ) × (p < n) × (0 < getD arcs (inhibitorsAt + (rowSize * t + p)) 0) × (bitAt sets p c ≡ 1)
 
 -- the set of transition t is the conditions of the first n places that inhibit it
 pub record WatchedBy (arcs sets : List ℕ) (t n : ℕ) (watched : List ℕ) : Type 0 where
-  pub tells : (c : ℕ) → c < 512 → Tells (bitAt watched t c) (Watched arcs sets t n c)
+  pub tells : (c : ℕ) → c < conditionsMost → Tells (bitAt watched t c) (Watched arcs sets t n c)
 
 -- the sets of the other rows are as they were
 pub record OthersKept (t : ℕ) (old new : List ℕ) : Type 0 where
   pub long : length new ≡ length old
-  pub kept : (r c : ℕ) → (r ≡ t → ⊥) → c < 512 → bitAt new r c ≡ bitAt old r c
+  pub kept : (r c : ℕ) → (r ≡ t → ⊥) → c < conditionsMost → bitAt new r c ≡ bitAt old r c
+
+-- the set of transition t is as the first n places make it, and the sets of the other rows are as they were
+abbrev pub Watches : List ℕ → List ℕ → ℕ → ℕ → List ℕ → List ℕ → Type 0
+Watches arcs sets t n old new = WatchedBy arcs sets t n new × OthersKept t old new
 
 -- each row that is known is the set of its transition, and the others are empty
 pub record Ready (arcs sets known watched : List ℕ) : Type 0 where
-  pub wide : length known ≡ 32
-  pub long : length watched ≡ 256
-  pub tells : (t c : ℕ) → t < 32 → c < 512 → Tells (bitAt watched t c) ((getD known t 0 ≡ 0 → ⊥) × Watched arcs sets t 32 c)
+  pub wide : length known ≡ knownSize
+  pub long : length watched ≡ setsSize
+  pub tells : (t c : ℕ) → t < knownSize → c < conditionsMost
+      → Tells (bitAt watched t c) ((getD known t 0 ≡ 0 → ⊥) × Watched arcs sets t rowSize c)

@@ -1,8 +1,9 @@
--- Invariant: the conditions below c are in the sets of their places.
-use Prim.Native.Nat.{_-_, _≤_}
+-- `record_writer::enter_places` meets its contract. The loop's invariant: the conditions below c are in the sets of
+-- their places.
+use Prim.Native.Nat.{_+_, _-_, _≤_, _<_}
 use mathlib.Core.Path.{_≡_, refl, _∙_}
 use native.Mathlib.Omega.{arith}
-use lib.ListN.{length, length-set}
+use lib.ListN.{length, getD, length-set}
 use Rattle.record_writer.specs.Sets.{Placed}
 use Rattle.record_writer.proofs.Words.{placed-none, placed-more, placed-end}
 use Rattle.record_writer.proofs.enter_places.Statement.{statement}
@@ -15,7 +16,7 @@ abbrev μ-loop : tie.MeasureT-loop
 μ-loop sets₀ rec n c₀ sets c = n - c
 
 loop-holds : tie.Need-loop-holds Inv-loop μ-loop
-loop-holds c = (omega arith, placed-none _ (c .pre .4), c .pre .3)
+loop-holds c = (omega arith, placed-none _ (c .pre .zero), c .pre .sets-long)
 
 add-i : tie.Need-add-i Inv-loop μ-loop
 add-i c = omega arith
@@ -23,29 +24,33 @@ add-i c = omega arith
 shared-slice-read-i : tie.Need-shared-slice-read-i Inv-loop μ-loop
 shared-slice-read-i c = omega arith
 
+-- the place of a condition is one of the net's
+low-place : (i : tie.In-loop Inv-loop μ-loop) → getD (i .before .before .args .rec .now) (128 + i .before .loop .c) 0 < 32
+low-place i = i .before .before .pre .place (i .before .loop .c) (i .loop-test .taken)
+
 cast-i : tie.Need-cast-i Inv-loop μ-loop
-cast-i c = omega (arith, c .before .before .before .pre .2 _ (c .before .loop-test .taken))
+cast-i c = omega (arith, low-place (c .before))
 
 mul-i : tie.Need-mul-i Inv-loop μ-loop
-mul-i c = omega (arith, c .before .before .before .pre .2 _ (c .before .loop-test .taken))
+mul-i c = omega (arith, low-place (c .before))
 
 add-i-2 : tie.Need-add-i-2 Inv-loop μ-loop
-add-i-2 c = omega (arith, c .before .before .before .pre .2 _ (c .before .loop-test .taken))
+add-i-2 c = omega (arith, low-place (c .before))
 
 mul-sets : tie.Need-mul-sets Inv-loop μ-loop
-mul-sets c = omega (arith, c .before .before .before .pre .2 _ (c .before .loop-test .taken))
+mul-sets c = omega (arith, low-place (c .before))
 
 element-copy-out-sets : tie.Need-element-copy-out-sets Inv-loop μ-loop
-element-copy-out-sets c = omega (arith, c .before .before .before .pre .2 _ (c .before .loop-test .taken))
+element-copy-out-sets c = omega (arith, low-place (c .before))
 
 shl-sets : tie.Need-shl-sets Inv-loop μ-loop
 shl-sets c = omega arith
 
 mul-sets-2 : tie.Need-mul-sets-2 Inv-loop μ-loop
-mul-sets-2 c = omega (arith, c .before .before .before .before .pre .2 _ (c .before .before .loop-test .taken))
+mul-sets-2 c = omega (arith, low-place (c .before .before))
 
 element-write-sets : tie.Need-element-write-sets Inv-loop μ-loop
-element-write-sets c = omega (arith, c .before .before .before .before .pre .2 _ (c .before .before .loop-test .taken))
+element-write-sets c = omega (arith, low-place (c .before .before))
 
 add-c : tie.Need-add-c Inv-loop μ-loop
 add-c c = omega arith
@@ -54,7 +59,15 @@ loop-less : tie.Need-loop-less Inv-loop μ-loop
 loop-less c = omega arith
 
 loop-again : tie.Need-loop-again Inv-loop μ-loop
-loop-again c = let l = c .before .before .before in let s = c .before .before .before .before in (omega arith, placed-more (s .args .rec .now) (l .loop .sets) (l .loop .c) _ (omega arith) (s .pre .2 _ (omega arith)) (l .loop .inv .2) refl (l .loop .inv .1), simp length-set (l .loop .inv .2))
+loop-again c =
+    let i = c .before .before in
+    let l = i .before in
+    let s = l .before in (
+      omega arith,
+      placed-more (s .args .rec .now) (l .loop .sets) (l .loop .c) _ (omega (arith, s .pre .few)) (low-place i) (l .loop .inv .2)
+          refl (l .loop .inv .1),
+      simp length-set (l .loop .inv .2),
+    )
 
 returns : tie.Need-returns Inv-loop μ-loop
 returns c = placed-end _ (omega arith) (c .before .loop .inv .1)

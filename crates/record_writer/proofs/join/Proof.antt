@@ -1,4 +1,4 @@
--- Invariant: the first w words of the row are joined.
+-- `record_writer::join` meets its contract. The loop's invariant: the first w words of the row are joined.
 use Prim.Native.Nat.{_+_, _*_, _-_, _≤_}
 use mathlib.Core.Path.{refl, ap}
 use native.Mathlib.Omega.{arith}

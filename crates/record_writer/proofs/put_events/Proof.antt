@@ -1,21 +1,17 @@
--- Invariant: the lines of the events below e are written.
+-- `record_writer::put_events` meets its contract. The loop's invariant: the lines of the events below e are written.
 use Prim.Native.Nat.{_-_, _≤_}
-use mathlib.Core.Path.{_≡_, refl, sym, ap, _∙_}
-use native.Mathlib.Nat.{zero-add}
+use mathlib.Core.Path.{sym}
 use native.Mathlib.Omega.{arith}
-use lib.ListN.{getD}
-use Rattle.spec.specs.Record.{eventLine}
-use Rattle.columns.specs.Columns.{column, column-at}
 use Rattle.writing.specs.Written.{Wrote}
 use Rattle.writing.proofs.Laws.{wrote-length}
 use Rattle.line_writer.proofs.Lines.{wrote-as, room-as}
-use Rattle.record_writer.specs.Bytes.{joinedTo, eventBytes}
+use Rattle.record_writer.specs.Bytes.{eventLines}
 use Rattle.record_writer.proofs.Joining.{wrote-none, wrote-room, wrote-next, wrote-all, event-at}
 use Rattle.record_writer.proofs.put_events.Statement.{statement}
 use Rattle.record_writer.proofs.put_events.Tie as tie
 
 abbrev Inv-loop : tie.InvT-loop
-Inv-loop out₀ at rec n next₀ e₀ out next e = (e ≤ n) × Wrote out₀ at (joinedTo (eventBytes (column 0 128 rec)) e) next out
+Inv-loop out₀ at rec n next₀ e₀ out next e = (e ≤ n) × Wrote out₀ at (eventLines rec e) next out
 
 abbrev μ-loop : tie.MeasureT-loop
 μ-loop out₀ at rec n next₀ e₀ out next e = n - e
@@ -27,7 +23,11 @@ shared-slice-read-put-event : tie.Need-shared-slice-read-put-event Inv-loop μ-l
 shared-slice-read-put-event c = omega arith
 
 put-event-requires : tie.Need-put-event-requires Inv-loop μ-loop
-put-event-requires c κs = let l = c .before .before .before in let s = c .before .before .before .before .before .before in room-as (l .loop .next) (event-at (s .args .rec .now) (l .loop .e) (omega arith)) (wrote-room _ (l .loop .e) (s .args .n) (l .loop .inv .1) (omega arith) (s .pre .2))
+put-event-requires c κs =
+    let l = c .before .before .before in
+    let s = l .before .before .before in
+    room-as (l .loop .next) (event-at (s .args .rec .now) (l .loop .e) (omega arith))
+    (wrote-room _ (l .loop .e) (s .args .n) (l .loop .inv .1) (omega arith) (s .pre .2))
 
 add-e : tie.Need-add-e Inv-loop μ-loop
 add-e c = omega arith
@@ -36,7 +36,13 @@ loop-less : tie.Need-loop-less Inv-loop μ-loop
 loop-less c = omega arith
 
 loop-again : tie.Need-loop-again Inv-loop μ-loop
-loop-again c = let l = c .before .before .before .before .before .before in let s = c .before .before .before .before .before .before .before .before .before in (omega arith, wrote-next _ (l .loop .e) (l .loop .inv .1) (wrote-as (c .before .before .put-event .ensures) (sym (event-at (s .args .rec .now) (l .loop .e) (omega arith)))))
+loop-again c =
+    let l = c .before .before .before .before .before .before in
+    let s = l .before .before .before in (
+      omega arith,
+      wrote-next _ (l .loop .e) (l .loop .inv .1)
+          (wrote-as (c .before .before .put-event .ensures) (sym (event-at (s .args .rec .now) (l .loop .e) (omega arith)))),
+    )
 
 same-length : tie.Need-same-length Inv-loop μ-loop
 same-length c = wrote-length (c .before .loop .inv .1)

@@ -1,4 +1,5 @@
--- Invariant: the marks at the conditions of the first w words are put.
+-- `record_writer::put_row` meets its contract. The loop's invariant: the marks at the conditions of the first w words
+-- are put.
 use Prim.Native.Nat.{ℕ, _+_, _*_, _-_, _≤_}
 use native.Mathlib.Omega.{arith}
 use lib.ListN.{getD}
@@ -40,13 +41,18 @@ mul-t21 : tie.Need-mul-t21 Inv-loop μ-loop
 mul-t21 c = omega arith
 
 put-word-requires : tie.Need-put-word-requires Inv-loop μ-loop
-put-word-requires c κs = let l = c .before .before .before .before in let s = c .before .before .before .before .before .before .before .before .before in let v = l .loop .inv in let t = getD (s .args .rec .now) (s .args .e) 0 in (
-  s .pre .0,
-  omega arith,
-  s .pre .1,
-  row-low (s .args .watched .now) (s .args .rec .now) (s .args .steps .now) (s .args .e) t (l .loop .w) (omega arith) (s .pre .3),
-  row-room (s .args .watched .now) (s .args .rec .now) (s .args .steps .now) (s .args .e) t (l .loop .w) (omega arith) (v .1) (s .pre .4),
-)
+put-word-requires c κs =
+    let l = c .before .before .before .before in
+    let s = l .before .before .before .before .before in
+    let a = s .args in
+    let t = getD (a .rec .now) (a .e) 0 in (
+      s .pre .0,
+      omega arith,
+      s .pre .1,
+      row-low (a .watched .now) (a .rec .now) (a .steps .now) (a .e) t (l .loop .w) (omega arith) (s .pre .3),
+      row-room (a .watched .now) (a .rec .now) (a .steps .now) (a .e) t (l .loop .w) (omega arith) (l .loop .inv .1)
+          (s .pre .4),
+    )
 
 add-w : tie.Need-add-w Inv-loop μ-loop
 add-w c = omega arith
@@ -55,8 +61,14 @@ loop-less : tie.Need-loop-less Inv-loop μ-loop
 loop-less c = omega arith
 
 loop-again : tie.Need-loop-again Inv-loop μ-loop
-loop-again c = let l = c .before .before .before .before .before .before .before .before .before in let s = c .before .before .before .before .before .before .before .before .before .before .before .before .before .before in let v = l .loop .inv in
-    (omega arith, row-next (s .args .watched .now) (s .args .rec .now) (s .args .steps .now) (s .args .e) (getD (s .args .rec .now) (s .args .e) 0) (l .loop .w) (omega arith) (v .1) (c .before .before .before .before .put-word .ensures))
+loop-again c =
+    let p = c .before .before .before .before in
+    let l = p .before .before .before .before .before in
+    let a = l .before .before .before .before .before .args in (
+      omega arith,
+      row-next (a .watched .now) (a .rec .now) (a .steps .now) (a .e) (getD (a .rec .now) (a .e) 0) (l .loop .w) (omega arith)
+          (l .loop .inv .1) (p .put-word .ensures),
+    )
 
 same-length : tie.Need-same-length Inv-loop μ-loop
 same-length c = wrote-length (c .before .loop .inv .1 .text)

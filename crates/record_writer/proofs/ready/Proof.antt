@@ -1,3 +1,5 @@
+-- `record_writer::ready` meets its contract: the row of a transition that is not known is empty, so that watching it
+-- makes its set; one that is known has it already.
 use borrow.Author.Needs.{needs}
 use Rattle.record_writer.proofs.Words.{ready-empty, ready-known, ready-more}
 use Rattle.record_writer.proofs.ready.Statement.{statement}

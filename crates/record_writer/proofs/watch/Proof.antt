@@ -1,4 +1,5 @@
--- Invariant: the sets of the places below p that inhibit the transition are joined.
+-- `record_writer::watch` meets its contract. The loop's invariant: the sets of the places below p that inhibit the
+-- transition are joined, and the other rows are as they were.
 use Prim.Native.Nat.{_-_, _≤_}
 use mathlib.Core.Path.{_∙_}
 use native.Mathlib.Omega.{arith}

@@ -1,3 +1,5 @@
+-- `record_writer::watch_place` meets its contract: the set of a place that inhibits the transition joins its row, and
+-- one that does not adds nothing.
 use native.Mathlib.Omega.{arith}
 use borrow.Author.Needs.{needs}
 use Rattle.record_writer.proofs.Words.{joined, unjoined, watched-more, watched-less, others-none}
@@ -20,7 +22,12 @@ join-requires : tie.Need-join-requires
 join-requires c κs = search needs
 
 returns : tie.Need-returns
-returns c = let s = c .before .before .before .before in (watched-more (c .before .before .if1 .taken) (joined (s .args .sets .now) (s .args .t) (s .args .p) (c .join .ensures)) (s .pre .3), unjoined (s .args .sets .now) (s .args .t) (s .args .p) (c .join .ensures))
+returns c =
+    let s = c .before .before .before .before in
+    let a = s .args in (
+      watched-more (c .before .before .if1 .taken) (joined (a .sets .now) (a .t) (a .p) (c .join .ensures)) (s .pre .3),
+      unjoined (a .sets .now) (a .t) (a .p) (c .join .ensures),
+    )
 
 returns-2 : tie.Need-returns-2
 returns-2 c = (watched-less (omega (arith, c .if1 .left)) (c .before .before .pre .3), others-none _ _)
