@@ -1,3 +1,4 @@
+-- `line_forms::is_alone` meets its contract: the two tests that it joins are the two of `isAlone`, each by its callee.
 use mathlib.Core.Path.{ap₂}
 use mathlib.Core.Bool.{_&&_}
 use Rattle.line_forms.specs.Rows.{isAlone}

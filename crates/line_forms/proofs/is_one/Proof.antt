@@ -1,3 +1,4 @@
+-- `line_forms::is_one` meets its contract: the three tests that it joins are those of `isOne`, in their order.
 use mathlib.Core.Path.{ap₂}
 use mathlib.Core.Bool.{_&&_}
 use Rattle.line_forms.specs.Rows.{isOne}

@@ -1,3 +1,4 @@
+-- `line_forms::is_three` meets its contract: the five tests that it joins are those of `isThree`, in their order.
 use mathlib.Core.Path.{ap₂}
 use mathlib.Core.Bool.{_&&_}
 use Rattle.line_forms.specs.Rows.{isThree}

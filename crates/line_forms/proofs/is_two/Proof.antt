@@ -1,3 +1,4 @@
+-- `line_forms::is_two` meets its contract: the four tests that it joins are those of `isTwo`, in their order.
 use mathlib.Core.Path.{ap₂}
 use mathlib.Core.Bool.{_&&_}
 use Rattle.line_forms.specs.Rows.{isTwo}

@@ -1,3 +1,5 @@
+-- `lines::find_end` meets its contract: a line ends before the first line end from its start on, which is what `end_of`
+-- finds, or with the text.
 use native.Mathlib.Omega.{arith}
 use Rattle.lines.proofs.find_end.Statement.{statement}
 use Rattle.lines.proofs.find_end.Tie as tie

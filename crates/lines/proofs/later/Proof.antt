@@ -1,3 +1,4 @@
+-- `lines::later` meets its contract: the test tells which of the two is the greater.
 use native.Mathlib.Omega.{arith}
 use Rattle.lines.proofs.later.Statement.{statement}
 use Rattle.lines.proofs.later.Tie as tie

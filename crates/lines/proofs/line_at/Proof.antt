@@ -1,6 +1,6 @@
--- `lines::line_at` meets its contract: a walk of its MIR, by hand. A `Reader` that `reader_at` returns is read and moved, and `span_of` answers by the line's end and the place moved to. All that the proof knows of the four callees is that each meets its contract (`Thin.antt`).
--- The text and the struct are Copy: what each owns is had twice before the first call takes it.
--- Assumes nothing.
+-- `lines::line_at` meets its contract, by a walk of its MIR: the `Reader` that `reader_at` returns is read and moved,
+-- and `span_of` answers by the line's end and the place moved to. Of the four callees only the contracts are used
+-- (`Thin`). The text and the struct are Copy: what each owns is had twice before a call takes it.
 use denote.Struct.Laws as LL
 use Rattle.lines.specs.Lines.{spanTo, LineAt}
 use Rattle.lines.specs.declared.Reader.{Reader}

@@ -1,6 +1,6 @@
--- `lines::line_end` meets its contract: a walk of its MIR, by hand. The struct is taken apart, and `find_end` is called on the slice and the number. All that the proof knows of `find_end` is that it meets its contract.
--- What the struct's fields own together, in their order, is what the callee asks.
--- Assumes nothing.
+-- `lines::line_end` meets its contract, by a walk of its MIR: the struct is taken apart, and `find_end`, of which only
+-- the contract is used, is called on its slice and its number. What the fields own together, in their order, is what
+-- the callee asks.
 use denote.Struct.Laws as LL
 use Rattle.lines.specs.Lines.{endFrom}
 use Rattle.lines.specs.declared.Reader.{Reader}

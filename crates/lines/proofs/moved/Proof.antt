@@ -1,5 +1,5 @@
--- `lines::moved` meets its contract: a walk of its MIR, by hand. `later` is called on the struct's number and the one passed, and a struct is made anew of the same slice and the number returned: what that number owns takes the place of what `at` owned.
--- Assumes nothing.
+-- `lines::moved` meets its contract, by a walk of its MIR: `later` is called on the struct's number and the one passed,
+-- and a struct is made of the same slice and the number returned, whose own takes the place of what `at` owned.
 use Prim.Native.Nat.{max}
 use denote.Struct.Laws as LL
 use Rattle.lines.specs.declared.Reader.{Reader}

@@ -1,5 +1,5 @@
--- `lines::reader_at` meets its contract: a walk of its MIR, by hand. A `Reader` is made of the slice and the number passed, in the result's local. What the two own together is what the struct owns.
--- Assumes nothing.
+-- `lines::reader_at` meets its contract, by a walk of its MIR: a `Reader` is made of the slice and the number passed,
+-- in the result's local. What the two own together is what the struct owns.
 use Rattle.lines.specs.declared.Reader.{Reader}
 use Rattle.lines.proofs.Reader.Laws as T′
 use Rattle.lines.proofs.Reading.{D, L, vs, tok, Own}

@@ -1,3 +1,5 @@
+-- `lines::span_of` meets its contract: what it makes is `spanTo`, field by field; a line is ended if it ends inside the
+-- text.
 use mathlib.Core.Path.{refl}
 use Rattle.lines.proofs.span_of.Statement.{statement}
 use Rattle.lines.proofs.span_of.Tie as tie
