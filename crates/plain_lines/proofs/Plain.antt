@@ -2,7 +2,7 @@
 -- Assumes nothing.
 use Prim.Native.Nat.{ℕ, suc, _+_, _-_, _≤_, _<_}
 use mathlib.Core.Path.{_≡_, refl, ap, _∙_}
-use mathlib.Core.Bool.{true, false, _&&_, _||_, not, and-false}
+use mathlib.Core.Bool.{Bool, true, false, _&&_, _||_, not, and-false}
 use mathlib.Core.List.{List, [], _∷_, _++_, map}
 use native.Mathlib.Omega.{arith}
 use lib.ListN.{length, getD, drop}
@@ -163,10 +163,14 @@ dash-field most {s} {at} h = let z : at + 1 - at ≡ suc 0 = omega arith in rw (
     dashed : slotOf most (45 ∷ []) ≡ Dash
     dashed = rw (and-false (leb 1 1 && leb 1 most && not false))
 
--- ---- a byte behind what was read
+-- ---- what stands behind what was read
+
+-- a test told that something was read, and another told that a byte stands behind it
+pub read-to : {b e : ℕ} {s : List ℕ} {t : Bool} (from : ℕ) → (t ≡ true → Stands b s e) → (leb e from || not t) ≡ false → (from < e) × Stands b s e
+read-to {b} {e} {s} {t} from k h = let z = or-false (leb e from) (not t) h in (leb-false e from (z .0), k (not-false t (z .1)))
 
 pub behind : (s : List ℕ) (from e b : ℕ) → (leb e from || not (eqb (getD s e 0) b)) ≡ false → e < length s → (from < e) × Stands b s e
-behind s from e b h l = let z = or-false (leb e from) (not (eqb (getD s e 0) b)) h in (leb-false e from (z .0), record { within = l; byte = eqb-true (getD s e 0) b (not-false _ (z .1)) })
+behind s from e b h l = read-to from (λ w. record { within = l; byte = eqb-true (getD s e 0) b w }) h
 
 -- ---- a line that is read, and one of another form
 

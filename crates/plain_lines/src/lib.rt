@@ -1,5 +1,5 @@
-// Plain lines, read in one walk of the text: a letter, then numbers or dashes, and the line end. A line that is not of the
-// form asked for is left where it stands, for the readers of `lines` and `fields`.
+// Plain lines, read in one walk of the text: a letter, then numbers or dashes, and the line end. A line that is not of
+// the form asked for is left where it stands, for the readers of `lines` and `fields`.
 ghost use Prim.Native.Nat.{ℕ, _+_, _≤_};
 ghost use lib.ListN.{length};
 ghost use Rattle.plain_lines.specs.Plain.{ReadsField, FieldInside, Begins, AloneAt, OneAt, TwoAt, ThreeAt};
@@ -67,8 +67,8 @@ pub fn alone_at(s: &[u8], at: usize) -> usize
     at
 }
 
-// The number of a line with a letter and a number, and where the next line starts; below the same for other forms. A line of
-// another form leaves `next` at the position.
+// The number of a line with a letter and a number, and where the next line starts; below the same for other forms. A
+// line of another form leaves `next` at the position.
 pub struct One {
     pub a: usize,
     pub next: usize,
@@ -84,10 +84,7 @@ pub fn one_at(most: usize, s: &[u8], at: usize) -> One
     let from = at + 2;
     let x = number_from(most, s, from);
     let end = x.end;
-    if end <= from {
-        return One { a: 0, next: at };
-    }
-    if !stands(10, s, end) {
+    if (end <= from) | !stands(10, s, end) {
         return One { a: 0, next: at };
     }
     One {
@@ -118,19 +115,13 @@ fn two_near_end(most: usize, s: &[u8], at: usize) -> Two
     let from = at + 2;
     let x = number_from(most, s, from);
     let comma = x.end;
-    if comma <= from {
-        return none;
-    }
-    if !stands(b',', s, comma) {
+    if (comma <= from) | !stands(b',', s, comma) {
         return none;
     }
     let then = comma + 1;
     let y = number_from(most, s, then);
     let end = y.end;
-    if end <= then {
-        return none;
-    }
-    if !stands(10, s, end) {
+    if (end <= then) | !stands(10, s, end) {
         return none;
     }
     Two {
@@ -206,28 +197,19 @@ fn three_near_end(most: usize, s: &[u8], at: usize) -> Three
     let from = at + 2;
     let x = number_from(most, s, from);
     let comma = x.end;
-    if comma <= from {
-        return none;
-    }
-    if !stands(b',', s, comma) {
+    if (comma <= from) | !stands(b',', s, comma) {
         return none;
     }
     let then = comma + 1;
     let y = field_from(most, s, then);
     let other = y.end;
-    if other <= then {
-        return none;
-    }
-    if !stands(b',', s, other) {
+    if (other <= then) | !stands(b',', s, other) {
         return none;
     }
     let last = other + 1;
     let z = field_from(most, s, last);
     let end = z.end;
-    if end <= last {
-        return none;
-    }
-    if !stands(10, s, end) {
+    if (end <= last) | !stands(10, s, end) {
         return none;
     }
     let b = y.field;

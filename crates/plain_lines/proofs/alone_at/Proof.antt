@@ -1,3 +1,5 @@
+-- `plain_lines::alone_at` meets its contract: a letter with the line end behind it is a line without fields
+-- (`letter-alone`); else the position stays.
 use native.Mathlib.Omega.{arith}
 use Rattle.plain_lines.proofs.Plain.{letter-alone, stays}
 use Rattle.plain_lines.proofs.alone_at.Statement.{statement}

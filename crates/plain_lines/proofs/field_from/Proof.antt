@@ -1,3 +1,5 @@
+-- `plain_lines::field_from` meets its contract: a number that was read is the field, a dash is one too (`dash-field`),
+-- and where nothing was read nothing is promised.
 use mathlib.Core.Path.{refl}
 use native.Mathlib.Omega.{arith}
 use Rattle.plain_lines.proofs.Plain.{dash-field}

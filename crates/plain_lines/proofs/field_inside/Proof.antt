@@ -1,3 +1,5 @@
+-- `plain_lines::field_inside` meets its contract: a dash is a field of one byte (`dash-field`), and a number of up to
+-- four digits is one wherever four or more are allowed.
 use mathlib.Core.Path.{refl}
 use native.Mathlib.Omega.{arith}
 use borrow.Author.Needs.{needs}

@@ -1,4 +1,5 @@
--- `plain_lines::three_inside` meets its contract: the fields that were read, each with the byte behind it, are the line.
+-- `plain_lines::three_inside` meets its contract: the fields that were read, each with the byte behind it, are the
+-- line.
 use Prim.Native.Nat.{_+_}
 use native.Mathlib.Omega.{arith}
 use borrow.Author.Needs.{needs}

@@ -1,6 +1,11 @@
+-- `plain_lines::three_near_end` meets its contract: the fields that were read, each with the byte behind it, are the
+-- line, put together from its end (`last-field`, `more-fields`, `plain-line`). Where one is missing, the position
+-- stays.
+use Prim.Native.Nat.{_+_, _<_}
 use native.Mathlib.Omega.{arith}
 use borrow.Author.Tests.{not-false}
-use Rattle.plain_lines.proofs.Plain.{last-field, more-fields, plain-line, stays-three}
+use Rattle.digits.specs.Digits.{Stands}
+use Rattle.plain_lines.proofs.Plain.{last-field, more-fields, plain-line, read-to, stays-three}
 use Rattle.plain_lines.proofs.three_near_end.Statement.{statement}
 use Rattle.plain_lines.proofs.three_near_end.Tie as tie
 
@@ -19,61 +24,62 @@ add-from c = omega (arith, c .before .stands .ensures (not-false _ (c .if1 .left
 number-from-requires : tie.Need-number-from-requires
 number-from-requires c κs = (c .before .before .before .pre .0, omega (arith, c .before .stands .ensures (not-false _ (c .if1 .left)) .within))
 
-returns-2 : tie.Need-returns-2
-returns-2 c = stays-three (c .before .before .before .before .before .pre .1 .within)
-
 stands-requires-2 : tie.Need-stands-requires-2
 stands-requires-2 c κs = tt
 
-returns-3 : tie.Need-returns-3
-returns-3 c = stays-three (c .before .before .before .before .before .before .before .pre .1 .within)
+returns-2 : tie.Need-returns-2
+returns-2 c = stays-three (c .before .before .before .before .before .before .pre .1 .within)
+
+-- the number was read, and a comma stands behind it
+number : (j : tie.Else2) → let x = j .before .before in let s = x .before .before .before .before in (s .args .at + 2 < x .number-from .result .end) × Stands 44 (s .args .s .now) (x .number-from .result .end)
+number j = let x = j .before .before in let s = x .before .before .before .before in read-to (s .args .at + 2) (j .before .stands2 .ensures) (j .if2 .left)
 
 add-then : tie.Need-add-then
-add-then c = omega (arith, c .before .stands2 .ensures (not-false _ (c .if3 .left)) .within)
+add-then c = omega (arith, number c .1 .within)
 
 field-from-requires : tie.Need-field-from-requires
-field-from-requires c κs = (c .before .before .before .before .before .before .before .pre .0, omega (arith, c .before .stands2 .ensures (not-false _ (c .if3 .left)) .within))
-
-returns-4 : tie.Need-returns-4
-returns-4 c = stays-three (c .before .before .before .before .before .before .before .before .before .pre .1 .within)
+field-from-requires c κs = (c .before .before .before .before .before .before .pre .0, omega (arith, number c .1 .within))
 
 stands-requires-3 : tie.Need-stands-requires-3
 stands-requires-3 c κs = tt
 
-returns-5 : tie.Need-returns-5
-returns-5 c = stays-three (c .before .before .before .before .before .before .before .before .before .before .before .pre .1 .within)
+returns-3 : tie.Need-returns-3
+returns-3 c = stays-three (c .before .before .before .before .before .before .before .before .before .pre .1 .within)
+
+-- so was the second field, and a comma stands behind it
+second : (k : tie.Else3) → let y = k .before .before in let x = y .before .before .before in (x .number-from .result .end + 1 < y .field-from .result .end) × Stands 44 (x .before .before .before .before .args .s .now) (y .field-from .result .end)
+second k = let x = k .before .before .before .before .before in read-to (x .number-from .result .end + 1) (k .before .stands3 .ensures) (k .if3 .left)
 
 add-last : tie.Need-add-last
-add-last c = omega (arith, c .before .stands3 .ensures (not-false _ (c .if5 .left)) .within)
+add-last c = omega (arith, second c .1 .within)
 
 field-from-requires-2 : tie.Need-field-from-requires-2
-field-from-requires-2 c κs = (c .before .before .before .before .before .before .before .before .before .before .before .pre .0, omega (arith, c .before .stands3 .ensures (not-false _ (c .if5 .left)) .within))
-
-returns-6 : tie.Need-returns-6
-returns-6 c = stays-three (c .before .before .before .before .before .before .before .before .before .before .before .before .before .pre .1 .within)
+field-from-requires-2 c κs = (c .before .before .before .before .before .before .before .before .before .pre .0, omega (arith, second c .1 .within))
 
 stands-requires-4 : tie.Need-stands-requires-4
 stands-requires-4 c κs = tt
 
-returns-7 : tie.Need-returns-7
-returns-7 c = stays-three (c .before .before .before .before .before .before .before .before .before .before .before .before .before .before .before .pre .1 .within)
+returns-4 : tie.Need-returns-4
+returns-4 c = stays-three (c .before .before .before .before .before .before .before .before .before .before .before .before .pre .1 .within)
+
+-- and the third, and the line end stands behind it
+third : (c : tie.Else4) → let z = c .before .before in let y = z .before .before .before in (y .field-from .result .end + 1 < z .field-from2 .result .end) × Stands 10 (y .before .before .before .before .before .before .before .args .s .now) (z .field-from2 .result .end)
+third c = let y = c .before .before .before .before .before in read-to (y .field-from .result .end + 1) (c .before .stands4 .ensures) (c .if4 .left)
 
 add-t19 : tie.Need-add-t19
-add-t19 c = omega (arith, c .before .stands4 .ensures (not-false _ (c .if7 .left)) .within)
+add-t19 c = omega (arith, third c .1 .within)
 
-returns-8 : tie.Need-returns-8
-returns-8 c = let z = c .before .before .before in let k = z .before in let y = k .before .before .before in let j = y .before in let x = j .before .before .before in let i = x .before in let p = i .before .before .before .pre in
-    let e = c .before .stands4 .ensures (not-false _ (c .if7 .left)) in let q = z .field-from2 .ensures in let m = y .field-from .ensures in let n = x .number-from .ensures in record {
+returns-5 : tie.Need-returns-5
+returns-5 c = let z = c .before .before in let k = z .before in let y = k .before .before in let j = y .before in let x = j .before .before in let i = x .before in
+    let n = x .number-from .ensures in let u = y .field-from .ensures in let v = z .field-from2 .ensures in record {
       read = record {
-        within = omega (arith, e .within);
-        line = λ h. plain-line (p .1) (i .before .stands .ensures (not-false _ (i .if1 .left)))
-            (more-fields (n .start) (n .number (j .before .before .if2 .left)) (j .before .stands2 .ensures (not-false _ (j .if3 .left)))
-            (more-fields (m .start) (m .field (k .before .before .if4 .left)) (k .before .stands3 .ensures (not-false _ (k .if5 .left)))
-            (last-field (q .start) (q .field (c .before .before .if6 .left)) e)));
+        within = omega (arith, third c .1 .within);
+        line = λ h. plain-line (i .before .before .before .pre .1) (i .before .stands .ensures (not-false _ (i .if1 .left)))
+            (more-fields (n .start) (n .number (number j .0)) (number j .1) (more-fields (u .start) (u .field (second k .0)) (second k .1) (last-field (v .start) (v .field (third c .0)) (third c .1))));
       };
-      second = λ h. m .kind (k .before .before .if4 .left);
-      third = λ h. q .kind (c .before .before .if6 .left);
+      second = λ h. u .kind (second k .0);
+      third = λ h. v .kind (third c .0);
     }
 
 pub three-near-end-spec : {M : Type 1} → statement M
-three-near-end-spec = tie.close (tie.spec add-stands stands-requires returns add-from number-from-requires returns-2 stands-requires-2 returns-3 add-then field-from-requires returns-4 stands-requires-3 returns-5 add-last field-from-requires-2 returns-6 stands-requires-4 returns-7 add-t19 returns-8)
+three-near-end-spec = tie.close (tie.spec add-stands stands-requires returns add-from number-from-requires stands-requires-2 returns-2 add-then field-from-requires stands-requires-3 returns-3 add-last field-from-requires-2 stands-requires-4 returns-4 add-t19 returns-5)
