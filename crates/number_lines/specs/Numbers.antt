@@ -12,6 +12,10 @@ use Rattle.spec.specs.declared.Class.{Class}
 use Rattle.lines.specs.Lines.{lineOf}
 use Rattle.number_lines.specs.declared.Listed.{Listed}
 
+-- the numbers of a line that an array has room for
+abbrev pub numbersLong : ℕ
+numbersLong = 128
+
 -- at most so many numbers, each below a bound
 pub record Few (most bound : ℕ) (ns : List ℕ) : Type 0 where
   pub few : length ns ≤ most
@@ -19,13 +23,13 @@ pub record Few (most bound : ℕ) (ns : List ℕ) : Type 0 where
 
 -- an array begins with these numbers
 pub record Begins (xs ns : List ℕ) : Type 0 where
-  pub long : length xs ≡ 128
+  pub long : length xs ≡ numbersLong
   pub numbers : take (length ns) xs ≡ ns
 
 -- number i of a line is put into an array, where it has room there
 pub record Puts (old : List ℕ) (i v : ℕ) (new : List ℕ) : Type 0 where
-  pub long : length new ≡ 128
-  pub put : i < 128 → v < 256 → new ≡ set old i v
+  pub long : length new ≡ numbersLong
+  pub put : i < numbersLong → v < 256 → new ≡ set old i v
 
 -- a list line with a letter of this class, from one position up to `next`, and its numbers in an array
 pub record Listing (k : Class) (s : List ℕ) (at : ℕ) (r : Listed) (xs : List ℕ) : Type 0 where
@@ -36,10 +40,10 @@ pub record Listing (k : Class) (s : List ℕ) (at : ℕ) (r : Listed) (xs : List
   pub count : r .count ≡ length (valuesOf mostDigits bytes)
   pub few : r .count < length s
   pub high : (known : ℕ) → leb known (r .high) ≡ any (leb known) (valuesOf mostDigits bytes)
-  pub numbers : Few 128 256 (valuesOf mostDigits bytes) → Begins xs (valuesOf mostDigits bytes)
+  pub numbers : Few numbersLong 256 (valuesOf mostDigits bytes) → Begins xs (valuesOf mostDigits bytes)
 
 -- such a line is read, or the position stays
 pub record ListAt (k : Class) (s : List ℕ) (at : ℕ) (r : Listed) (xs : List ℕ) : Type 0 where
-  pub long : length xs ≡ 128
+  pub long : length xs ≡ numbersLong
   pub start : at ≤ r .next
   pub line : at < r .next → Listing k s at r xs

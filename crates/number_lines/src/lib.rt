@@ -10,7 +10,7 @@ ghost use Rattle.line_forms.specs.Rows.{isList, valuesOf};
 ghost use Rattle.spec.specs.Building.{isStepLine};
 ghost use Rattle.lines.specs.Lines.{lineOf};
 ghost use Rattle.plain_lines.specs.Plain.{Opens};
-ghost use Rattle.number_lines.specs.Numbers.{Few, Begins, Puts, ListAt};
+ghost use Rattle.number_lines.specs.Numbers.{numbersLong, Few, Begins, Puts, ListAt};
 use digits::number_from;
 use digits::stands;
 use fields::is_list;
@@ -68,8 +68,8 @@ pub fn count_numbers(l: &[u8]) -> usize
 }
 
 // The numbers of a line.
-pub fn numbers(l: &[u8]) -> [u8; 128]
-    requires { ⌜ Few 128 256 (valuesOf mostDigits (now l)) ⌝ }
+pub fn numbers(l: &[u8]) -> [u8; NUMBERS]
+    requires { ⌜ Few numbersLong 256 (valuesOf mostDigits (now l)) ⌝ }
     ensures { λ r. ⌜ Begins r (valuesOf mostDigits (now (l .entry))) ⌝ }
 {
     let mut xs = [0u8; NUMBERS];
@@ -95,10 +95,10 @@ pub struct Listed {
 
 // Number i of a line goes into an array that has room for the first 128, each below 256.
 fn put(xs: &mut [u8; NUMBERS], i: usize, v: usize)
-    requires { ⌜ length (now xs) ≡ 128 ⌝ }
+    requires { ⌜ length (now xs) ≡ numbersLong ⌝ }
     ensures { λ _. ⌜ Puts (now (xs .entry)) i v (now (xs .exit)) ⌝ }
 {
-    if 128 <= i {
+    if NUMBERS <= i {
         return;
     }
     xs[i] = (v % 256) as u8;
@@ -107,7 +107,7 @@ fn put(xs: &mut [u8; NUMBERS], i: usize, v: usize)
 // The line that starts at a position, if it is ended and is this letter and one number or more. A line of another form
 // leaves `next` at the position, for the functions above.
 pub fn list_at(letter: u8, text: &[u8], at: usize, xs: &mut [u8; NUMBERS]) -> Listed
-    requires { ⌜ Opens letter × (length (now xs) ≡ 128) ⌝ }
+    requires { ⌜ Opens letter × (length (now xs) ≡ numbersLong) ⌝ }
     ensures { λ r. ⌜ ListAt (classOf letter) (now (text .entry)) at r (now (xs .exit)) ⌝ }
 {
     let none = Listed {

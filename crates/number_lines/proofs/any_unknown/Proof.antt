@@ -1,3 +1,5 @@
+-- `number_lines::any_unknown` meets its contract. The loop's invariant: the numbers from `at` on have an unknown one
+-- just if all numbers of the line do. An unknown number settles it, and past the line none is left.
 use Prim.Native.Nat.{_+_, _-_, _≤_}
 use mathlib.Core.Path.{_≡_, sym, ap, _∙_}
 use native.Mathlib.Omega.{arith}

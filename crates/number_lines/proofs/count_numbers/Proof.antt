@@ -1,3 +1,5 @@
+-- `number_lines::count_numbers` meets its contract. The loop's invariant: the count and the numbers from `at` on make
+-- up those of the line, and no number takes less than a byte.
 use Prim.Native.Nat.{_+_, _-_, _≤_}
 use mathlib.Core.Path.{_≡_, ap}
 use native.Mathlib.Omega.{arith}

@@ -1,3 +1,5 @@
+-- `number_lines::is_list_line` meets its contract: `is_list` judges the line without its end, and whether it is ended
+-- was told.
 use mathlib.Core.Path.{ap}
 use mathlib.Core.Bool.{_&&_}
 use native.Mathlib.Omega.{arith}

@@ -1,3 +1,5 @@
+-- `number_lines::is_step_line` meets its contract: a line of a log is a list line with the letter S, in the code's
+-- terms and the paper's (`list-line`).
 use mathlib.Core.Path.{refl, sym, _∙_}
 use Rattle.spec.specs.Classes.{alike}
 use Rattle.spec.specs.Text.{named, inDigits, classOf}

@@ -1,4 +1,5 @@
--- The walk stands at a comma or a line end behind the letter and the numbers so far.
+-- `number_lines::list_at` meets its contract. The loop's invariant, `Walked`: the letter and the numbers so far stand
+-- before `end`, the array has as many of them as it has room for, and `high` is the greatest of them.
 use Prim.Native.Nat.{_-_}
 use native.Mathlib.Omega.{arith}
 use lib.ListN.{length}

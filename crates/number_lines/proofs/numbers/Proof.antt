@@ -1,3 +1,6 @@
+-- `number_lines::numbers` meets its contract. The loop's invariant, `Filled`: the array begins with the first i numbers
+-- of the line, and those from `at` on are the others. There is room for the next one, since few are there and each is
+-- small.
 use Prim.Native.Nat.{_+_, _-_, _≤_}
 use native.Mathlib.Omega.{arith}
 use lib.ListN.{length}

@@ -1,3 +1,4 @@
+-- `number_lines::put` meets its contract: a number below 256 is its own rest, and one beyond the room changes nothing.
 use native.Mathlib.Omega.{arith}
 use borrow.Author.Needs.{needs}
 use Rattle.number_lines.proofs.Listing.{puts}
