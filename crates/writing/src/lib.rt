@@ -5,8 +5,11 @@ ghost use mathlib.Core.List.{_∷_, []};
 ghost use lib.ListN.{length, take};
 ghost use Rattle.spec.specs.Text.{digits, fieldBytes, fieldsBytes};
 ghost use Rattle.spec.specs.declared.Field.the-variants.{Number};
-ghost use Rattle.writing.specs.Written.{Wrote, lastTwo, lineBytes};
+ghost use Rattle.writing.specs.Written.{Wrote, lastTwo, lineBytes, FieldsFit};
 use spec::Field;
+
+// The fields that a line is passed in.
+pub const FIELDS: usize = 4;
 
 pub fn put_byte(out: &mut [u8], at: usize, b: u8) -> usize
     requires { ⌜ at < length (now out) ⌝ }
@@ -75,8 +78,8 @@ pub fn put_field(out: &mut [u8], at: usize, f: Field) -> usize
 }
 
 // The first `count` of the fields, each behind a comma.
-fn put_fields(out: &mut [u8], at: usize, fields: [Field; 4], count: usize) -> usize
-    requires { ⌜ (count ≤ 4) × (length fields ≡ 4) × (at + length (fieldsBytes (take count fields)) ≤ length (now out)) ⌝ }
+fn put_fields(out: &mut [u8], at: usize, fields: [Field; FIELDS], count: usize) -> usize
+    requires { ⌜ FieldsFit count fields at (fieldsBytes (take count fields)) (now out) ⌝ }
     ensures { λ r. ⌜ Wrote (now (out .entry)) at (fieldsBytes (take count fields)) r (now (out .exit)) ⌝ }
 {
     let mut next = at;
@@ -90,8 +93,14 @@ fn put_fields(out: &mut [u8], at: usize, fields: [Field; 4], count: usize) -> us
 }
 
 // A line: the letter, the first `count` of the fields, and byte 10.
-pub fn put_line(out: &mut [u8], at: usize, letter: u8, fields: [Field; 4], count: usize) -> usize
-    requires { ⌜ (count ≤ 4) × (length fields ≡ 4) × (at + length (lineBytes letter (take count fields)) ≤ length (now out)) ⌝ }
+pub fn put_line(
+    out: &mut [u8],
+    at: usize,
+    letter: u8,
+    fields: [Field; FIELDS],
+    count: usize,
+) -> usize
+    requires { ⌜ FieldsFit count fields at (lineBytes letter (take count fields)) (now out) ⌝ }
     ensures { λ r. ⌜ Wrote (now (out .entry)) at (lineBytes letter (take count fields)) r (now (out .exit)) ⌝ }
 {
     let first = put_byte(out, at, letter);

@@ -1,3 +1,5 @@
+-- `line_writer::put_condition` meets its contract: the line is the five pieces written, in their order
+-- (`coded-pieces`), and its length tells that each has room (`coded-size`).
 use mathlib.Core.Path.{sym}
 use native.Mathlib.Omega.{arith}
 use borrow.Author.Needs.{needs}

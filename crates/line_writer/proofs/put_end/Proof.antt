@@ -1,3 +1,5 @@
+-- `line_writer::put_end` meets its contract: by its byte an end is a dash or the number of an event (`end-none`,
+-- `end-event`), and that field is written.
 use mathlib.Core.Path.{ap, sym}
 use mathlib.Core.List.{_∷_, []}
 use native.Mathlib.Omega.{arith}

@@ -1,3 +1,5 @@
+-- `line_writer::put_event` meets its contract: the line is the pieces written, in their order (`event-pieces`), and its
+-- length tells that each has room (`event-size`).
 use mathlib.Core.Path.{sym}
 use native.Mathlib.Omega.{arith}
 use borrow.Author.Needs.{needs}

@@ -1,3 +1,5 @@
+-- `line_writer::put_mark` meets its contract: the line is the pieces written, in their order (`mark-pieces`), and its
+-- length tells that each has room (`mark-size`).
 use mathlib.Core.Path.{sym, ap}
 use mathlib.Core.List.{_∷_, []}
 use native.Mathlib.Omega.{arith}

@@ -1,3 +1,4 @@
+-- `writing::put_byte` meets its contract: one store at the position, and the next position is one further (`one`).
 use borrow.Author.Needs.{needs}
 use Rattle.writing.proofs.Laws.{one}
 use Rattle.writing.proofs.put_byte.Statement.{statement}

@@ -1,3 +1,5 @@
+-- `writing::put_field` meets its contract: a field alone is a comma and its bytes (`field-one`), and two writes, the
+-- second where the first ended, are one (`after`).
 use mathlib.Core.Path.{ap}
 use native.Mathlib.Omega.{arith}
 use borrow.Author.Needs.{needs}

@@ -1,3 +1,5 @@
+-- `writing::put_fields` meets its contract. The loop's invariant: the first i fields are written. There is room for the
+-- next one, since the first fields are no longer than all of them (`fields-part`).
 use Prim.Native.Nat.{_+_, _-_, _≤_}
 use mathlib.Core.Path.{_≡_, refl, _∙_}
 use native.Mathlib.Omega.{arith}

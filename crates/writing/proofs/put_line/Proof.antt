@@ -1,3 +1,5 @@
+-- `writing::put_line` meets its contract: the line is the letter, the fields and byte 10, and its three writes, each
+-- where the one before it ended, are one (`after`).
 use native.Mathlib.Omega.{arith}
 use borrow.Author.Needs.{needs}
 use lib.ListN.{length, take, length-append}

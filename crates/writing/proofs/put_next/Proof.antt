@@ -1,3 +1,5 @@
+-- `writing::put_next` meets its contract: a number as a field is a comma and its digits (`next-bytes`), and two writes,
+-- the second where the first ended, are one (`after`).
 use mathlib.Core.Path.{ap}
 use native.Mathlib.Omega.{arith}
 use borrow.Author.Needs.{needs}

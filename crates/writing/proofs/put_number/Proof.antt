@@ -1,3 +1,5 @@
+-- `writing::put_number` meets its contract: of each size the digits are those written (`digits-low`, `digits-two`,
+-- `digits-three`, `digits-four`); two writes, the second where the first ended, are one (`after`).
 use mathlib.Core.Path.{ap}
 use native.Mathlib.Omega.{arith}
 use borrow.Author.Needs.{needs}

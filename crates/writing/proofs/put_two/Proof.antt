@@ -1,3 +1,4 @@
+-- `writing::put_two` meets its contract: two stores, at the position and behind it, are a write of two bytes (`two`).
 use native.Mathlib.Omega.{arith}
 use borrow.Author.Needs.{needs}
 use lib.ListN.{length-set}

@@ -1,3 +1,5 @@
+-- `writing::put_value` meets its contract: the bytes of a number are its digits, and those of a dash the one byte 45
+-- (`number-bytes`, `dash-bytes`).
 use mathlib.Core.Path.{ap}
 use native.Mathlib.Omega.{arith}
 use borrow.Author.Needs.{needs}
