@@ -10,6 +10,19 @@ use Rattle.columns.specs.Columns.{column}
 use Rattle.net.specs.NetArrays.{Cells}
 use Rattle.bit_sets.specs.Bits.{bit}
 
+-- the sets of all kinds and those of one kind, by transition; where the sets of the outputs and of the inhibitors start
+abbrev pub setCount : ℕ
+setCount = 96
+
+abbrev pub setsOfKind : ℕ
+setsOfKind = 32
+
+abbrev pub madeAt : ℕ
+madeAt = 32
+
+abbrev pub guardsAt : ℕ
+guardsAt = 64
+
 -- the places p below m of which the array has something at row + p
 pub record RowSet (arcs : List ℕ) (row m r : ℕ) : Type 0 where
   pub here : (p : ℕ) → p < m → bit r p ≡ asCount (ltb 0 (getD arcs (row + p) 0))
@@ -21,8 +34,9 @@ Within m sets = (i p : ℕ) → m ≤ p → bit (getD sets i 0) p ≡ 0
 
 -- the sets of the first n transitions are those of their rows
 pub record SetsOf (arcs : List ℕ) (m n : ℕ) (sets : List ℕ) : Type 0 where
-  pub long : length sets ≡ 96
-  pub rows : (i : ℕ) → i < 96 → i % 32 < n → RowSet arcs (1024 * (i / 32) + 32 * (i % 32)) m (getD sets i 0)
+  pub long : length sets ≡ setCount
+  pub rows : (i : ℕ) → i < setCount → i % setsOfKind < n
+      → RowSet arcs (1024 * (i / setsOfKind) + 32 * (i % setsOfKind)) m (getD sets i 0)
   pub within : Within m sets
 
 -- 1 if the set of transition t, among those that start at `at`, has place p, else 0
@@ -51,8 +65,8 @@ Says N m sets at f = (t p : ℕ) → t < N .transitions → p < m → arcAt sets
 pub record HoldsArcs (N : Net) (sets : List ℕ) (m : ℕ) : Type 0 where
   pub places : m ≡ places N
   pub few : m ≤ 32
-  pub long : length sets ≡ 96
+  pub long : length sets ≡ setCount
   pub inputs : Says N m sets 0 (takes N)
-  pub outputs : Says N m sets 32 (makes N)
-  pub inhibitors : Says N m sets 64 (λ t p. asCount (inhibits N p t))
+  pub outputs : Says N m sets madeAt (makes N)
+  pub inhibitors : Says N m sets guardsAt (λ t p. asCount (inhibits N p t))
   pub within : Within m sets

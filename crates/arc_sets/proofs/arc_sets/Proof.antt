@@ -1,4 +1,5 @@
--- The sets of the transitions up to the next are made.
+-- `arc_sets::arc_sets` meets its contract. The loop's invariant: the sets of the first t transitions, of each kind, are
+-- those of their rows, and no set has a place that is none.
 use Prim.Native.Nat.{_-_, _≤_}
 use mathlib.Core.Path.{_≡_}
 use native.Mathlib.Omega.{arith}

@@ -1,4 +1,5 @@
--- The set has the places of the row up to the next.
+-- `arc_sets::set_of` meets its contract. The loop's invariant: the set has, of the first p places of the row, those
+-- where something stands, and no other place.
 use Prim.Native.Nat.{_-_, _≤_}
 use mathlib.Core.Path.{_≡_}
 use native.Mathlib.Omega.{arith}

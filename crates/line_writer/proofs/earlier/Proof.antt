@@ -1,5 +1,5 @@
--- `line_writer::earlier` meets its contract: no event is of no earlier step, and of an event its step is compared, as
--- `earlierAt` says.
+-- `line_writer::earlier` meets its contract: without an event nothing is earlier, and of two events the steps are
+-- compared, as `earlierAt` says.
 use mathlib.Core.Path.{_≡_, refl}
 use native.Mathlib.Omega.{arith}
 use borrow.Author.Tests.{eq-eqb, ne-eqb}
