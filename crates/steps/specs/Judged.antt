@@ -1,4 +1,5 @@
--- The parts in which a line of a log is judged, each with its refusals: read (21, 22), counted (23), and at a marking (24, 25).
+-- The parts in which a line of a log is judged, each with its refusals: read (21, 22), counted (23), and at a marking
+-- (24, 25).
 use Prim.Native.Nat.{ℕ, _+_, _<_}
 use mathlib.Core.Path.{_≡_}
 use mathlib.Core.Bool.{not}
@@ -67,5 +68,7 @@ lineAt N k l events m = do
 
 -- a step is judged as the definitions say, for every net and marking that are held
 abbrev pub Judges : (xs : List ℕ) (count : ℕ) (sets marking : List ℕ) (m k : ℕ) → StepAnswer → Type 0
-Judges xs count sets marking m k a = (N : Net) (ts mk : List ℕ) → HoldsArcs N sets m → HoldsStep xs count ts → ((t : ℕ) → In t ts → t < N .transitions) → HoldsMarking m marking mk
+Judges xs count sets marking m k a =
+    (N : Net) (ts mk : List ℕ) → HoldsArcs N sets m → HoldsStep xs count ts
+    → ((t : ℕ) → In t ts → t < N .transitions) → HoldsMarking m marking mk
     → stepAnswer a ≡ judgeStep N k mk ts

@@ -7,14 +7,21 @@ use lib.ListN.{length, getD, take}
 use lib.Dec.{ltb}
 use Rattle.spec.specs.Lists.{any, sumOf, upTo}
 use Rattle.bit_sets.specs.Bits.{bit}
-use Rattle.arc_sets.specs.Sets.{arcAt, Within}
+use Rattle.arc_sets.specs.Sets.{madeAt, guardsAt, arcAt, Within}
+
+-- the events that the array of a step has room for, and the places of the array of a marking
+abbrev pub stepLong : ℕ
+stepLong = 128
+
+abbrev pub markingLong : ℕ
+markingLong = 32
 
 -- ---- a step
 
 -- A step is an array of transitions, of which the first `count` are its events'.
 pub record IsStep (xs : List ℕ) (count : ℕ) : Type 0 where
-  pub long : length xs ≡ 128
-  pub few : count ≤ 128
+  pub long : length xs ≡ stepLong
+  pub few : count ≤ stepLong
   pub known : (i : ℕ) → i < count → getD xs i 0 < 32
 
 -- the events' transitions are those of a step of the definitions
@@ -47,23 +54,23 @@ pub record AddedSet (from set : ℕ) (old new : List ℕ) : Type 0 where
 
 -- what summing a step's sets relies on
 pub record Summable (at from : ℕ) (sets xs : List ℕ) : Type 0 where
-  pub kind : at ≤ 64
+  pub kind : at ≤ guardsAt
   pub places : ℕ
   pub few : places ≤ 32
   pub within : Within places sets
-  pub long : from + 32 ≤ length xs
+  pub long : from + markingLong ≤ length xs
   pub low : (p : ℕ) → p < places → getD xs (from + p) 0 < 4294967040
 
 -- by place, what f says of the step's events is added to the entries from a position on
 pub record Summed (f : ℕ → ℕ → ℕ) (ts : List ℕ) (from : ℕ) (old new : List ℕ) : Type 0 where
   pub long : length new ≡ length old
   pub before : (i : ℕ) → i < from → getD new i 0 ≡ getD old i 0
-  pub here : (p : ℕ) → p < 32 → getD new (from + p) 0 ≡ getD old (from + p) 0 + over f ts p
-  pub beyond : (i : ℕ) → from + 32 ≤ i → getD new i 0 ≡ getD old i 0
+  pub here : (p : ℕ) → p < markingLong → getD new (from + p) 0 ≡ getD old (from + p) 0 + over f ts p
+  pub beyond : (i : ℕ) → from + markingLong ≤ i → getD new i 0 ≡ getD old i 0
 
 -- each place of the set has an entry that can be lessened
 abbrev pub Payable : ℕ → List ℕ → Type 0
-Payable set xs = (p : ℕ) → bit set p ≡ 1 → (p < 32) × (0 < getD xs p 0)
+Payable set xs = (p : ℕ) → bit set p ≡ 1 → (p < markingLong) × (0 < getD xs p 0)
 
 -- the places of a set are taken
 pub record TakenSet (set : ℕ) (old new : List ℕ) : Type 0 where
@@ -88,7 +95,7 @@ pub record Joined (f : ℕ → ℕ → ℕ) (ts : List ℕ) (set : ℕ) : Type 0
 
 -- an array has the token counts of a marking of n places, and 0 beyond
 pub record HoldsMarking (n : ℕ) (xs m : List ℕ) : Type 0 where
-  pub long : length xs ≡ 32
+  pub long : length xs ≡ markingLong
   pub few : n ≤ 32
   pub places : length m ≡ n
   pub tokens : (p : ℕ) → getD xs p 0 ≡ getD m p 0
@@ -104,12 +111,13 @@ pub record Blocks (xs : List ℕ) (set : ℕ) (r : Bool) : Type 0 where
 
 -- what playing a step relies on: enough tokens are there, and those made fit
 pub record Playable (sets ts xs : List ℕ) : Type 0 where
-  pub long : length xs ≡ 32
+  pub long : length xs ≡ markingLong
   pub within : Within 32 sets
   pub enough : (p : ℕ) → over (arcAt sets 0) ts p ≤ getD xs p 0
-  pub fits : (p : ℕ) → p < 32 → getD xs p 0 < 4294967040
+  pub fits : (p : ℕ) → p < markingLong → getD xs p 0 < 4294967040
 
 -- the tokens of each place, once those taken are gone and those made are there
 pub record MovedBy (sets ts old new : List ℕ) : Type 0 where
   pub long : length new ≡ length old
-  pub here : (p : ℕ) → p < 32 → getD new p 0 ≡ getD old p 0 - over (arcAt sets 0) ts p + over (arcAt sets 32) ts p
+  pub here : (p : ℕ) → p < markingLong
+      → getD new p 0 ≡ getD old p 0 - over (arcAt sets 0) ts p + over (arcAt sets madeAt) ts p

@@ -3,8 +3,9 @@ ghost use mathlib.Core.Path.{_≡_};
 ghost use Prim.Native.Nat.{_+_, _≤_};
 ghost use lib.ListN.{length, getD, take};
 ghost use Rattle.lists.specs.Stretch.{MappedFrom};
-ghost use Rattle.arc_sets.specs.Sets.{Within, arcAt};
-ghost use Rattle.steps.specs.StepArrays.{IsStep, Addable, AddedSet, TakenSet, Summable, Summed, Payable, Paid, Within32, falls, Joined, Blocks, Playable, MovedBy};
+ghost use Rattle.arc_sets.specs.Sets.{guardsAt, Within, arcAt};
+ghost use Rattle.steps.specs.StepArrays.{markingLong, IsStep, Addable, AddedSet, TakenSet, Summable, Summed};
+ghost use Rattle.steps.specs.StepArrays.{Payable, Paid, Within32, falls, Joined, Blocks, Playable, MovedBy};
 ghost use Rattle.steps.specs.Judged.{Judges};
 use arc_sets::GUARDS;
 use arc_sets::MADE;
@@ -18,8 +19,8 @@ pub const STEP: usize = 128;
 
 pub const MARKING: usize = 32;
 
-// What a line of a log is refused for without its record being built, with its line: it is malformed, it names an unknown
-// transition, it has more events than are left, or its step is not enabled at the marking.
+// What a line of a log is refused for without its record being built, with its line: it is malformed, it names an
+// unknown transition, it has more events than are left, or its step is not enabled at the marking.
 pub enum StepRefusal {
     Malformed(usize),
     UnknownTransition(usize),
@@ -66,7 +67,8 @@ pub fn add_all(
     from: usize,
 )
     requires { ⌜ IsStep (now step) count × Summable at from (now sets) (now xs) ⌝ }
-    ensures { λ _. ⌜ Summed (arcAt (now (sets .entry)) at) (take count (now (step .entry))) from (now (xs .entry)) (now (xs .exit)) ⌝ }
+    ensures { λ _. ⌜ Summed (arcAt (now (sets .entry)) at) (take count (now (step .entry))) from
+        (now (xs .entry)) (now (xs .exit)) ⌝ }
 {
     let mut i: usize = 0;
     while i < count {
@@ -77,7 +79,7 @@ pub fn add_all(
 
 // One less at each place of a set.
 fn take_set(xs: &mut [u32; MARKING], set: u64)
-    requires { ⌜ (length (now xs) ≡ 32) × Payable set (now xs) ⌝ }
+    requires { ⌜ (length (now xs) ≡ markingLong) × Payable set (now xs) ⌝ }
     ensures { λ _. ⌜ TakenSet set (now (xs .entry)) (now (xs .exit)) ⌝ }
 {
     let mut bits = set;
@@ -91,7 +93,8 @@ fn take_set(xs: &mut [u32; MARKING], set: u64)
 // The inputs of each event of a step are taken from a marking.
 fn take_all(step: &[u8; STEP], count: usize, sets: &[u64; SETS], marking: &mut [u32; MARKING])
     requires { ⌜ IsStep (now step) count × Playable (now sets) (take count (now step)) (now marking) ⌝ }
-    ensures { λ _. ⌜ Paid (arcAt (now (sets .entry)) 0) (take count (now (step .entry))) (now (marking .entry)) (now (marking .exit)) ⌝ }
+    ensures { λ _. ⌜ Paid (arcAt (now (sets .entry)) 0) (take count (now (step .entry)))
+        (now (marking .entry)) (now (marking .exit)) ⌝ }
 {
     let mut i: usize = 0;
     while i < count {
@@ -120,7 +123,7 @@ fn short(marking: &[u32; MARKING], taken: &[u32; MARKING], places: usize) -> boo
 // The places that inhibit one of the step's events.
 fn guards_of(step: &[u8; STEP], count: usize, sets: &[u64; SETS]) -> u64
     requires { ⌜ IsStep (now step) count ⌝ }
-    ensures { λ r. ⌜ Joined (arcAt (now (sets .entry)) 64) (take count (now (step .entry))) r ⌝ }
+    ensures { λ r. ⌜ Joined (arcAt (now (sets .entry)) guardsAt) (take count (now (step .entry))) r ⌝ }
 {
     let mut set: u64 = 0;
     let mut i: usize = 0;
@@ -173,7 +176,8 @@ pub fn judge(
 // The marking after a step that is enabled: what its events take is taken first, and then what they make is there.
 pub fn play(step: &[u8; STEP], count: usize, sets: &[u64; SETS], marking: &mut [u32; MARKING])
     requires { ⌜ IsStep (now step) count × Playable (now sets) (take count (now step)) (now marking) ⌝ }
-    ensures { λ _. ⌜ MovedBy (now (sets .entry)) (take count (now (step .entry))) (now (marking .entry)) (now (marking .exit)) ⌝ }
+    ensures { λ _. ⌜ MovedBy (now (sets .entry)) (take count (now (step .entry)))
+        (now (marking .entry)) (now (marking .exit)) ⌝ }
 {
     take_all(step, count, sets, marking);
     add_all(step, count, sets, MADE, marking, 0);
@@ -188,11 +192,12 @@ fn wide_count(k: u16) -> u32
 
 // The token counts of a net, put into an array from `at` on.
 pub fn put_tokens(tokens: &[u16; TOKENS], counts: &mut [u32], at: usize)
-    requires { ⌜ at + 32 ≤ length (now counts) ⌝ }
-    ensures { λ _. ⌜ MappedFrom (now (counts .entry)) at 32 (λ p. getD (now (tokens .entry)) p 0) (now (counts .exit)) ⌝ }
+    requires { ⌜ at + markingLong ≤ length (now counts) ⌝ }
+    ensures { λ _. ⌜ MappedFrom (now (counts .entry)) at markingLong (λ p. getD (now (tokens .entry)) p 0)
+        (now (counts .exit)) ⌝ }
 {
     let mut p: usize = 0;
-    while p < 32 {
+    while p < TOKENS {
         let i = at + p;
         counts[i] = wide_count(tokens[p]);
         p += 1;

@@ -1,3 +1,5 @@
+-- `steps::short` meets its contract. The loop's invariant: a place from p on falls short just if one of all places
+-- does. One that does settles it, and past the last place none is left.
 use Prim.Native.Nat.{ℕ, _-_, _≤_}
 use mathlib.Core.Path.{_≡_, sym, _∙_}
 use mathlib.Core.Bool.{Bool}
