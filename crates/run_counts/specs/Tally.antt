@@ -10,7 +10,7 @@ use Rattle.spec.specs.Net.{Net, places, makes, inhibits}
 use Rattle.spec.specs.Record.{Condition}
 use Rattle.spec.specs.Building.{Event, Run}
 use Rattle.columns.specs.Columns.{column}
-use Rattle.arc_sets.specs.Sets.{arcAt}
+use Rattle.arc_sets.specs.Sets.{madeAt, guardsAt, arcAt}
 use Rattle.steps.specs.StepArrays.{over}
 
 -- the condition is one of place p
@@ -30,13 +30,30 @@ ownAll N es = sumOf (λ v. ownOf N (v .transition)) es
 
 -- ---- by sets and arrays
 
+-- the counts by place, of all kinds and of one kind, and where those of the events that a place inhibits start
+abbrev pub countsLong : ℕ
+countsLong = 96
+
+abbrev pub countsOfKind : ℕ
+countsOfKind = 32
+
+abbrev pub watchedAt : ℕ
+watchedAt = 32
+
+-- the conditions of each place, and the events that it inhibits
+abbrev pub heldColumn : List ℕ → List ℕ
+heldColumn counts = column 0 countsOfKind counts
+
+abbrev pub watchedColumn : List ℕ → List ℕ
+watchedColumn counts = column watchedAt countsOfKind counts
+
 -- how many places the outputs of transition t have
 unfoldable pub sizeOf : List ℕ → ℕ → ℕ
-sizeOf sets t = sumOf (arcAt sets 32 t) (upTo 64)
+sizeOf sets t = sumOf (arcAt sets madeAt t) (upTo 64)
 
 -- how many of them inhibit it
 unfoldable pub bothOf : List ℕ → ℕ → ℕ
-bothOf sets t = sumOf (λ p. arcAt sets 64 t p * arcAt sets 32 t p) (upTo 64)
+bothOf sets t = sumOf (λ p. arcAt sets guardsAt t p * arcAt sets madeAt t p) (upTo 64)
 
 -- what is counted of a run: of each place its conditions and the events that it inhibits, and how often an event made a
 -- condition in a place that inhibits it
@@ -47,7 +64,7 @@ pub record Tally : Type 0 where
 
 -- by columns of the counts
 abbrev pub tallyAt : ℕ → List ℕ → Tally
-tallyAt own counts = record { held = column 0 32 counts; watched = column 32 32 counts; own = own }
+tallyAt own counts = record { held = heldColumn counts; watched = watchedColumn counts; own = own }
 
 -- the entries of two arrays at p, multiplied
 unfoldable pub timesAt : List ℕ → List ℕ → ℕ → ℕ
@@ -60,25 +77,25 @@ AtMost b n xs = (p : ℕ) → p < n → getD xs p 0 ≤ b
 -- what adding to a tally relies on
 pub record Small (m : ℕ) (t : Tally) : Type 0 where
   pub few : m ≤ 32
-  pub longHeld : length (t .held) ≡ 32
-  pub longWatched : length (t .watched) ≡ 32
+  pub longHeld : length (t .held) ≡ countsOfKind
+  pub longWatched : length (t .watched) ≡ countsOfKind
   pub held : AtMost 100000 m (t .held)
   pub watched : AtMost 100000 m (t .watched)
   pub own : t .own ≤ 1000000000000
 
 -- the tally after a step whose transitions are ts
 pub record Tallies (sets : List ℕ) (m : ℕ) (ts : List ℕ) (t t′ : Tally) : Type 0 where
-  pub longHeld : length (t′ .held) ≡ 32
-  pub longWatched : length (t′ .watched) ≡ 32
-  pub held : (p : ℕ) → p < m → getD (t′ .held) p 0 ≡ getD (t .held) p 0 + over (arcAt sets 32) ts p
-  pub watched : (p : ℕ) → p < m → getD (t′ .watched) p 0 ≡ getD (t .watched) p 0 + over (arcAt sets 64) ts p
+  pub longHeld : length (t′ .held) ≡ countsOfKind
+  pub longWatched : length (t′ .watched) ≡ countsOfKind
+  pub held : (p : ℕ) → p < m → getD (t′ .held) p 0 ≡ getD (t .held) p 0 + over (arcAt sets madeAt) ts p
+  pub watched : (p : ℕ) → p < m → getD (t′ .watched) p 0 ≡ getD (t .watched) p 0 + over (arcAt sets guardsAt) ts p
   pub own : t′ .own ≡ t .own + sumOf (bothOf sets) ts
 
 -- ---- the tally of a run
 
 pub record Tallied (N : Net) (r : Run) (t : Tally) : Type 0 where
-  pub longHeld : length (t .held) ≡ 32
-  pub longWatched : length (t .watched) ≡ 32
+  pub longHeld : length (t .held) ≡ countsOfKind
+  pub longWatched : length (t .watched) ≡ countsOfKind
   pub held : (p : ℕ) → p < places N → getD (t .held) p 0 ≡ count (heldIn p) (r .conditions)
   pub watched : (p : ℕ) → p < places N → getD (t .watched) p 0 ≡ count (watchedFrom N p) (r .events)
   pub own : t .own ≡ ownAll N (r .events)

@@ -1,13 +1,11 @@
-// What is counted of a run: by place its conditions and the events that the place inhibits, so that its conditions and its
-// marks are known without building them.
+// What is counted of a run: by place its conditions and the events that the place inhibits, so that its conditions and
+// its marks are known without building them.
 ghost use mathlib.Core.Path.{_≡_};
 ghost use Prim.Native.Nat.{_*_, _≤_};
 ghost use lib.ListN.{take};
 ghost use Rattle.spec.specs.Lists.{sumOf, upTo};
-ghost use Rattle.columns.specs.Columns.{column};
-ghost use Rattle.arc_sets.specs.Sets.{arcAt};
 ghost use Rattle.steps.specs.StepArrays.{IsStep};
-ghost use Rattle.run_counts.specs.Tally.{sizeOf, bothOf, timesAt, AtMost};
+ghost use Rattle.run_counts.specs.Tally.{heldColumn, watchedColumn, sizeOf, bothOf, timesAt, AtMost};
 use arc_sets::GUARDS;
 use arc_sets::MADE;
 use arc_sets::SETS;
@@ -19,8 +17,8 @@ use steps::STEP;
 // The counts by place: three for each.
 pub const COUNTS: usize = 96;
 
-// The counts by place stand in one array, 32 entries each: the conditions, the events that the place inhibits, and the first
-// condition that may be free.
+// The counts by place stand in one array, 32 entries each: the conditions, the events that the place inhibits, and the
+// first condition that may be free.
 pub const WATCHED: usize = 32;
 
 // How many conditions the events of a step make.
@@ -54,8 +52,8 @@ pub fn own_all(step: &[u8; STEP], count: usize, sets: &[u64; SETS]) -> usize
 
 // In the first m places, the conditions times the events that the place inhibits.
 pub fn products(counts: &[u32; COUNTS], m: usize) -> usize
-    requires { ⌜ (m ≤ 32) × AtMost 1000000 m (column 0 32 (now counts)) × AtMost 1000000 m (column 32 32 (now counts)) ⌝ }
-    ensures { λ r. ⌜ r ≡ sumOf (timesAt (column 0 32 (now (counts .entry))) (column 32 32 (now (counts .entry)))) (upTo m) ⌝ }
+    requires { ⌜ (m ≤ 32) × AtMost 1000000 m (heldColumn (now counts)) × AtMost 1000000 m (watchedColumn (now counts)) ⌝ }
+    ensures { λ r. ⌜ r ≡ sumOf (timesAt (heldColumn (now (counts .entry))) (watchedColumn (now (counts .entry)))) (upTo m) ⌝ }
 {
     let mut r: usize = 0;
     let mut p: usize = 0;

@@ -21,6 +21,9 @@ use steps::StepAnswer;
 use steps::StepRefusal;
 use steps::judge;
 
+// The events that a run may have.
+const MOST_EVENTS: usize = 128;
+
 // The answer to a line, how many events it has, and where the next line starts.
 pub struct StepLine {
     pub answer: StepAnswer,
@@ -51,7 +54,8 @@ fn going(count: usize, next: usize) -> StepLine
 // Any line, read: 21 and 22. Its transitions go into an array, if it has room for them.
 fn any_line(l: &[u8], ended: bool, next: usize, x: Position, step: &mut [u8; STEP]) -> StepLine
     requires { ⌜ Readable x (now step) ⌝ }
-    ensures { λ r. ⌜ (r .next ≡ next) × ReadLine (lineOf (now (l .entry)) ended) x (r .answer) (r .count) (now (step .exit)) ⌝ }
+    ensures { λ r. ⌜ (r .next ≡ next)
+        × ReadLine (lineOf (now (l .entry)) ended) x (r .answer) (r .count) (now (step .exit)) ⌝ }
 {
     if !is_step_line(l, ended) {
         return refused(StepRefusal::Malformed(x.line), next);
@@ -60,7 +64,7 @@ fn any_line(l: &[u8], ended: bool, next: usize, x: Position, step: &mut [u8; STE
         return refused(StepRefusal::UnknownTransition(x.line), next);
     }
     let count = count_numbers(l);
-    if 128 < count {
+    if STEP < count {
         return going(count, next);
     }
     *step = numbers(l);
@@ -89,7 +93,7 @@ pub fn count_step(x: Position, count: usize) -> StepAnswer
     requires { ⌜ x .events ≤ 128 ⌝ }
     ensures { λ r. ⌜ stepAnswer r ≡ countStep (x .line) (x .events) count ⌝ }
 {
-    if 128 - x.events < count {
+    if MOST_EVENTS - x.events < count {
         return StepAnswer::Refused(StepRefusal::OverEvents(x.line));
     }
     StepAnswer::Goes

@@ -1,3 +1,5 @@
+-- `step_lines::count_step` meets its contract: more events than are left of 128 is the same test as more than 128 in
+-- all, since no more than 128 are there.
 use mathlib.Core.Path.{sym}
 use native.Mathlib.Omega.{arith}
 use borrow.Author.Needs.{needs}
