@@ -74,6 +74,14 @@ timesAt xs ys p = getD xs p 0 * getD ys p 0
 abbrev pub AtMost : ℕ → ℕ → List ℕ → Type 0
 AtMost b n xs = (p : ℕ) → p < n → getD xs p 0 ≤ b
 
+-- of each of the first m places, the conditions and the events that it inhibits are few enough to be multiplied
+abbrev pub Countable : ℕ → List ℕ → Type 0
+Countable m counts = (m ≤ 32) × AtMost 1000000 m (heldColumn counts) × AtMost 1000000 m (watchedColumn counts)
+
+-- in the first m places, the conditions times the events that the place inhibits
+abbrev pub productsOf : List ℕ → ℕ → ℕ
+productsOf counts m = sumOf (timesAt (heldColumn counts) (watchedColumn counts)) (upTo m)
+
 -- what adding to a tally relies on
 pub record Small (m : ℕ) (t : Tally) : Type 0 where
   pub few : m ≤ 32

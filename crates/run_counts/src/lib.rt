@@ -3,9 +3,9 @@
 ghost use mathlib.Core.Path.{_≡_};
 ghost use Prim.Native.Nat.{_*_, _≤_};
 ghost use lib.ListN.{take};
-ghost use Rattle.spec.specs.Lists.{sumOf, upTo};
+ghost use Rattle.spec.specs.Lists.{sumOf};
 ghost use Rattle.steps.specs.StepArrays.{IsStep};
-ghost use Rattle.run_counts.specs.Tally.{heldColumn, watchedColumn, sizeOf, bothOf, timesAt, AtMost};
+ghost use Rattle.run_counts.specs.Tally.{sizeOf, bothOf, Countable, productsOf};
 use arc_sets::GUARDS;
 use arc_sets::MADE;
 use arc_sets::SETS;
@@ -52,8 +52,8 @@ pub fn own_all(step: &[u8; STEP], count: usize, sets: &[u64; SETS]) -> usize
 
 // In the first m places, the conditions times the events that the place inhibits.
 pub fn products(counts: &[u32; COUNTS], m: usize) -> usize
-    requires { ⌜ (m ≤ 32) × AtMost 1000000 m (heldColumn (now counts)) × AtMost 1000000 m (watchedColumn (now counts)) ⌝ }
-    ensures { λ r. ⌜ r ≡ sumOf (timesAt (heldColumn (now (counts .entry))) (watchedColumn (now (counts .entry)))) (upTo m) ⌝ }
+    requires { ⌜ Countable m (now counts) ⌝ }
+    ensures { λ r. ⌜ r ≡ productsOf (now (counts .entry)) m ⌝ }
 {
     let mut r: usize = 0;
     let mut p: usize = 0;
