@@ -5,17 +5,27 @@ use mathlib.Core.Bool.{Bool, true, false, _&&_, cond}
 use mathlib.Core.Option.{Option, none, some}
 use mathlib.Core.List.{List, _++_, map}
 use lib.Dec.{eqb}
-use lib.ListN.{length, getD}
+use lib.ListN.{length, getD, take}
 use Rattle.spec.specs.Lists.{upTo}
 use Rattle.spec.specs.Record.{Condition}
 use Rattle.columns.specs.Columns.{column}
 use Rattle.bit_sets.specs.Bits.{bit}
-use Rattle.runs.specs.Flows.{Flow, flow, spread}
+use Rattle.arc_sets.specs.Sets.{madeAt, arcAt}
+use Rattle.run_counts.specs.Tally.{countsLong, countsOfKind}
+use Rattle.runs.specs.Flows.{Flow, flow, flows, spread}
 use Rattle.runs.specs.Consume.{taking}
+use Rattle.conditions.specs.declared.Extent.{Extent}
 
 -- the tokens that event e moves in the first n places, one in each place of a set
 unfoldable pub tokensOf : ℕ → ℕ → ℕ → List Flow
 tokensOf set e n = map (flow e) (spread (bit set) n)
+
+-- the tokens that the next step of a run takes, and those that it makes: each with its event and its place
+abbrev pub takenNext : (sets step : List ℕ) → ℕ → Extent → List Flow
+takenNext sets step count x = flows (arcAt sets 0) 64 (x .events) (take count step)
+
+abbrev pub madeNext : (sets step : List ℕ) → ℕ → Extent → List Flow
+madeNext sets step count x = flows (arcAt sets madeAt) 64 (x .events) (take count step)
 
 -- an event's number, or 128 for none
 unfoldable pub decoded : ℕ → Option ℕ
@@ -23,7 +33,11 @@ decoded v = cond (eqb v 128) none (some v)
 
 -- the condition with number i, by the arrays of places, producers and consumers
 unfoldable pub conditionIn : List ℕ → List ℕ → List ℕ → ℕ → Condition
-conditionIn ps gs fs i = record { place = getD ps i 0; producer = decoded (getD gs i 0); consumer = decoded (getD fs i 0) }
+conditionIn ps gs fs i = record {
+  place = getD ps i 0;
+  producer = decoded (getD gs i 0);
+  consumer = decoded (getD fs i 0);
+}
 
 -- the first n of them
 unfoldable pub conditionsIn : ℕ → List ℕ → List ℕ → List ℕ → List Condition
@@ -49,7 +63,7 @@ pub record Cursors (n : ℕ) (ps fs nx : List ℕ) : Type 0 where
 pub record Ready (n : ℕ) (ps fs nx : List ℕ) : Type 0 where
   pub few : n ≤ 512
   pub long : length fs ≡ 512
-  pub wide : length nx ≡ 32
+  pub wide : length nx ≡ countsOfKind
   pub cursors : Cursors n ps fs nx
 
 -- the tokens were taken from the first n conditions, one after the other
@@ -75,21 +89,41 @@ pub record Made (cs : List Condition) (n : ℕ) (ps gs fs : List ℕ) (r : ℕ) 
 
 -- ---- by columns of a record's bytes, and of the counts by place
 
+-- the places, producers and consumers of the conditions
+abbrev pub placeColumn : List ℕ → List ℕ
+placeColumn rec = column 128 512 rec
+
+abbrev pub producerColumn : List ℕ → List ℕ
+producerColumn rec = column 640 512 rec
+
+abbrev pub consumerColumn : List ℕ → List ℕ
+consumerColumn rec = column 1152 512 rec
+
+-- where the cursors of the places start among the counts, and the cursors
+abbrev pub nextAt : ℕ
+nextAt = 64
+
+abbrev pub nextColumn : List ℕ → List ℕ
+nextColumn counts = column nextAt countsOfKind counts
+
+-- what a function that takes some of the first n conditions relies on
 pub record ReadyAt (n : ℕ) (rec counts : List ℕ) : Type 0 where
   pub long : 1664 ≤ length rec
-  pub wide : length counts ≡ 96
-  pub ready : Ready n (column 128 512 rec) (column 1152 512 rec) (column 64 32 counts)
+  pub wide : length counts ≡ countsLong
+  pub ready : Ready n (placeColumn rec) (consumerColumn rec) (nextColumn counts)
 
 -- the tokens were taken, and nothing in front of the consumers and of the cursors changed
 pub record TookAt (xs : List Flow) (n : ℕ) (rec counts rec′ counts′ : List ℕ) : Type 0 where
-  pub took : Took xs n (column 128 512 rec) (column 1152 512 rec) (column 64 32 counts) (column 1152 512 rec′) (column 64 32 counts′)
+  pub took : Took xs n (placeColumn rec) (consumerColumn rec) (nextColumn counts)
+      (consumerColumn rec′) (nextColumn counts′)
   pub long : length rec′ ≡ length rec
   pub wide : length counts′ ≡ length counts
   pub kept : (at k : ℕ) → at + k ≤ 1152 → column at k rec′ ≡ column at k rec
-  pub counted : (at k : ℕ) → at + k ≤ 64 → column at k counts′ ≡ column at k counts
+  pub counted : (at k : ℕ) → at + k ≤ nextAt → column at k counts′ ≡ column at k counts
 
 -- the conditions were made, and nothing in front of their places changed
 pub record MadeAt (cs : List Condition) (n : ℕ) (rec : List ℕ) (r : ℕ) (rec′ : List ℕ) : Type 0 where
-  pub made : Made cs n (column 128 512 rec) (column 640 512 rec) (column 1152 512 rec) r (column 128 512 rec′) (column 640 512 rec′) (column 1152 512 rec′)
+  pub made : Made cs n (placeColumn rec) (producerColumn rec) (consumerColumn rec) r
+      (placeColumn rec′) (producerColumn rec′) (consumerColumn rec′)
   pub long : length rec′ ≡ length rec
   pub kept : (at k : ℕ) → at + k ≤ 128 → column at k rec′ ≡ column at k rec

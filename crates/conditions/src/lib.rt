@@ -2,13 +2,13 @@
 ghost use mathlib.Core.Path.{_≡_};
 ghost use mathlib.Core.List.{[], _∷_, map};
 ghost use Prim.Native.Nat.{_+_, _≤_, _<_};
-ghost use lib.ListN.{length, replicate, take};
-ghost use Rattle.runs.specs.Flows.{flow, flows};
+ghost use lib.ListN.{length, replicate};
+ghost use Rattle.runs.specs.Flows.{flow};
 ghost use Rattle.runs.specs.Consume.{made-of};
-ghost use Rattle.columns.specs.Columns.{column};
-ghost use Rattle.arc_sets.specs.Sets.{arcAt, Within};
+ghost use Rattle.arc_sets.specs.Sets.{Within};
 ghost use Rattle.steps.specs.StepArrays.{IsStep, Within32};
-ghost use Rattle.conditions.specs.Conditions.{tokensOf, FirstFree, fresh, ReadyAt, TookAt, MadeAt};
+ghost use Rattle.conditions.specs.Conditions.{tokensOf, takenNext, madeNext, placeColumn, consumerColumn};
+ghost use Rattle.conditions.specs.Conditions.{FirstFree, fresh, ReadyAt, TookAt, MadeAt};
 use arc_sets::MADE;
 use arc_sets::SETS;
 use arc_sets::lowest;
@@ -21,8 +21,8 @@ use record_columns::PRODUCERS;
 use run_counts::COUNTS;
 use steps::STEP;
 
-// How far a run has come, beside the arrays that hold it: the line of the log that is next, its events and its conditions,
-// and how often an event made a condition in a place that inhibits it; and how large its net is.
+// How far a run has come, beside the arrays that hold it: the line of the log that is next, its events and its
+// conditions, and how often an event made a condition in a place that inhibits it; and how large its net is.
 pub struct Extent {
     pub places: usize,
     pub transitions: usize,
@@ -38,7 +38,7 @@ pub const NEXT: usize = 64;
 // The first condition of place p from a number on that no event has taken, or the end.
 fn first_free(p: usize, start: usize, end: usize, rec: &[u8]) -> usize
     requires { ⌜ (start ≤ end) × (end ≤ 512) × (1664 ≤ length (now rec)) ⌝ }
-    ensures { λ r. ⌜ FirstFree p start end (column 128 512 (now (rec .entry))) (column 1152 512 (now (rec .entry))) r ⌝ }
+    ensures { λ r. ⌜ FirstFree p start end (placeColumn (now (rec .entry))) (consumerColumn (now (rec .entry))) r ⌝ }
 {
     let mut i = start;
     while i < end {
@@ -53,7 +53,8 @@ fn first_free(p: usize, start: usize, end: usize, rec: &[u8]) -> usize
 // Event e takes the first free condition of place p among the first n.
 fn take_one(e: usize, p: usize, n: usize, rec: &mut [u8], counts: &mut [u32; COUNTS])
     requires { ⌜ (e < 128) × (p < 32) × ReadyAt n (now rec) (now counts) ⌝ }
-    ensures { λ _. ⌜ TookAt (flow e p ∷ []) n (now (rec .entry)) (now (counts .entry)) (now (rec .exit)) (now (counts .exit)) ⌝ }
+    ensures { λ _. ⌜ TookAt (flow e p ∷ []) n (now (rec .entry)) (now (counts .entry))
+        (now (rec .exit)) (now (counts .exit)) ⌝ }
 {
     let i = first_free(p, wide_word(counts[NEXT + p]), n, rec);
     if n <= i {
@@ -66,7 +67,8 @@ fn take_one(e: usize, p: usize, n: usize, rec: &mut [u8], counts: &mut [u32; COU
 // It takes one of each place of a set, by place.
 fn take_event(e: usize, set: u64, n: usize, rec: &mut [u8], counts: &mut [u32; COUNTS])
     requires { ⌜ (e < 128) × Within32 set × ReadyAt n (now rec) (now counts) ⌝ }
-    ensures { λ _. ⌜ TookAt (tokensOf set e 64) n (now (rec .entry)) (now (counts .entry)) (now (rec .exit)) (now (counts .exit)) ⌝ }
+    ensures { λ _. ⌜ TookAt (tokensOf set e 64) n (now (rec .entry)) (now (counts .entry))
+        (now (rec .exit)) (now (counts .exit)) ⌝ }
 {
     let mut bits = set;
     while bits != 0 {
@@ -85,8 +87,10 @@ pub fn take_step(
     rec: &mut [u8],
     counts: &mut [u32; COUNTS],
 )
-    requires { ⌜ (x .events + count ≤ 128) × IsStep (now step) count × Within 32 (now sets) × ReadyAt (x .conditions) (now rec) (now counts) ⌝ }
-    ensures { λ _. ⌜ TookAt (flows (arcAt (now (sets .entry)) 0) 64 (x .events) (take count (now (step .entry)))) (x .conditions) (now (rec .entry)) (now (counts .entry)) (now (rec .exit)) (now (counts .exit)) ⌝ }
+    requires { ⌜ (x .events + count ≤ 128) × IsStep (now step) count × Within 32 (now sets)
+        × ReadyAt (x .conditions) (now rec) (now counts) ⌝ }
+    ensures { λ _. ⌜ TookAt (takenNext (now (sets .entry)) (now (step .entry)) count x) (x .conditions)
+        (now (rec .entry)) (now (counts .entry)) (now (rec .exit)) (now (counts .exit)) ⌝ }
 {
     let e = x.events;
     let n = x.conditions;
@@ -97,7 +101,8 @@ pub fn take_step(
     }
 }
 
-// So many new conditions of place p, with the code of their producer, are put behind the first n; how many there are then.
+// So many new conditions of place p, with the code of their producer, are put behind the first n; how many there are
+// then.
 pub fn make_times(v: u8, p: usize, count: usize, n: usize, rec: &mut [u8]) -> usize
     requires { ⌜ (p < 32) × (n + count ≤ 512) × (1664 ≤ length (now rec)) ⌝ }
     ensures { λ r. ⌜ MadeAt (replicate count (fresh v p)) n (now (rec .entry)) r (now (rec .exit)) ⌝ }
@@ -136,8 +141,10 @@ pub fn make_step(
     x: Extent,
     rec: &mut [u8],
 ) -> usize
-    requires { ⌜ (x .events + count ≤ 128) × IsStep (now step) count × Within 32 (now sets) × (x .conditions + length (flows (arcAt (now sets) 32) 64 (x .events) (take count (now step))) ≤ 512) × (1664 ≤ length (now rec)) ⌝ }
-    ensures { λ r. ⌜ MadeAt (map made-of (flows (arcAt (now (sets .entry)) 32) 64 (x .events) (take count (now (step .entry))))) (x .conditions) (now (rec .entry)) r (now (rec .exit)) ⌝ }
+    requires { ⌜ (x .events + count ≤ 128) × IsStep (now step) count × Within 32 (now sets)
+        × (x .conditions + length (madeNext (now sets) (now step) count x) ≤ 512) × (1664 ≤ length (now rec)) ⌝ }
+    ensures { λ r. ⌜ MadeAt (map made-of (madeNext (now (sets .entry)) (now (step .entry)) count x)) (x .conditions)
+        (now (rec .entry)) r (now (rec .exit)) ⌝ }
 {
     let e = x.events;
     let mut r = x.conditions;
