@@ -2,12 +2,11 @@
 ghost use mathlib.Core.Path.{_≡_};
 ghost use Prim.Native.Nat.{_+_, _≤_, _<_};
 ghost use lib.ListN.{length, take};
-ghost use Rattle.runs.specs.Flows.{flows};
-ghost use Rattle.arc_sets.specs.Sets.{arcAt, Within};
-ghost use Rattle.steps.specs.StepArrays.{IsStep};
+ghost use Rattle.arc_sets.specs.Sets.{Within};
+ghost use Rattle.steps.specs.StepArrays.{stepLong, IsStep};
 ghost use Rattle.spec.specs.Lists.{sum};
 ghost use Rattle.spec.specs.Building.{initialOf};
-ghost use Rattle.conditions.specs.Conditions.{MadeAt};
+ghost use Rattle.conditions.specs.Conditions.{madeNext, MadeAt};
 ghost use Rattle.history.specs.HistoryColumns.{AddedAt, Growable, GrownAt};
 use arc_sets::SETS;
 use conditions::Extent;
@@ -30,8 +29,10 @@ fn add_events(
     rec: &mut [u8],
     steps: &mut [u8; EVENTS],
 )
-    requires { ⌜ (k < 256) × (n + count ≤ 128) × (length (now step) ≡ 128) × (1664 ≤ length (now rec)) × (length (now steps) ≡ 128) ⌝ }
-    ensures { λ _. ⌜ AddedAt k (take count (now (step .entry))) n (now (rec .entry)) (now (steps .entry)) (n + count) (now (rec .exit)) (now (steps .exit)) ⌝ }
+    requires { ⌜ (k < 256) × (n + count ≤ 128) × (length (now step) ≡ stepLong)
+        × (1664 ≤ length (now rec)) × (length (now steps) ≡ 128) ⌝ }
+    ensures { λ _. ⌜ AddedAt k (take count (now (step .entry))) n (now (rec .entry)) (now (steps .entry))
+        (n + count) (now (rec .exit)) (now (steps .exit)) ⌝ }
 {
     let mut i: usize = 0;
     while i < count {
@@ -52,8 +53,11 @@ pub fn grow(
     steps: &mut [u8; EVENTS],
     counts: &mut [u32; COUNTS],
 ) -> usize
-    requires { ⌜ IsStep (now step) count × Within 32 (now sets) × Growable count (length (flows (arcAt (now sets) 32) 64 (x .events) (take count (now step)))) x (now rec) (now steps) (now counts) ⌝ }
-    ensures { λ r. ⌜ GrownAt (take count (now (step .entry))) count (now (sets .entry)) x (now (rec .entry)) (now (steps .entry)) (now (counts .entry)) r (now (rec .exit)) (now (steps .exit)) (now (counts .exit)) ⌝ }
+    requires { ⌜ IsStep (now step) count × Within 32 (now sets)
+        × Growable count (length (madeNext (now sets) (now step) count x)) x (now rec) (now steps) (now counts) ⌝ }
+    ensures { λ r. ⌜ GrownAt (take count (now (step .entry))) count (now (sets .entry)) x
+        (now (rec .entry)) (now (steps .entry)) (now (counts .entry))
+        r (now (rec .exit)) (now (steps .exit)) (now (counts .exit)) ⌝ }
 {
     add_events(x.line, step, count, x.events, rec, steps);
     take_step(step, count, sets, x, rec, counts);
@@ -62,7 +66,8 @@ pub fn grow(
 
 // The conditions of the initial marking, by place; how many there are.
 pub fn start(tokens: &[u16; TOKENS], m: usize, rec: &mut [u8]) -> usize
-    requires { ⌜ (m ≤ 32) × (length (now tokens) ≡ 32) × (sum (take m (now tokens)) ≤ 512) × (1664 ≤ length (now rec)) ⌝ }
+    requires { ⌜ (m ≤ 32) × (length (now tokens) ≡ 32) × (sum (take m (now tokens)) ≤ 512)
+        × (1664 ≤ length (now rec)) ⌝ }
     ensures { λ r. ⌜ MadeAt (initialOf 0 (take m (now (tokens .entry)))) 0 (now (rec .entry)) r (now (rec .exit)) ⌝ }
 {
     let mut r: usize = 0;
