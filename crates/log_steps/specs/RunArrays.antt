@@ -13,7 +13,7 @@ use Rattle.arc_sets.specs.Sets.{HoldsArcs}
 use Rattle.steps.specs.StepArrays.{IsStep, HoldsStep}
 use Rattle.steps.specs.Judged.{stepRefused, nothing, judgeStep}
 use Rattle.runs.specs.Built.{Good}
-use Rattle.run_counts.specs.Tally.{Tally, tallyAt, Tallied}
+use Rattle.run_counts.specs.Tally.{countsLong, Tally, tallyAt, Tallied}
 use Rattle.conditions.specs.declared.Extent.{Extent}
 use Rattle.history.specs.HistoryColumns.{History, eventsOf, conditionsOf, Whole, historyOf}
 use Rattle.log_steps.specs.declared.Played.{Played}
@@ -70,7 +70,7 @@ pub record Buildable (xs : List ℕ) (count : ℕ) (sets : List ℕ) (x : Extent
   pub some : 0 < count
   pub events : x .events + count ≤ 128
   pub long : 1664 ≤ length rec
-  pub wide : length counts ≡ 96
+  pub wide : length counts ≡ countsLong
   pub reached : Reached sets (x .places) (x .line) (runAt x rec steps counts)
 
 -- how far the run has come: its net stays, and a line that is played is passed
@@ -81,12 +81,18 @@ pub record Passes (x : Extent) (s : Played) : Type 0 where
 
 -- what a step that is enabled answers, of every net and run that are held
 abbrev pub BuildsOn : List ℕ → ℕ → ℕ → List ℕ → ℕ → Run → LogAnswer → Run → Type 0
-BuildsOn sets m k xs count x a y = (N : Net) (ts : List ℕ) (r : RunD) → HoldsArcs N sets m → HoldsStep xs count ts → ((t : ℕ) → In t ts → t < N .transitions) → judgeStep N k (r .marking) ts ≡ gives tt → HoldsRun N k x r
+BuildsOn sets m k xs count x a y =
+    (N : Net) (ts : List ℕ) (r : RunD) → HoldsArcs N sets m → HoldsStep xs count ts
+    → ((t : ℕ) → In t ts → t < N .transitions) → judgeStep N k (r .marking) ts ≡ gives tt → HoldsRun N k x r
     → Agrees nothing (logAnswer a) (λ r′. HoldsRun N (k + 1) y r′ × (r′ ≡ playStep N k ts r)) (buildStep N k ts r)
 
 -- by the lent arrays before and after it
-pub record BuiltOn (xs : List ℕ) (count : ℕ) (sets : List ℕ) (x : Extent) (rec steps counts : List ℕ) (s : Played) (rec′ steps′ counts′ : List ℕ) : Type 0 where
-  pub answers : BuildsOn sets (x .places) (x .line) xs count (runAt x rec steps counts) (s .answer) (runAt (s .run) rec′ steps′ counts′)
+pub record BuiltOn
+    (xs : List ℕ) (count : ℕ) (sets : List ℕ) (x : Extent) (rec steps counts : List ℕ)
+    (s : Played) (rec′ steps′ counts′ : List ℕ)
+    : Type 0 where
+  pub answers : BuildsOn sets (x .places) (x .line) xs count (runAt x rec steps counts)
+      (s .answer) (runAt (s .run) rec′ steps′ counts′)
   pub passes : Passes x s
   pub long : length rec′ ≡ length rec
   pub wide : length counts′ ≡ length counts

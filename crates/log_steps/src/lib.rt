@@ -17,6 +17,11 @@ use steps::STEP;
 use steps::StepRefusal;
 use steps::add_all;
 
+// The conditions and the marks that a record may have.
+const MOST_CONDITIONS: usize = 512;
+
+const MOST_MARKS: usize = 4096;
+
 // What a log is refused for: a line as a step, or that its record would be too large; with its line.
 pub enum LogRefusal {
     Step(StepRefusal),
@@ -55,17 +60,19 @@ pub fn build_step(
     counts: &mut [u32; COUNTS],
 ) -> Played
     requires { ⌜ Buildable (now step) count (now sets) x (now rec) (now steps) (now counts) ⌝ }
-    ensures { λ s. ⌜ BuiltOn (now (step .entry)) count (now (sets .entry)) x (now (rec .entry)) (now (steps .entry)) (now (counts .entry)) s (now (rec .exit)) (now (steps .exit)) (now (counts .exit)) ⌝ }
+    ensures { λ s. ⌜ BuiltOn (now (step .entry)) count (now (sets .entry)) x
+        (now (rec .entry)) (now (steps .entry)) (now (counts .entry))
+        s (now (rec .exit)) (now (steps .exit)) (now (counts .exit)) ⌝ }
 {
     let places = x.places;
     let line = x.line;
-    if 512 < x.conditions + made_all(step, count, sets) {
+    if MOST_CONDITIONS < x.conditions + made_all(step, count, sets) {
         return refused(LogRefusal::OverConditions(line), x);
     }
     add_all(step, count, sets, MADE, counts, 0);
     add_all(step, count, sets, GUARDS, counts, WATCHED);
     let own = x.own + own_all(step, count, sets);
-    if 4096 + own < products(counts, places) {
+    if MOST_MARKS + own < products(counts, places) {
         return refused(LogRefusal::OverMarks(line), x);
     }
     let conditions = grow(step, count, sets, x, rec, steps, counts);
