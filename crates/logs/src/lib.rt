@@ -43,7 +43,9 @@ pub fn play_log(
     marking: &mut [u32; MARKING],
 ) -> Played
     requires { ⌜ Begun (now sets) x (now rec) (now steps) (now counts) (now marking) ⌝ }
-    ensures { λ s. ⌜ PlayedLog (now (log .entry)) (now (sets .entry)) x (now (rec .entry)) (now (steps .entry)) (now (counts .entry)) (now (marking .entry)) s (now (rec .exit)) (now (steps .exit)) (now (counts .exit)) ⌝ }
+    ensures { λ s. ⌜ PlayedLog (now (log .entry)) (now (sets .entry)) x
+        (now (rec .entry)) (now (steps .entry)) (now (counts .entry)) (now (marking .entry))
+        s (now (rec .exit)) (now (steps .exit)) (now (counts .exit)) ⌝ }
 {
     let mut step = [0u8; STEP];
     let mut run = x;
@@ -79,7 +81,8 @@ pub fn begin(
     marking: &mut [u32; MARKING],
 ) -> Extent
     requires { ⌜ Beginnable (now tokens) places (now rec) (now counts) (now marking) ⌝ }
-    ensures { λ x. ⌜ BeginsAt (now (tokens .entry)) places transitions x (now (rec .entry)) (now (rec .exit)) (now (counts .exit)) (now (marking .exit)) ⌝ }
+    ensures { λ x. ⌜ BeginsAt (now (tokens .entry)) places transitions x (now (rec .entry))
+        (now (rec .exit)) (now (counts .exit)) (now (marking .exit)) ⌝ }
 {
     put_tokens(tokens, marking, 0);
     put_tokens(tokens, counts, 0);

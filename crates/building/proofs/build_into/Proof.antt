@@ -1,4 +1,5 @@
--- Each refusal is the buffer's, the net's or the log's; what is written and noted is the record of the run that the log leaves.
+-- `building::build_into` meets its contract: each refusal is the buffer's, the net's or the log's; what is written and
+-- noted is the record of the run that the log leaves.
 use mathlib.Core.Path.{refl, sym, _∙_}
 use native.Mathlib.Omega.{arith}
 use borrow.Author.Needs.{needs}
