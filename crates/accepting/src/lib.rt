@@ -2,17 +2,14 @@
 ghost use mathlib.Core.Path.{_≡_};
 ghost use Prim.Native.Nat.{_≤_};
 ghost use lib.ListN.{length};
-ghost use Rattle.spec.specs.Net.{Net as NetD};
-ghost use Rattle.spec.specs.Record.{RunRecord, bench};
+ghost use Rattle.spec.specs.Record.{bench};
 ghost use Rattle.net.specs.NetArrays.{netAt};
 ghost use Rattle.net_reader.specs.Reads.{Blank as NetBlank};
-ghost use Rattle.net.specs.declared.Net.{Net as NetA};
-ghost use Rattle.record_columns.specs.Layout.{HoldsMarks};
 ghost use Rattle.record_columns.specs.Enters.{Room, Spans};
 ghost use Rattle.record_reader.specs.Reads.{Blank as RecordBlank};
-ghost use Rattle.representation.specs.Held.{Held, Sound};
-ghost use Rattle.accepting.specs.Relation.{Blank, Ordered};
-ghost use Rattle.accepting.specs.Accepting.{Within, NetHeld, Judges, AcceptsRecord, Accepts, Keeps};
+ghost use Rattle.representation.specs.Held.{Sound};
+ghost use Rattle.accepting.specs.Relation.{Blank};
+ghost use Rattle.accepting.specs.Accepting.{Within, NetHeld, Orders, Judges, AcceptsRecord, Accepts, Keeps};
 use arc_rules::wrong_arcs;
 use arc_rules::wrong_initial;
 use mark_rules::wrong_kind;
@@ -35,6 +32,11 @@ use row_pairs::raise_conditions;
 use row_pairs::raise_marks;
 use spec::Limits;
 
+// A short text, by its bytes, and the words for the marks of the few conditions that it has.
+const SHORT_TEXT: usize = 128;
+
+const SHORT_MARKS: usize = 512;
+
 // Why a net and a record are not accepted: the net, or the record under it.
 pub enum Refusal {
     Net(NetRefusal),
@@ -46,7 +48,8 @@ pub enum Verdict {
     Refused(Refusal),
 }
 
-// Whether a net and a record are accepted, and their counts. The net, the record's bytes and its closed order are in what was lent.
+// Whether a net and a record are accepted, and their counts. The net, the record's bytes and its closed order are in
+// what was lent.
 pub struct Accepted {
     pub verdict: Verdict,
     pub places: usize,
@@ -67,11 +70,12 @@ pub fn bench() -> Limits
 
 // ---- the rules 35 to 39
 
-// 39: empty rows get the pairs of the marks and the conditions and are closed; the lowest event that is strictly before itself,
-// or the number of events.
+// 39: empty rows get the pairs of the marks and the conditions and are closed; the lowest event that is strictly before
+// itself, or the number of events.
 pub fn order(s: Counts, rec: &[u8], marks: &[u64], w: &mut [u64; WORDS]) -> usize
     requires { ⌜ Sound s (now rec) × Spans s (now marks) × Blank (now w) ⌝ }
-    ensures { λ r. ⌜ (length (now (w .exit)) ≡ length (now (w .entry))) × ((net : NetA) (N : NetD) (R : RunRecord) → Held net s (now (rec .entry)) N R → HoldsMarks (now (marks .entry)) R → Ordered R (now (w .exit)) r) ⌝ }
+    ensures { λ r. ⌜ (length (now (w .exit)) ≡ length (now (w .entry)))
+        × Orders s (now (rec .entry)) (now (marks .entry)) r (now (w .exit)) ⌝ }
 {
     raise_marks(rec, marks, s.conditions, w);
     raise_conditions(rec, s.conditions, w);
@@ -92,7 +96,9 @@ fn judge(
     w: &mut [u64; WORDS],
 ) -> Verdict
     requires { ⌜ Room b × Sound s (now rec) × Spans s (now marks) × Blank (now w) ⌝ }
-    ensures { λ r. ⌜ (length (now (w .exit)) ≡ length (now (w .entry))) × Judges (netAt (b .places) (b .transitions) (now (tokens .entry)) (now (arcs .entry))) s (now (rec .entry)) (now (marks .entry)) r (now (w .exit)) ⌝ }
+    ensures { λ r. ⌜ (length (now (w .exit)) ≡ length (now (w .entry)))
+        × Judges (netAt (b .places) (b .transitions) (now (tokens .entry)) (now (arcs .entry)))
+        s (now (rec .entry)) (now (marks .entry)) r (now (w .exit)) ⌝ }
 {
     let places = b.places;
     let p = wrong_initial(places, tokens, s, rec);
@@ -139,8 +145,11 @@ fn accept_record(
     marks: &mut [u64],
     w: &mut [u64; WORDS],
 ) -> Accepted
-    requires { ⌜ Room b × NetHeld b (now tokens) (now arcs) × (1664 ≤ length (now rec)) × RecordBlank (now text) (now marks) × Blank (now w) ⌝ }
-    ensures { λ r. ⌜ (length (now (w .exit)) ≡ length (now (w .entry))) × AcceptsRecord b (now (text .entry)) (now (tokens .entry)) (now (arcs .entry)) r (now (rec .exit)) (now (w .exit)) ⌝ }
+    requires { ⌜ Room b × NetHeld b (now tokens) (now arcs) × (1664 ≤ length (now rec))
+        × RecordBlank (now text) (now marks) × Blank (now w) ⌝ }
+    ensures { λ r. ⌜ (length (now (w .exit)) ≡ length (now (w .entry)))
+        × AcceptsRecord b (now (text .entry)) (now (tokens .entry)) (now (arcs .entry)) r
+        (now (rec .exit)) (now (w .exit)) ⌝ }
 {
     let read = read_record(b, text, rec, marks);
     let answer = read.answer;
@@ -156,8 +165,8 @@ fn accept_record(
     }
 }
 
-// "net's; check's but 30": a net and a record, the net in arrays that are all zero before, and the closed order in the rows, or the
-// first refusal. A short text has few conditions and needs few words for marks.
+// "net's; check's but 30": a net and a record, the net in arrays that are all zero before, and the closed order in the
+// rows, or the first refusal. A short text has few conditions and needs few words for marks.
 pub fn accept(
     net: &[u8],
     text: &[u8],
@@ -168,7 +177,10 @@ pub fn accept(
     w: &mut [u64; WORDS],
 ) -> Accepted
     requires { ⌜ Within limits × NetBlank (now tokens) (now arcs) × (1664 ≤ length (now rec)) × Blank (now w) ⌝ }
-    ensures { λ r. ⌜ (length (now (w .exit)) ≡ length (now (w .entry))) × Accepts limits (now (net .entry)) (now (text .entry)) r (now (w .exit)) × Keeps limits (now (net .entry)) (now (text .entry)) r (now (tokens .exit)) (now (arcs .exit)) (now (rec .exit)) ⌝ }
+    ensures { λ r. ⌜ (length (now (w .exit)) ≡ length (now (w .entry)))
+        × Accepts limits (now (net .entry)) (now (text .entry)) r (now (w .exit))
+        × Keeps limits (now (net .entry)) (now (text .entry)) r
+        (now (tokens .exit)) (now (arcs .exit)) (now (rec .exit)) ⌝ }
 {
     match read_into(net, tokens, arcs) {
         NetAnswer::Refused(why) => refused(Refusal::Net(why)),
@@ -178,8 +190,8 @@ pub fn accept(
                 places,
                 transitions,
             };
-            if text.len() <= 128 {
-                let mut marks = [0u64; 512];
+            if text.len() <= SHORT_TEXT {
+                let mut marks = [0u64; SHORT_MARKS];
                 return accept_record(b, text, tokens, arcs, rec, &mut marks, w);
             }
             let mut marks = [0u64; MARK_WORDS];
