@@ -12,6 +12,7 @@ use arrangement_reader::LINED;
 use arrangement_reader::goes;
 use arrangement_reader::lines_in;
 use bytes::bytes_at;
+use marking_rows::ROWS;
 use marking_rows::put_rows;
 use net::ARCS;
 use net::TOKENS;
@@ -19,19 +20,21 @@ use played_lines::judge_lines;
 use reach::WORDS;
 use record_columns::RECORD;
 
-// What replaying answers: that the buffer is short, why the net or the record is refused, or the answer to the arrangement.
+// What replaying answers: that the buffer is short, why the net or the record is refused, or the answer to the
+// arrangement.
 pub enum ReplayAnswer {
     BufferShort,
     Refused(Refusal),
     Lines(ArrangementAnswer),
 }
 
-// "Replay: 40 under 4,128 counts (spot 0); net's; check's but 30; ..": an arrangement of the record in a text, over the net
-// in another, is judged, and the marking after each of its lines is written. On a refusal nothing is written.
+// "Replay: 40 under 4,128 counts (spot 0); net's; check's but 30; ..": an arrangement of the record in a text, over the
+// net in another, is judged, and the marking after each of its lines is written. On a refusal nothing is written.
 pub fn replay(net: &[u8], text: &[u8], arrangement: &[u8], out: &mut [u16]) -> ReplayAnswer
-    ensures { λ r. ⌜ Replays (replay (now (net .entry)) (now (text .entry)) (now (arrangement .entry)) (length (now (out .entry)))) (now (out .entry)) r (now (out .exit)) ⌝ }
+    ensures { λ r. ⌜ Replays (replay (now (net .entry)) (now (text .entry)) (now (arrangement .entry))
+        (length (now (out .entry)))) (now (out .entry)) r (now (out .exit)) ⌝ }
 {
-    if out.len() < 4128 {
+    if out.len() < ROWS {
         return ReplayAnswer::BufferShort;
     }
     let mut tokens = [0u16; TOKENS];

@@ -1,7 +1,9 @@
 // The program on each of the files that its arguments name; what is printed of a file stands behind its name.
+use answering::INPUT_BYTES;
 use answering::Outcome;
 use answering::answer;
 use libc::STDOUT_FILENO;
+use pti::PROGRAM_BYTES;
 use streams::write_all;
 
 // A name that is too long, or a file that cannot be read, is said on standard error.
@@ -13,8 +15,8 @@ fn run_file(path: &[u8]) {
     }
     write_all(STDOUT_FILENO, path);
     write_all(STDOUT_FILENO, b"\n");
-    let mut input = [0u8; 65537];
-    let mut out = [0u8; 48275];
+    let mut input = [0u8; INPUT_BYTES];
+    let mut out = [0u8; PROGRAM_BYTES];
     match answer(fd, STDOUT_FILENO, &mut input, &mut out) {
         Outcome::Printed(_, _) => {}
         Outcome::Unwritten(_, _) => os::fail(path),

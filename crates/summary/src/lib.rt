@@ -13,6 +13,7 @@ use accepting::order;
 use arrangement_writer::line_count;
 use reach::WORDS;
 use record_columns::Counts;
+use record_columns::EVENTS;
 use row_facts::independent_pairs;
 use row_levels::levels;
 use spec::Field;
@@ -23,7 +24,7 @@ fn lines_of(w: &[u64; WORDS], n: usize) -> usize
     requires { ⌜ Ready n (now w) × Order n (cellOf (now w)) ⌝ }
     ensures { λ r. ⌜ r ≡ lineCount (levelsIn n (now (w .entry))) ⌝ }
 {
-    let mut a = [0u8; 128];
+    let mut a = [0u8; EVENTS];
     levels(w, n, &mut a);
     line_count(&a[0..n])
 }

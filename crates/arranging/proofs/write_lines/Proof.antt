@@ -1,3 +1,6 @@
+-- `arranging::write_lines` meets its contract: the first n bytes of the array are the levels of the events, so that the
+-- lines counted and written from them are those of the arrangement (`lines-written`), and there is room for them
+-- (`lines-room`).
 use native.Mathlib.Omega.{arith}
 use Prim.Native.Nat.{ℕ}
 use lib.ListN.{length-replicate}

@@ -1,3 +1,4 @@
+-- `stored_runs::main` meets its contract: it promises only that it ends, and each turn leaves one argument less.
 use Prim.Native.Nat.{_-_}
 use borrow.Author.Needs.{needs}
 use Rattle.stored_runs.proofs.main.Statement.{statement}

@@ -1,3 +1,5 @@
+-- `summary::lines_of` meets its contract: the first n bytes of the array are the levels of the events (`levels-stand`),
+-- and the lines are counted from these.
 use native.Mathlib.Omega.{arith}
 use mathlib.Core.Path.{ap, _∙_}
 use Prim.Native.Nat.{ℕ}

@@ -1,3 +1,6 @@
+-- `summary::put_counts` meets its contract: the rows have the order of the record that is noted (`noted-order`), so
+-- that the pairs and the lines counted there are those of its summary, which has room (`noted-room`) and is written
+-- (`noted-wrote`).
 use mathlib.Core.Path.{refl}
 use native.Mathlib.Omega.{arith}
 use borrow.Author.Needs.{needs}
