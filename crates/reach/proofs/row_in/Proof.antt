@@ -1,3 +1,4 @@
+-- `reach::row_in` meets its contract: the four words that it loads are those that `rowOf` names.
 use mathlib.Core.Path.{refl}
 use Rattle.reach.specs.Rows.{rowOf}
 use borrow.Author.Needs.{needs}
