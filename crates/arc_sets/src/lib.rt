@@ -1,5 +1,6 @@
 // The arcs of a net as sets of places: for each transition the places that it takes from, those that it makes a token
-// in and those that inhibit it, with a bit for each place. So a step walks the arcs that are there, and not every place.
+// in and those that inhibit it, with a bit for each place. So a step walks the arcs that are there, and not every
+// place.
 ghost use mathlib.Core.Path.{_≡_};
 ghost use Prim.Native.Nat.{_+_, _*_, _%_, _^_, _≤_, _<_};
 ghost use lib.Bits.{bitOr};

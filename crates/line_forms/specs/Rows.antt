@@ -1,5 +1,5 @@
--- Lines as the code reads them: each piece as a slot, a line as a row of slots. What this says of a line is what the definitions
--- say of it (`Ties`).
+-- Lines as the code reads them: each piece as a slot, a line as a row of slots. What this says of a line is what the
+-- definitions say of it (`Ties`).
 use Prim.Native.Nat.{ℕ}
 use mathlib.Core.Bool.{Bool, true, false, _&&_, cond}
 use mathlib.Core.Option.{Option, none, some}
@@ -94,7 +94,9 @@ isTwo k r = alike (r .letter) k && aNumber (r .first) && aNumber (r .second) && 
 
 -- the letter, a number, and two that can be dashes
 unfoldable pub isThree : Class → Row → Bool
-isThree k r = alike (r .letter) k && aNumber (r .first) && aNumberOrDash (r .second) && aNumberOrDash (r .third) && absent (r .fourth)
+isThree k r =
+    alike (r .letter) k && aNumber (r .first) && aNumberOrDash (r .second) && aNumberOrDash (r .third)
+    && absent (r .fourth)
 
 -- ---- lines of a letter and one number or more
 

@@ -41,7 +41,13 @@ pub record Begins (s : List ℕ) (at : ℕ) : Type 0 where
 
 -- a letter and these fields as a row
 abbrev pub rowWith : Class → List Slot → Row
-rowWith k fs = record { letter = k; first = getD fs 0 Absent; second = getD fs 1 Absent; third = getD fs 2 Absent; fourth = getD fs 3 Absent }
+rowWith k fs = record {
+  letter = k;
+  first = getD fs 0 Absent;
+  second = getD fs 1 Absent;
+  third = getD fs 2 Absent;
+  fourth = getD fs 3 Absent;
+}
 
 -- the line from one position up to another, where the next one starts, is ended, and is a letter and these fields
 pub record PlainLine (most : ℕ) (s : List ℕ) (at next : ℕ) (fs : List Slot) : Type 0 where

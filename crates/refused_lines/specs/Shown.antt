@@ -17,8 +17,8 @@ use Rattle.refused_lines.specs.declared.LineAnswer.the-variants.{Shown, 
 abbrev pub lineOf : ℕ → List ℕ → ℕ → Option Part
 lineOf t text k = lineAt (partsFrom t 0 (linesOf text)) k
 
--- the line with a number is the one that `left` line ends stand in front of, from a position on; a position behind the text
--- tells only that there is no such line
+-- the line with a number is the one that `left` line ends stand in front of, from a position on; a position behind the
+-- text tells only that there is no such line
 pub record Running (text : List ℕ) (line left at : ℕ) : Type 0 where
   pub near : at ≤ length text + 1
   pub rest : (t : ℕ) → lineOf t text line ≡ getElem? (partsFrom t at (linesOf (drop at text))) left

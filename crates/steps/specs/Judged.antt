@@ -16,7 +16,8 @@ use Rattle.spec.specs.Building.{isStepLine}
 use Rattle.arc_sets.specs.Sets.{HoldsArcs}
 use Rattle.steps.specs.StepArrays.{HoldsStep, HoldsMarking}
 use Rattle.steps.specs.declared.StepRefusal.{StepRefusal}
-use Rattle.steps.specs.declared.StepRefusal.the-variants.{Malformed, UnknownTransition, OverEvents, TooFewTokens, Inhibited}
+use Rattle.steps.specs.declared.StepRefusal.the-variants.{Malformed, UnknownTransition, OverEvents}
+use Rattle.steps.specs.declared.StepRefusal.the-variants.{TooFewTokens, Inhibited}
 use Rattle.steps.specs.declared.StepAnswer.{StepAnswer}
 use Rattle.steps.specs.declared.StepAnswer.the-variants.{Goes, Refused}
 

@@ -1,5 +1,5 @@
--- `refused_lines::find` meets its contract: the chosen text is the net text at 0, the second at 1, and has no line at any
--- other choice.
+-- `refused_lines::find` meets its contract: the chosen text is the net text at 0, the second at 1, and has no line at
+-- any other choice.
 use native.Mathlib.Omega.{arith}
 use Rattle.refused_lines.proofs.Laws.{chosen-net, chosen-second, none-chosen, found-in}
 use Rattle.refused_lines.proofs.find.Statement.{statement}

@@ -1,5 +1,5 @@
--- `refused_lines::find_line` meets its contract. The loop's invariant: the line sought is the one in front of which `left`
--- line ends stand from `at` on (`Running`). Without one left it is the line here; behind the text there is none.
+-- `refused_lines::find_line` meets its contract. The loop's invariant: the line sought is the one in front of which
+-- `left` line ends stand from `at` on (`Running`). Without one left it is the line here; behind the text there is none.
 use Prim.Native.Nat.{_+_, _-_}
 use native.Mathlib.Omega.{arith}
 use lib.ListN.{length}

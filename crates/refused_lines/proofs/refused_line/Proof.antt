@@ -1,6 +1,6 @@
--- `refused_lines::refused_line` meets its contract: a line that was found goes from its start to its end inside the chosen
--- text, so that the part taken is its bytes and lies there; where none was found the part is empty, at the start of
--- the net text.
+-- `refused_lines::refused_line` meets its contract: a line that was found goes from its start to its end inside the
+-- chosen text, so that the part taken is its bytes and lies there; where none was found the part is empty, at the start
+-- of the net text.
 use native.Mathlib.Omega.{arith}
 use borrow.Author.Needs.{needs}
 use Rattle.refused_lines.proofs.Laws.{net-part, second-part, empty-part, net-inside, second-inside}

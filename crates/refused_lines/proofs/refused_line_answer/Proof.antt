@@ -1,5 +1,5 @@
--- `refused_lines::refused_line_answer` meets its contract: start and length of a line that was found are the definition's,
--- and without one the refusal is 46.
+-- `refused_lines::refused_line_answer` meets its contract: start and length of a line that was found are the
+-- definition's, and without one the refusal is 46.
 use native.Mathlib.Omega.{arith}
 use Rattle.refused_lines.proofs.Laws.{answer-shown, answer-none}
 use Rattle.refused_lines.proofs.refused_line_answer.Statement.{statement}

@@ -1,5 +1,5 @@
--- `refused_lines::skip` meets its contract. The loop's invariant: the line sought is the one in front of which `left` line
--- ends stand from `at` on (`Running`). 128 bytes with fewer line ends than are left cannot hold its start.
+-- `refused_lines::skip` meets its contract. The loop's invariant: the line sought is the one in front of which `left`
+-- line ends stand from `at` on (`Running`). 128 bytes with fewer line ends than are left cannot hold its start.
 use Prim.Native.Nat.{_+_, _-_}
 use native.Mathlib.Omega.{arith}
 use lib.ListN.{length}
