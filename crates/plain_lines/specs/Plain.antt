@@ -17,6 +17,13 @@ use Rattle.plain_lines.specs.declared.One.{One}
 use Rattle.plain_lines.specs.declared.Two.{Two}
 use Rattle.plain_lines.specs.declared.Three.{Three}
 
+-- the bytes of the longest lines of two and of three fields, where a number has four digits
+abbrev pub longestTwo : ℕ
+longestTwo = 12
+
+abbrev pub longestThree : ℕ
+longestThree = 17
+
 -- the number or the dash that starts at a position, if there is one
 pub record ReadsField (most : ℕ) (s : List ℕ) (at : ℕ) (r : FieldFrom) : Type 0 where
   pub start : at ≤ r .end

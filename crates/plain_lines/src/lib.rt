@@ -2,11 +2,17 @@
 // the form asked for is left where it stands, for the readers of `lines` and `fields`.
 ghost use Prim.Native.Nat.{ℕ, _+_, _≤_};
 ghost use lib.ListN.{length};
-ghost use Rattle.plain_lines.specs.Plain.{ReadsField, FieldInside, Begins, AloneAt, OneAt, TwoAt, ThreeAt};
+ghost use Rattle.plain_lines.specs.Plain.{longestTwo, longestThree, ReadsField, FieldInside, Begins};
+ghost use Rattle.plain_lines.specs.Plain.{AloneAt, OneAt, TwoAt, ThreeAt};
 use digits::number_from;
 use digits::number_inside;
 use digits::stands;
 use line_forms::Slot;
+
+// The bytes of the longest lines of two and of three fields, where a number has four digits.
+const LONGEST_TWO: usize = 12;
+
+const LONGEST_THREE: usize = 17;
 
 // A number or a dash, and where it ends: where it starts, if there is none.
 pub struct FieldFrom {
@@ -133,7 +139,7 @@ fn two_near_end(most: usize, s: &[u8], at: usize) -> Two
 
 // The same where the text goes on for as long as such a line can be: no length is tested.
 fn two_inside(s: &[u8], at: usize) -> Two
-    requires { ⌜ (at + 12 ≤ length (now s)) × Begins (now s) at ⌝ }
+    requires { ⌜ (at + longestTwo ≤ length (now s)) × Begins (now s) at ⌝ }
     ensures { λ r. ⌜ ((most : ℕ) → 4 ≤ most → TwoAt most (now (s .entry)) at r) ⌝ }
 {
     let none = Two {
@@ -167,7 +173,7 @@ pub fn two_at(most: usize, s: &[u8], at: usize) -> Two
     requires { ⌜ (most ≤ 18) × Begins (now s) at ⌝ }
     ensures { λ r. ⌜ TwoAt most (now (s .entry)) at r ⌝ }
 {
-    if (4 <= most) & (12 <= s.len() - at) {
+    if (4 <= most) & (LONGEST_TWO <= s.len() - at) {
         return two_inside(s, at);
     }
     two_near_end(most, s, at)
@@ -224,7 +230,7 @@ fn three_near_end(most: usize, s: &[u8], at: usize) -> Three
 
 // The same where the text goes on for as long as such a line can be: no length is tested.
 fn three_inside(s: &[u8], at: usize) -> Three
-    requires { ⌜ (at + 17 ≤ length (now s)) × Begins (now s) at ⌝ }
+    requires { ⌜ (at + longestThree ≤ length (now s)) × Begins (now s) at ⌝ }
     ensures { λ r. ⌜ ((most : ℕ) → 4 ≤ most → ThreeAt most (now (s .entry)) at r) ⌝ }
 {
     let none = Three {
@@ -268,7 +274,7 @@ pub fn three_at(most: usize, s: &[u8], at: usize) -> Three
     requires { ⌜ (most ≤ 18) × Begins (now s) at ⌝ }
     ensures { λ r. ⌜ ThreeAt most (now (s .entry)) at r ⌝ }
 {
-    if (4 <= most) & (17 <= s.len() - at) {
+    if (4 <= most) & (LONGEST_THREE <= s.len() - at) {
         return three_inside(s, at);
     }
     three_near_end(most, s, at)

@@ -8,7 +8,7 @@ ghost use Rattle.reach.specs.Rows.{cellOf};
 ghost use Rattle.row_facts.specs.Counts.{Ready};
 ghost use Rattle.arranging.specs.Answers.{levelsIn};
 ghost use Rattle.representation.specs.Noted.{Noted};
-ghost use Rattle.summary.specs.Summaries.{Counted};
+ghost use Rattle.summary.specs.Summaries.{summaryBytes, Counted};
 use accepting::order;
 use arrangement_writer::line_count;
 use reach::WORDS;
@@ -31,7 +31,7 @@ fn lines_of(w: &[u64; WORDS], n: usize) -> usize
 
 // `Z,events,conditions,pairs,lines` from n on, of the record that the bytes and words hold: no text is read.
 pub fn put_counts(s: Counts, rec: &[u8], marks: &[u64], out: &mut [u8], n: usize) -> usize
-    requires { ⌜ (n + 19 ≤ length (now out)) × Noted s (now rec) (now marks) ⌝ }
+    requires { ⌜ (n + summaryBytes ≤ length (now out)) × Noted s (now rec) (now marks) ⌝ }
     ensures { λ r. ⌜ Counted s (now (rec .entry)) (now (marks .entry)) n (now (out .entry)) r (now (out .exit)) ⌝ }
 {
     let mut w = [0u64; WORDS];
