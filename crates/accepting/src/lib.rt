@@ -10,6 +10,7 @@ ghost use Rattle.record_reader.specs.Reads.{Blank as RecordBlank};
 ghost use Rattle.representation.specs.Held.{Sound};
 ghost use Rattle.accepting.specs.Relation.{Blank};
 ghost use Rattle.accepting.specs.Accepting.{Within, NetHeld, Orders, Judges, AcceptsRecord, Accepts, Keeps};
+ghost use Rattle.record_columns.specs.Layout.{recordBytes};
 use arc_rules::wrong_arcs;
 use arc_rules::wrong_initial;
 use mark_rules::wrong_kind;
@@ -145,7 +146,7 @@ fn accept_record(
     marks: &mut [u64],
     w: &mut [u64; WORDS],
 ) -> Accepted
-    requires { ⌜ Room b × NetHeld b (now tokens) (now arcs) × (1664 ≤ length (now rec))
+    requires { ⌜ Room b × NetHeld b (now tokens) (now arcs) × (recordBytes ≤ length (now rec))
         × RecordBlank (now text) (now marks) × Blank (now w) ⌝ }
     ensures { λ r. ⌜ (length (now (w .exit)) ≡ length (now (w .entry)))
         × AcceptsRecord b (now (text .entry)) (now (tokens .entry)) (now (arcs .entry)) r
@@ -176,7 +177,7 @@ pub fn accept(
     rec: &mut [u8],
     w: &mut [u64; WORDS],
 ) -> Accepted
-    requires { ⌜ Within limits × NetBlank (now tokens) (now arcs) × (1664 ≤ length (now rec)) × Blank (now w) ⌝ }
+    requires { ⌜ Within limits × NetBlank (now tokens) (now arcs) × (recordBytes ≤ length (now rec)) × Blank (now w) ⌝ }
     ensures { λ r. ⌜ (length (now (w .exit)) ≡ length (now (w .entry)))
         × Accepts limits (now (net .entry)) (now (text .entry)) r (now (w .exit))
         × Keeps limits (now (net .entry)) (now (text .entry)) r

@@ -7,7 +7,7 @@ use lib.ListN.{length, getD}
 use Rattle.spec.specs.Lists.{asCount}
 use Rattle.spec.specs.Net.{Net, places, takes, makes, inhibits}
 use Rattle.columns.specs.Columns.{column}
-use Rattle.net.specs.NetArrays.{Cells}
+use Rattle.net.specs.NetArrays.{inputsIn, outputsIn, inhibitorsIn, Cells}
 use Rattle.bit_sets.specs.Bits.{bit}
 
 -- the sets of all kinds and those of one kind, by transition; where the sets of the outputs and of the inhibitors start
@@ -55,7 +55,7 @@ pub record Arcs (N : Net) (is os hs : List ℕ) (m : ℕ) : Type 0 where
 
 -- one array holds them all: its inputs, its outputs and its inhibitors, kind after kind
 abbrev pub ArcsAt : Net → List ℕ → ℕ → Type 0
-ArcsAt N arcs m = Arcs N (column 0 1024 arcs) (column 1024 1024 arcs) (column 2048 1024 arcs) m
+ArcsAt N arcs m = Arcs N (inputsIn arcs) (outputsIn arcs) (inhibitorsIn arcs) m
 
 -- the sets that start at `at` say what f says of the net's transitions and places
 abbrev pub Says : Net → ℕ → List ℕ → ℕ → (ℕ → ℕ → ℕ) → Type 0

@@ -8,6 +8,7 @@ ghost use lib.Count.{trailingZeros};
 ghost use Rattle.spec.specs.Lists.{sumOf, upTo};
 ghost use Rattle.bit_sets.specs.Bits.{bit};
 ghost use Rattle.arc_sets.specs.Sets.{RowSet, SetsOf};
+ghost use Rattle.net.specs.NetArrays.{rowSize, arcCount};
 use machine_numbers::wide_word;
 use net::ARCS;
 use net::INHIBITORS;
@@ -49,7 +50,7 @@ fn entered(set: u64, cell: u8, p: usize) -> u64
 
 // The places of a row of arcs, among the first m.
 fn set_of(arcs: &[u8; ARCS], row: usize, m: usize) -> u64
-    requires { ⌜ (row + 32 ≤ 3072) × (m ≤ 32) ⌝ }
+    requires { ⌜ (row + rowSize ≤ arcCount) × (m ≤ 32) ⌝ }
     ensures { λ r. ⌜ RowSet (now (arcs .entry)) row m r ⌝ }
 {
     let mut set: u64 = 0;

@@ -15,6 +15,7 @@ use Rattle.run_counts.specs.Tally.{countsLong, countsOfKind}
 use Rattle.runs.specs.Flows.{Flow, flow, flows, spread}
 use Rattle.runs.specs.Consume.{taking}
 use Rattle.conditions.specs.declared.Extent.{Extent}
+use Rattle.record_columns.specs.Layout.{recordBytes, placesAt, producersAt, consumersAt, conditionsMost}
 
 -- the tokens that event e moves in the first n places, one in each place of a set
 unfoldable pub tokensOf : ℕ → ℕ → ℕ → List Flow
@@ -91,13 +92,13 @@ pub record Made (cs : List Condition) (n : ℕ) (ps gs fs : List ℕ) (r : ℕ) 
 
 -- the places, producers and consumers of the conditions
 abbrev pub placeColumn : List ℕ → List ℕ
-placeColumn rec = column 128 512 rec
+placeColumn rec = column placesAt conditionsMost rec
 
 abbrev pub producerColumn : List ℕ → List ℕ
-producerColumn rec = column 640 512 rec
+producerColumn rec = column producersAt conditionsMost rec
 
 abbrev pub consumerColumn : List ℕ → List ℕ
-consumerColumn rec = column 1152 512 rec
+consumerColumn rec = column consumersAt conditionsMost rec
 
 -- where the cursors of the places start among the counts, and the cursors
 abbrev pub nextAt : ℕ
@@ -108,7 +109,7 @@ nextColumn counts = column nextAt countsOfKind counts
 
 -- what a function that takes some of the first n conditions relies on
 pub record ReadyAt (n : ℕ) (rec counts : List ℕ) : Type 0 where
-  pub long : 1664 ≤ length rec
+  pub long : recordBytes ≤ length rec
   pub wide : length counts ≡ countsLong
   pub ready : Ready n (placeColumn rec) (consumerColumn rec) (nextColumn counts)
 
@@ -118,7 +119,7 @@ pub record TookAt (xs : List Flow) (n : ℕ) (rec counts rec′ counts′ : List
       (consumerColumn rec′) (nextColumn counts′)
   pub long : length rec′ ≡ length rec
   pub wide : length counts′ ≡ length counts
-  pub kept : (at k : ℕ) → at + k ≤ 1152 → column at k rec′ ≡ column at k rec
+  pub kept : (at k : ℕ) → at + k ≤ consumersAt → column at k rec′ ≡ column at k rec
   pub counted : (at k : ℕ) → at + k ≤ nextAt → column at k counts′ ≡ column at k counts
 
 -- the conditions were made, and nothing in front of their places changed

@@ -9,6 +9,7 @@ ghost use Rattle.arc_sets.specs.Sets.{Within};
 ghost use Rattle.steps.specs.StepArrays.{IsStep, Within32};
 ghost use Rattle.conditions.specs.Conditions.{tokensOf, takenNext, madeNext, placeColumn, consumerColumn};
 ghost use Rattle.conditions.specs.Conditions.{FirstFree, fresh, ReadyAt, TookAt, MadeAt};
+ghost use Rattle.record_columns.specs.Layout.{recordBytes};
 use arc_sets::MADE;
 use arc_sets::SETS;
 use arc_sets::lowest;
@@ -37,7 +38,7 @@ pub const NEXT: usize = 64;
 
 // The first condition of place p from a number on that no event has taken, or the end.
 fn first_free(p: usize, start: usize, end: usize, rec: &[u8]) -> usize
-    requires { ⌜ (start ≤ end) × (end ≤ 512) × (1664 ≤ length (now rec)) ⌝ }
+    requires { ⌜ (start ≤ end) × (end ≤ 512) × (recordBytes ≤ length (now rec)) ⌝ }
     ensures { λ r. ⌜ FirstFree p start end (placeColumn (now (rec .entry))) (consumerColumn (now (rec .entry))) r ⌝ }
 {
     let mut i = start;
@@ -104,7 +105,7 @@ pub fn take_step(
 // So many new conditions of place p, with the code of their producer, are put behind the first n; how many there are
 // then.
 pub fn make_times(v: u8, p: usize, count: usize, n: usize, rec: &mut [u8]) -> usize
-    requires { ⌜ (p < 32) × (n + count ≤ 512) × (1664 ≤ length (now rec)) ⌝ }
+    requires { ⌜ (p < 32) × (n + count ≤ 512) × (recordBytes ≤ length (now rec)) ⌝ }
     ensures { λ r. ⌜ MadeAt (replicate count (fresh v p)) n (now (rec .entry)) r (now (rec .exit)) ⌝ }
 {
     let mut k: usize = 0;
@@ -120,7 +121,7 @@ pub fn make_times(v: u8, p: usize, count: usize, n: usize, rec: &mut [u8]) -> us
 
 // Event e makes one of each place of a set, by place.
 fn make_event(e: usize, set: u64, n: usize, rec: &mut [u8]) -> usize
-    requires { ⌜ (e < 128) × Within32 set × (n + length (tokensOf set e 64) ≤ 512) × (1664 ≤ length (now rec)) ⌝ }
+    requires { ⌜ (e < 128) × Within32 set × (n + length (tokensOf set e 64) ≤ 512) × (recordBytes ≤ length (now rec)) ⌝ }
     ensures { λ r. ⌜ MadeAt (map made-of (tokensOf set e 64)) n (now (rec .entry)) r (now (rec .exit)) ⌝ }
 {
     let mut r = n;
@@ -142,7 +143,7 @@ pub fn make_step(
     rec: &mut [u8],
 ) -> usize
     requires { ⌜ (x .events + count ≤ 128) × IsStep (now step) count × Within 32 (now sets)
-        × (x .conditions + length (madeNext (now sets) (now step) count x) ≤ 512) × (1664 ≤ length (now rec)) ⌝ }
+        × (x .conditions + length (madeNext (now sets) (now step) count x) ≤ 512) × (recordBytes ≤ length (now rec)) ⌝ }
     ensures { λ r. ⌜ MadeAt (map made-of (madeNext (now (sets .entry)) (now (step .entry)) count x)) (x .conditions)
         (now (rec .entry)) r (now (rec .exit)) ⌝ }
 {

@@ -14,6 +14,7 @@ use Rattle.runs.specs.Consume.{taking, made-of}
 use Rattle.conditions.specs.Conditions.{conditionsIn, Sized, Cursors, placeColumn, producerColumn, consumerColumn}
 use Rattle.conditions.specs.Conditions.{nextAt, nextColumn}
 use Rattle.columns.specs.Columns.{column}
+use Rattle.record_columns.specs.Layout.{recordBytes}
 
 -- ---- events
 
@@ -110,7 +111,7 @@ pub record Growable (count made : ℕ) (x : Extent) (rec steps counts : List ℕ
   pub line : x .line < 256
   pub events : x .events + count ≤ 128
   pub conditions : x .conditions + made ≤ 512
-  pub long : 1664 ≤ length rec
+  pub long : recordBytes ≤ length rec
   pub wide : length counts ≡ countsLong
   pub whole : Whole (historyOf x rec steps counts)
 

@@ -8,6 +8,7 @@ ghost use Rattle.spec.specs.Lists.{sum};
 ghost use Rattle.spec.specs.Building.{initialOf};
 ghost use Rattle.conditions.specs.Conditions.{madeNext, MadeAt};
 ghost use Rattle.history.specs.HistoryColumns.{AddedAt, Growable, GrownAt};
+ghost use Rattle.record_columns.specs.Layout.{recordBytes};
 use arc_sets::SETS;
 use conditions::Extent;
 use conditions::make_step;
@@ -30,7 +31,7 @@ fn add_events(
     steps: &mut [u8; EVENTS],
 )
     requires { ⌜ (k < 256) × (n + count ≤ 128) × (length (now step) ≡ stepLong)
-        × (1664 ≤ length (now rec)) × (length (now steps) ≡ 128) ⌝ }
+        × (recordBytes ≤ length (now rec)) × (length (now steps) ≡ 128) ⌝ }
     ensures { λ _. ⌜ AddedAt k (take count (now (step .entry))) n (now (rec .entry)) (now (steps .entry))
         (n + count) (now (rec .exit)) (now (steps .exit)) ⌝ }
 {
@@ -67,7 +68,7 @@ pub fn grow(
 // The conditions of the initial marking, by place; how many there are.
 pub fn start(tokens: &[u16; TOKENS], m: usize, rec: &mut [u8]) -> usize
     requires { ⌜ (m ≤ 32) × (length (now tokens) ≡ 32) × (sum (take m (now tokens)) ≤ 512)
-        × (1664 ≤ length (now rec)) ⌝ }
+        × (recordBytes ≤ length (now rec)) ⌝ }
     ensures { λ r. ⌜ MadeAt (initialOf 0 (take m (now (tokens .entry)))) 0 (now (rec .entry)) r (now (rec .exit)) ⌝ }
 {
     let mut r: usize = 0;

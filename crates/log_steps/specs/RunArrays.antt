@@ -21,6 +21,7 @@ use Rattle.log_steps.specs.declared.LogRefusal.{LogRefusal}
 use Rattle.log_steps.specs.declared.LogRefusal.the-variants.{Step, OverConditions, OverMarks}
 use Rattle.log_steps.specs.declared.LogAnswer.{LogAnswer}
 use Rattle.log_steps.specs.declared.LogAnswer.the-variants.{Goes, Refused}
+use Rattle.record_columns.specs.Layout.{recordBytes}
 
 -- what is built of a log so far: what is counted, and the history
 pub record Run : Type 0 where
@@ -69,7 +70,7 @@ pub record Buildable (xs : List ℕ) (count : ℕ) (sets : List ℕ) (x : Extent
   pub step : IsStep xs count
   pub some : 0 < count
   pub events : x .events + count ≤ 128
-  pub long : 1664 ≤ length rec
+  pub long : recordBytes ≤ length rec
   pub wide : length counts ≡ countsLong
   pub reached : Reached sets (x .places) (x .line) (runAt x rec steps counts)
 

@@ -18,6 +18,7 @@ use Rattle.conditions.specs.declared.Extent.{Extent}
 use Rattle.log_steps.specs.RunArrays.{Run, runAt, HoldsRun, logAnswer}
 use Rattle.log_steps.specs.declared.LogAnswer.{LogAnswer}
 use Rattle.log_steps.specs.declared.Played.{Played}
+use Rattle.record_columns.specs.Layout.{recordBytes}
 
 -- how far the steps of a run have come
 abbrev pub positionOf : Extent → Position
@@ -41,7 +42,7 @@ pub record Beginnable (marks : List ℕ) (m : ℕ) (rec counts marking : List �
   pub few : m ≤ 32
   pub tokens : length marks ≡ 32
   pub most : sum (take m marks) ≤ 512
-  pub long : 1664 ≤ length rec
+  pub long : recordBytes ≤ length rec
   pub wide : length counts ≡ countsLong
   pub blank : (i : ℕ) → getD counts i 0 ≡ 0
   pub marked : length marking ≡ markingLong
@@ -64,7 +65,7 @@ pub record Begun (sets : List ℕ) (x : Extent) (rec steps counts marking : List
   pub transitions : x .transitions ≡ net .transitions
   pub few : x .transitions ≤ 32
   pub line : x .line ≡ 1
-  pub long : 1664 ≤ length rec
+  pub long : recordBytes ≤ length rec
   pub wide : length counts ≡ countsLong
   pub holds : HoldsAt net (x .places) 1 (runAt x rec steps counts) marking (start net)
 

@@ -8,9 +8,9 @@ use lib.Dec.{ltb}
 use Rattle.spec.specs.Lists.{In, sumOf, flat}
 use Rattle.lists.specs.Stretch.{MappedFrom}
 use Rattle.arrangement_reader.specs.Lined.{Ordered}
+use Rattle.net.specs.NetArrays.{arcCount, outputsAt}
 
--- the counts of a row and of all rows; the sums by place, and where those of what was taken start; the arcs of every
--- kind, and where the outputs start; the array of lines
+-- the counts of a row and of all rows; the sums by place, and where those of what was taken start; the array of lines
 abbrev pub rowSize : ℕ
 rowSize = 32
 
@@ -22,12 +22,6 @@ sumCount = 64
 
 abbrev pub takenAt : ℕ
 takenAt = 32
-
-abbrev pub arcCount : ℕ
-arcCount = 3072
-
-abbrev pub outputsAt : ℕ
-outputsAt = 1024
 
 abbrev pub linedSize : ℕ
 linedSize = 257

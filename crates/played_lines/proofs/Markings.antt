@@ -17,10 +17,10 @@ use Rattle.spec.specs.Record.{RunRecord, transitionOf}
 use Rattle.spec.specs.Replaying.{countAfter, firedBy, rowAt, replayRow, replayedOf}
 use Rattle.lists.specs.Laws.{sumOf-same, map-same, flat-append, getD-table, length-upTo}
 use Rattle.lists.specs.Arrays.{blank}
-use Rattle.net.specs.NetArrays.{Cells}
+use Rattle.net.specs.NetArrays.{outputsAt, Cells}
 use Rattle.columns.specs.Columns.{column, column-at}
 use Rattle.spec.specs.Buffer.{over}
-use Rattle.marking_rows.specs.Rows.{rowCounts, outputsAt, transitionsOf, arcAt, rowIn, Rows}
+use Rattle.marking_rows.specs.Rows.{rowCounts, transitionsOf, arcAt, rowIn, Rows}
 use Rattle.played_lines.specs.Lines.{Describes}
 use Rattle.lists.specs.Rows.{rows-are, length-rows}
 

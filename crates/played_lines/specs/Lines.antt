@@ -9,8 +9,7 @@ use Rattle.spec.specs.Record.{RunRecord, transitionOf}
 use Rattle.spec.specs.Replaying.{readArrangement}
 use Rattle.columns.specs.Columns.{column}
 use Rattle.lines.specs.Agree.{Agrees}
-use Rattle.net.specs.NetArrays.{Cells}
-use Rattle.marking_rows.specs.Rows.{outputsAt}
+use Rattle.net.specs.NetArrays.{outputsAt, Cells}
 use Rattle.arrangement_reader.specs.Lined.{TellsOrder, Ordered}
 use Rattle.arrangement_reader.specs.Arrangement.{answerOf, linesPlayed}
 use Rattle.arrangement_reader.specs.declared.ArrangementAnswer.{ArrangementAnswer}

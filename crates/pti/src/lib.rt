@@ -26,6 +26,7 @@ pub use net::NetAnswer;
 pub use net_reader::NetRead;
 use net_reader::net_answer;
 pub use net_reader::read_net;
+pub use printing::PROGRAM_BYTES;
 pub use printing::program;
 pub use refused_lines::LineAnswer;
 pub use refused_lines::refused_line;
@@ -34,9 +35,6 @@ pub use replaying::ReplayAnswer;
 pub use replaying::replay;
 pub use spec::Numbers;
 pub use steps::StepRefusal;
-
-// The bytes that hold whatever the program prints.
-pub const PROGRAM_BYTES: usize = 48275;
 
 // Reads a net. a: places, b: transitions.
 #[no_mangle]

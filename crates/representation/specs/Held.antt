@@ -10,6 +10,7 @@ use Rattle.net.specs.NetArrays.{Holds}
 use Rattle.net.specs.declared.Net.{Net}
 use Rattle.record_columns.specs.Enters.{Keeps}
 use Rattle.record_columns.specs.declared.Counts.{Counts}
+use Rattle.record_columns.specs.Layout.{recordBytes, producersAt, consumersAt}
 
 pub record Held (net : Net) (s : Counts) (rec : List ℕ) (N : NetD) (R : RunRecord) : Type 0 where
   pub arrays : Holds net N
@@ -25,7 +26,7 @@ pub record Linked (rec : List ℕ) (m at : ℕ) : Type 0 where
 pub record Sound (s : Counts) (rec : List ℕ) : Type 0 where
   pub events : s .events ≤ 128
   pub conditions : s .conditions ≤ 512
-  pub long : 1664 ≤ length rec
+  pub long : recordBytes ≤ length rec
   pub transition : (e : ℕ) → e < s .events → getD rec e 0 < 32
-  pub producers : Linked rec (s .conditions) 640
-  pub consumers : Linked rec (s .conditions) 1152
+  pub producers : Linked rec (s .conditions) producersAt
+  pub consumers : Linked rec (s .conditions) consumersAt
