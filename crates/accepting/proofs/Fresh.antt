@@ -4,9 +4,9 @@ use Prim.Native.Nat.{ℕ, _+_, _*_, _≤_}
 use native.Mathlib.Omega.{arith}
 use mathlib.Core.List.{List}
 use lib.ListN.{length, replicate, length-replicate}
-use Rattle.bit_sets.specs.Sets.{has, no-words}
 use Rattle.lists.specs.Arrays.{blank}
-use Rattle.reach.specs.Rows.{cellOf, Good, rowOf, Sub, valueOf}
+use Rattle.reach.specs.Rows.{Good}
+use Rattle.reach.proofs.Zero.{zero-sub, zero-cell}
 use Rattle.net_reader.specs.Reads.{Blank as NetBlank}
 use Rattle.record_reader.specs.Reads.{Blank as RecordBlank}
 use Rattle.accepting.specs.Relation.{Blank}
@@ -25,11 +25,9 @@ pub fresh-all : (text : List ℕ) → RecordBlank text (replicate 2048 0)
 fresh-all text = record { room = omega (arith, length-replicate {A = ℕ} 2048 0); zero = blank 2048 }
 
 pub fresh : Blank (replicate 512 0)
-unfolding Good Sub rowOf cellOf valueOf
-fresh = record { long = length-replicate {A = ℕ} 512 0; good = λ e l f. omega (arith, strict-none e f); zero = λ i j. omega (arith, path-none i j, strict-none i j) }
-  where
-    strict-none : (e f : ℕ) → has (rowOf (replicate 512 0) e .strict) f ≡ 0
-    strict-none e f = no-words _ (blank 512 (4 * e + 2)) (blank 512 (4 * e + 3)) f
-
-    path-none : (e f : ℕ) → has (rowOf (replicate 512 0) e .path) f ≡ 0
-    path-none e f = no-words _ (blank 512 (4 * e)) (blank 512 (4 * e + 1)) f
+unfolding Good
+fresh = record {
+  long = length-replicate {A = ℕ} 512 0;
+  good = λ e l. zero-sub _ (blank 512) e;
+  zero = zero-cell _ (blank 512);
+}

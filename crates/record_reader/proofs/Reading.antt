@@ -9,8 +9,7 @@ use Rattle.spec.specs.Net.{Net, places}
 use Rattle.spec.specs.Record.{RunRecord}
 use Rattle.spec.specs.Checking.{enterLine, emptyRecord}
 use Rattle.lines.proofs.ByLines.{Running, begun, turn, stop, done}
-use Rattle.bit_sets.specs.Sets.{has, no-words}
-use Rattle.reach.specs.Rows.{Sub, rowOf, cellOf, valueOf}
+use Rattle.reach.proofs.Zero.{zero-sub, zero-cell}
 use Rattle.record_columns.specs.Layout.{markValue}
 use Rattle.record_columns.specs.Enters.{goesOf, Holds, Fits, Spans}
 use Rattle.record_reader.specs.Reads.{Declares, Takes, ReadsRecord}
@@ -30,12 +29,8 @@ Reading b text k at s rec words = (N : Net) → Declares b N → Running (enterL
 abbrev noCounts : Counts
 noCounts = record { events = 0; conditions = 0; marks = 0 }
 
-zero-row : (words : List ℕ) → ((i : ℕ) → getD words i 0 ≡ 0) → (c e : ℕ) → (has (rowOf words c .path) e ≡ 0) × (has (rowOf words c .strict) e ≡ 0)
-unfolding rowOf
-zero-row words z c e = (no-words _ (z _) (z _) e, no-words _ (z _) (z _) e)
-
 pub entered-none : (b : Bounds) (text rec words : List ℕ) → 1664 ≤ length rec → ((i : ℕ) → getD words i 0 ≡ 0) → Reading b text 1 0 noCounts rec words
-unfolding emptyRecord markValue cellOf valueOf Sub
+unfolding emptyRecord markValue
 entered-none b text rec words long z N d = begun (enterLine (b .limits) N) text (record {
   columns = record {
     events = refl;
@@ -49,7 +44,7 @@ entered-none b text rec words long z N d = begun (enterLine (b .limits) N) text 
     producer = λ c l. absurd (omega arith);
     consumer = λ c l. absurd (omega arith);
   };
-  marks = record { sub = λ c e. let q = zero-row words z c e in omega arith; cell = λ c e. let q = zero-row words z c e in omega arith };
+  marks = record { sub = zero-sub words z; cell = zero-cell words z };
 })
 
 -- a net with so many places and transitions
