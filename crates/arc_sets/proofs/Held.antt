@@ -1,18 +1,17 @@
 -- The sets of a net's rows are those of its arcs.
-use Prim.Native.Nat.{ℕ, _+_, _*_, _/_, _%_, _≤_, _<_}
+use Prim.Native.Nat.{ℕ, _+_, _*_, _≤_, _<_}
 use mathlib.Core.Path.{_≡_, refl, sym, ap, _∙_}
 use mathlib.Core.Bool.{Bool, true, false}
 use mathlib.Core.List.{List}
 use native.Mathlib.Omega.{arith}
 use lib.Dec.{ltb}
-use lib.ListN.{length, getD}
+use lib.ListN.{getD}
 use Rattle.spec.specs.Lists.{asCount}
 use Rattle.spec.specs.Net.{Net, joined, takes, makes, inhibits}
-use Rattle.spec.specs.declared.ArcKind.the-variants.{Input, Output, Inhibitor}
+use Rattle.spec.specs.declared.ArcKind.the-variants.{Input, Output}
 use Rattle.columns.specs.Columns.{column, column-at}
 use Rattle.net.specs.NetArrays.{Cells}
-use Rattle.bit_sets.specs.Bits.{bit}
-use Rattle.arc_sets.specs.Sets.{RowSet, SetsOf, Arcs, ArcsAt, arcAt, HoldsArcs}
+use Rattle.arc_sets.specs.Sets.{SetsOf, ArcsAt, arcAt, HoldsArcs}
 
 -- a count of one is there or not
 counted-once : (b : Bool) → asCount (ltb 0 (asCount b)) ≡ asCount b

@@ -6,7 +6,6 @@ use lib.Dec.{ltb}
 use lib.ListN.{length, getD}
 use Rattle.spec.specs.Lists.{asCount}
 use Rattle.spec.specs.Net.{Net, places, takes, makes, inhibits}
-use Rattle.columns.specs.Columns.{column}
 use Rattle.net.specs.NetArrays.{inputsIn, outputsIn, inhibitorsIn, Cells}
 use Rattle.bit_sets.specs.Bits.{bit}
 

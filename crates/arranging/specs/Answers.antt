@@ -5,7 +5,7 @@ use mathlib.Core.List.{List, map}
 use lib.ListN.{length}
 use Rattle.spec.specs.Answer.{Answer, gives, refuses, returned}
 use Rattle.spec.specs.Lists.{upTo}
-use Rattle.spec.specs.Arranging.{Arranged as ArrangedD, lineCount, arrangedLines, arrangementBytes, arrange}
+use Rattle.spec.specs.Arranging.{lineCount, arrangedLines, arrangementBytes, arrange}
 use Rattle.spec.specs.Buffer.{over, arrangeLeaves}
 use Rattle.spec.specs.Values.{arrangeValues}
 use Rattle.order.specs.Level.{lev}

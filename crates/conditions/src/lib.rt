@@ -1,5 +1,4 @@
 // Conditions held by columns of a record's bytes: those that the events of a step take, and those that they make.
-ghost use mathlib.Core.Path.{_≡_};
 ghost use mathlib.Core.List.{[], _∷_, map};
 ghost use Prim.Native.Nat.{_+_, _≤_, _<_};
 ghost use lib.ListN.{length, replicate};

@@ -1,11 +1,10 @@
 -- The third demand of calls, from the third demand of the definitions: of an accepted record each call's answer is
 -- given, so that its numbers are the answer's values and its buffer starts with what the answer writes (`Given`).
-use mathlib.Core.Path.{_≡_, refl, sym, ap, _∙_, subst}
-use mathlib.Core.Logic.{_≢_, _↔_, _⊎_, inl, inr}
+use mathlib.Core.Path.{_≡_, sym, ap, _∙_, subst}
 use Prim.Native.Nat.{ℕ, _+_, _-_, _*_, _≤_, _<_}
 use native.Mathlib.Nat.{le-of-eq, le-trans}
 use native.Mathlib.Omega.{arith}
-use mathlib.Core.List.{List, _++_}
+use mathlib.Core.List.{List}
 use lib.ListN.{length, getD, take, drop, length-append}
 use Rattle.spec.specs.Answer.{Answer, gives, refuses, returned}
 use Rattle.spec.specs.Net.{Net, readNet}
@@ -22,7 +21,7 @@ use Rattle.runs.specs.Sizes.{lines-few}
 use Rattle.spec.specs.Values.{asNumbers, netValues, byteValues, checkValues, replayValues, arrangeValues, netReturns}
 use Rattle.spec.specs.declared.Numbers.{Numbers}
 use Rattle.pti.specs.Calls.{BuildCall, CheckCall, ReplayCall, ArrangeCall}
-use Rattle.demands.specs.Demand.{Arranged, Replayed, Checked, NetCounted, Buffers, StatedSizes, OrderOfCalls, OrderPromised, RunOfCalls, RunPromised}
+use Rattle.demands.specs.Demand.{Arranged, Replayed, Checked, NetCounted, Buffers, OrderPromised, RunPromised}
 use Rattle.demands.specs.declared.Calls.{Calls}
 use Rattle.demands.specs.declared.RunCalls.{RunCalls}
 use Rattle.demands.proofs.Given.{numbers-given, left-given, start-is, entry-is}

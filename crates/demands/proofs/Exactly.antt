@@ -1,27 +1,24 @@
 -- Exactness of calls, from the exactness of the operations: a call's number is 0 exactly where its operation gives
 -- something.
 use mathlib.Core.Path.{_≡_, refl, sym, ap, _∙_, subst}
-use mathlib.Core.Logic.{_↔_}
-use Prim.Native.Nat.{ℕ, _≤_}
+use Prim.Native.Nat.{ℕ}
 use mathlib.Core.List.{List, []}
 use lib.ListN.{length}
-use Rattle.spec.specs.Answer.{Answer, gives}
-use Rattle.spec.specs.Net.{Net, readNet}
-use Rattle.spec.specs.NetText.{Declaration, netBytes, declared, Complete}
-use Rattle.spec.specs.Record.{RunRecord, recordBytes}
+use Rattle.spec.specs.Net.{readNet}
+use Rattle.spec.specs.NetText.{declared, Complete}
+use Rattle.spec.specs.Record.{recordBytes}
 use Rattle.spec.specs.Building.{recordFor, build}
 use Rattle.spec.specs.Checking.{checkedOf, check}
 use Rattle.spec.specs.Arranging.{arrangedOf, arrange, arrangementBytes}
 use Rattle.spec.specs.Replaying.{replayedOf, replay}
-use Rattle.spec.specs.Runs.{logBytes}
-use Rattle.spec.specs.Buffer.{leaves, buildLeaves, checkLeaves, replayLeaves, arrangeLeaves}
+use Rattle.spec.specs.Buffer.{buildLeaves, checkLeaves, replayLeaves, arrangeLeaves}
 use Rattle.spec.specs.Values.{netValues, byteValues, checkValues, replayValues, arrangeValues, netReturns}
 use Rattle.spec.specs.Exactness.{EachAllowed}
 use Rattle.spec.specs.declared.Numbers.{Numbers}
 use Rattle.runs.specs.Operations.{operations, nothing-else}
 use Rattle.runs.specs.Spots.{refusals}
 use Rattle.pti.specs.Calls.{BuildCall, CheckCall, ReplayCall, ArrangeCall}
-use Rattle.demands.specs.Exactly.{Exactly, ReadsExactly, BuildsExactly, ChecksExactly, ArrangesExactly, ReplaysExactly}
+use Rattle.demands.specs.Exactly.{ReadsExactly, BuildsExactly, ChecksExactly, ArrangesExactly, ReplaysExactly}
 use Rattle.demands.proofs.Given.{zero-given, exactly}
 
 pub reads-exactly : (net : List ℕ) {r : Numbers} → r ≡ netReturns net → ReadsExactly net r

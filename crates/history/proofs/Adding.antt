@@ -5,7 +5,7 @@ use mathlib.Core.List.{List, [], _∷_, _++_, map, map-append, append-nil, appen
 use native.Mathlib.Omega.{arith}
 use lib.ListN.{length, getD, set, take, length-set}
 use lib.Seq.{getD-set-same, getD-set-other}
-use Rattle.spec.specs.Building.{Event, inStep}
+use Rattle.spec.specs.Building.{inStep}
 use Rattle.lists.specs.Along.{take-more}
 use Rattle.lists.specs.Tables.{table-more}
 use Rattle.columns.specs.Columns.{column, column-length, store-in, store-below}

@@ -1,14 +1,14 @@
 -- The history after a step, from what was added, taken and made.
 use Prim.Native.Nat.{ℕ, _+_, _≤_, _<_}
-use mathlib.Core.Path.{_≡_, refl, sym, ap, _∙_}
+use mathlib.Core.Path.{_≡_, sym, ap, _∙_}
 use mathlib.Core.List.{List, _++_, map}
 use native.Mathlib.Omega.{arith}
 use lib.ListN.{length, getD, List·getD-append, length-map}
 use Rattle.spec.specs.Record.{Condition, noCondition}
 use Rattle.spec.specs.Building.{isFree}
 use Rattle.arc_sets.specs.Sets.{arcAt}
-use Rattle.runs.specs.Flows.{Flow, flows}
-use Rattle.runs.specs.Consume.{taking, made-of}
+use Rattle.runs.specs.Flows.{flows}
+use Rattle.runs.specs.Consume.{made-of}
 use Rattle.conditions.specs.Conditions.{conditionIn, conditionsIn, freeAt, Cursors, Took, Made, ReadyAt, TookAt, MadeAt}
 use Rattle.columns.specs.Columns.{column}
 use Rattle.conditions.specs.declared.Extent.{Extent}

@@ -8,7 +8,7 @@ use denote.Struct.Laws as LL
 use Rattle.lines.specs.declared.Reader.{Reader}
 use Rattle.lines.proofs.Reader as T
 use Rattle.lines.proofs.Reader.Laws as T′
-use Rattle.walks.proofs.Walk.{List, [], _∷_, ℕ, Holds, length, URA, named, erased, Val, WT, hasTy, Lft, Share, ftrue, flft, Heap, Atoms, Lfts, Given, Item, ‵, _⊛_, RattleType, Is, u8, RefT, now, namedLft, sliceVal, ShrSlice, Declared}
+use Rattle.walks.proofs.Walk.{List, [], _∷_, ℕ, Holds, length, URA, named, erased, Val, WT, hasTy, Lft, Share, ftrue, flft, Heap, Atoms, Lfts, Given, Item, ‵, _⊛_, RattleType, Is, u8, RefT, namedLft, sliceVal, ShrSlice, Declared}
 
 abbrev pub D : Lfts 1 → Declared
 D κs = T.the-type (namedLft 1 0 tt κs)

@@ -1,7 +1,7 @@
 -- The line at a position of a text, and what the function that finds it promises.
 use Prim.Native.Nat.{ℕ, _+_, _-_, _≤_, _<_}
 use mathlib.Core.Path.{_≡_}
-use mathlib.Core.Bool.{Bool, true, false}
+use mathlib.Core.Bool.{Bool}
 use mathlib.Core.List.{List, _∷_}
 use lib.ListN.{length, drop, take}
 use lib.Dec.{ltb}

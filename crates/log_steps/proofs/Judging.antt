@@ -1,18 +1,17 @@
 -- A step that is enabled is built as the definitions say.
-use Prim.Native.Nat.{ℕ, suc, _+_, _*_, _≤_, _<_}
-use mathlib.Core.Path.{_≡_, refl, sym, ap, ap₂, _∙_}
-use mathlib.Core.List.{List, _++_, map}
+use Prim.Native.Nat.{ℕ, suc, _+_, _≤_, _<_}
+use mathlib.Core.Path.{_≡_, ap}
+use mathlib.Core.List.{List, map}
 use native.Mathlib.Numerals.{add-one}
 use native.Mathlib.Omega.{arith}
-use lib.Dec.{ltb}
 use lib.ListN.{length, take, length-append, length-map}
 use borrow.Author.Tests.{lt-ltb, le-ltb}
-use Rattle.spec.specs.Answer.{Answer, gives, refuses, _>>_, refuse_at_when_}
+use Rattle.spec.specs.Answer.{gives, refuses, _>>_, refuse_at_when_}
 use Rattle.spec.specs.Lists.{In, upTo, sumOf}
 use Rattle.spec.specs.Net.{Net, places, makes}
 use Rattle.spec.specs.Step.{EnabledAt}
 use Rattle.spec.specs.Building.{Run as RunD, inStep, takeAll, makeAll, playStep, marksDue}
-use Rattle.arc_sets.specs.Sets.{arcAt, HoldsArcs}
+use Rattle.arc_sets.specs.Sets.{HoldsArcs}
 use Rattle.steps.specs.StepArrays.{HoldsStep}
 use Rattle.steps.specs.Judged.{judgeStep}
 use Rattle.steps.proofs.Held.{step-length, judged-tests}
@@ -22,10 +21,10 @@ use Rattle.runs.specs.Steps.{enabled-tests}
 use Rattle.runs.specs.Built.{Good, good-step}
 use Rattle.run_counts.specs.Tally.{sizeOf, timesAt, Tally, Tallied, Tallies}
 use Rattle.run_counts.proofs.Held.{tally-grown, marks-tallied}
-use Rattle.history.specs.HistoryColumns.{History, eventsOf, conditionsOf, Grown}
+use Rattle.history.specs.HistoryColumns.{History, eventsOf, Grown}
 use Rattle.history.proofs.Held.{flows-held, events-grown, conditions-grown}
 use Rattle.log_steps.specs.RunArrays.{Run, HoldsRun, buildStep}
-use Rattle.log_steps.proofs.Reaching.{events-length, events-held, conditions-held, made-total}
+use Rattle.log_steps.proofs.Reaching.{events-length, conditions-held, made-total}
 
 module _ {sets xs : List ℕ} {size m k : ℕ} {x : Run} (N : Net) (ts : List ℕ) (r : RunD)
     (A : HoldsArcs N sets m) (S : HoldsStep xs size ts) (K : (t : ℕ) → In t ts → t < N .transitions) (E : judgeStep N k (r .marking) ts ≡ gives tt) (H : HoldsRun N k x r) where

@@ -1,11 +1,11 @@
 -- What is known of a run that is held by arrays.
-use Prim.Native.Nat.{ℕ, _+_, _*_, _≤_, _<_}
+use Prim.Native.Nat.{ℕ, _+_, _≤_, _<_}
 use mathlib.Core.Path.{_≡_, refl, sym, ap, _∙_}
 use mathlib.Core.List.{List}
 use native.Mathlib.Omega.{arith}
 use lib.ListN.{length, getD, take}
 use lib.Seq.{length-take-le}
-use Rattle.spec.specs.Answer.{Answer, gives, refuses}
+use Rattle.spec.specs.Answer.{gives, refuses}
 use Rattle.spec.specs.Lists.{In, upTo, sumOf}
 use Rattle.spec.specs.Net.{Net}
 use Rattle.spec.specs.Building.{Run as RunD}
@@ -14,7 +14,7 @@ use Rattle.lists.specs.Tables.{length-table}
 use Rattle.lines.specs.Agree.{refusing}
 use Rattle.columns.specs.Columns.{column}
 use Rattle.arc_sets.specs.Sets.{arcAt, Within, HoldsArcs}
-use Rattle.steps.specs.StepArrays.{IsStep, HoldsStep, Summable, Summed, over}
+use Rattle.steps.specs.StepArrays.{HoldsStep, Summable, Summed, over}
 use Rattle.steps.specs.Judged.{judgeStep}
 use Rattle.steps.proofs.Rows.{over-most}
 use Rattle.run_counts.specs.Tally.{sizeOf, bothOf, AtMost, tallyAt, Small, Tallies}
@@ -25,7 +25,7 @@ use Rattle.conditions.specs.Conditions.{conditionIn, conditionsIn}
 use Rattle.conditions.specs.declared.Extent.{Extent}
 use Rattle.history.specs.HistoryColumns.{History, eventIn, eventsIn, eventsOf, conditionsOf, Growable}
 use Rattle.history.proofs.Held.{flows-length}
-use Rattle.log_steps.specs.RunArrays.{Run, runAt, HoldsRun, Reached, Buildable, BuiltOn, logAnswer, logRefused, buildStep}
+use Rattle.log_steps.specs.RunArrays.{Run, runAt, HoldsRun, Reached, Buildable, BuiltOn, logRefused, buildStep}
 use Rattle.log_steps.specs.declared.LogRefusal.{LogRefusal}
 use Rattle.log_steps.specs.declared.LogAnswer.the-variants.{Goes, Refused}
 

@@ -1,20 +1,19 @@
 -- The run at the initial marking.
 use Prim.Native.Nat.{ℕ, _+_, _≤_, _<_}
 use mathlib.Core.Path.{_≡_, refl, sym, ap, _∙_}
-use mathlib.Core.List.{List, []}
+use mathlib.Core.List.{List}
 use native.Mathlib.Decide.{decLe}
 use native.Mathlib.Omega.{arith}
-use lib.Dec.{eqb}
 use lib.ListN.{length, getD, take, List·getD-eq-default}
 use lib.Seq.{ext-getD, getD-take, length-take-le}
 use Rattle.spec.specs.Lists.{count, sumOf}
-use Rattle.spec.specs.Net.{Net, places}
+use Rattle.spec.specs.Net.{Net}
 use Rattle.spec.specs.Building.{start, initialOf}
 use Rattle.steps.specs.StepArrays.{HoldsMarking}
 use Rattle.runs.specs.Built.{good-start, start-count, blank as blankCondition}
 use Rattle.lists.specs.Stretch.{MappedFrom}
 use Rattle.columns.specs.Columns.{column, column-length, column-at}
-use Rattle.run_counts.specs.Tally.{heldIn, watchedFrom, ownAll, tallyAt, Tallied}
+use Rattle.run_counts.specs.Tally.{heldIn, ownAll, tallyAt, Tallied}
 use Rattle.history.specs.HistoryColumns.{History, Starts}
 use Rattle.log_steps.specs.RunArrays.{HoldsRun}
 use Rattle.logs.specs.LogRun.{Beginnable}

@@ -1,14 +1,14 @@
 -- A line of a log is what its step is at the marking, and then what is built of it.
 use Prim.Native.Nat.{ℕ, _+_, _≤_, _<_}
-use mathlib.Core.Path.{_≡_, refl, sym, ap, _∙_}
-use mathlib.Core.Bool.{Bool, not}
+use mathlib.Core.Path.{_≡_, sym, ap, _∙_}
+use mathlib.Core.Bool.{not}
 use mathlib.Core.Logic.{inl, inr}
 use mathlib.Core.List.{List}
 use native.Mathlib.Omega.{arith}
 use lib.Dec.{ltb, leb}
 use lib.ListN.{length, getD, take}
 use Rattle.spec.specs.Answer.{Answer, gives, refuses, _>>=_, _>>_, refuse_at_when_}
-use Rattle.spec.specs.Lists.{In, any}
+use Rattle.spec.specs.Lists.{any}
 use Rattle.spec.specs.Text.{Line}
 use Rattle.line_forms.proofs.Ties.{numbers-are}
 use Rattle.spec.specs.Net.{Net, places}
@@ -17,11 +17,9 @@ use Rattle.spec.specs.Record.{bench}
 use Rattle.spec.specs.Building.{Run as RunD, isFree, isStepLine, playStep, logLine}
 use Rattle.lists.specs.Laws
 use Rattle.lines.specs.Agree.{Agrees, giving, refusing}
-use Rattle.runs.specs.Built.{Good}
 use Rattle.arc_sets.specs.Sets.{HoldsArcs}
-use Rattle.steps.specs.StepArrays.{IsStep, HoldsMarking, Playable, MovedBy}
+use Rattle.steps.specs.StepArrays.{Playable, MovedBy}
 use Rattle.steps.specs.Judged.{numbersIn, readStep, countStep, judgeStep, lineAt, stepRefused, stepAnswer, nothing}
-use Rattle.steps.specs.declared.StepAnswer.{StepAnswer}
 use Rattle.steps.specs.declared.StepAnswer.the-variants.{Goes, Refused}
 use Rattle.steps.specs.declared.StepRefusal.{StepRefusal}
 use Rattle.steps.proofs.Held.{playable, play-held, judged-tests}
@@ -29,7 +27,7 @@ use Rattle.step_lines.specs.Lines.{Enabled, LineAt}
 use Rattle.step_lines.specs.declared.StepLine.{StepLine}
 use Rattle.step_lines.proofs.Lines.{refused-not, refuses-not}
 use Rattle.conditions.specs.declared.Extent.{Extent}
-use Rattle.log_steps.specs.RunArrays.{Run, HoldsRun, BuildsOn, buildStep, logAnswer, logRefused}
+use Rattle.log_steps.specs.RunArrays.{Run, HoldsRun, BuildsOn, buildStep, logAnswer}
 use Rattle.log_steps.specs.declared.LogAnswer.{LogAnswer}
 use Rattle.log_steps.specs.declared.LogAnswer.the-variants.{Refused as LogRefused}
 use Rattle.log_steps.specs.declared.LogRefusal.the-variants.{Step}

@@ -1,5 +1,5 @@
 -- The lines of a log, one after the other.
-use Prim.Native.Nat.{ℕ, _+_, _≤_, _<_}
+use Prim.Native.Nat.{ℕ, _+_, _≤_}
 use mathlib.Core.Path.{_≡_, refl, sym, ap, _∙_, subst}
 use mathlib.Core.Bool.{true, false}
 use mathlib.Core.List.{List}
@@ -14,8 +14,6 @@ use Rattle.lines.proofs.Answers.{isGiven}
 use Rattle.lines.proofs.ByLines.{Running, begun, turn, stop, done}
 use Rattle.arc_sets.specs.Sets.{Within, HoldsArcs}
 use Rattle.steps.specs.StepArrays.{HoldsMarking, Playable, MovedBy}
-use Rattle.steps.specs.Judged.{stepAnswer, nothing}
-use Rattle.steps.specs.declared.StepAnswer.{StepAnswer}
 use Rattle.steps.specs.declared.StepAnswer.the-variants.{Goes, Refused}
 use Rattle.steps.specs.declared.StepRefusal.{StepRefusal}
 use Rattle.steps.specs.declared.StepRefusal.the-variants.{Malformed, UnknownTransition, OverEvents, TooFewTokens, Inhibited}
@@ -23,13 +21,13 @@ use Rattle.step_lines.specs.Lines.{Readable, Enabled, LineAt}
 use Rattle.step_lines.specs.declared.StepLine.{StepLine}
 use Rattle.step_lines.proofs.Lines.{refused-not, refuses-not}
 use Rattle.conditions.specs.declared.Extent.{Extent}
-use Rattle.log_steps.specs.RunArrays.{Run, runAt, HoldsRun, Reached, Buildable, BuiltOn, logAnswer, logRefused}
+use Rattle.log_steps.specs.RunArrays.{Run, runAt, Buildable, BuiltOn, logAnswer, logRefused}
 use Rattle.log_steps.specs.declared.Played.{Played}
 use Rattle.log_steps.specs.declared.LogAnswer.{LogAnswer}
 use Rattle.log_steps.specs.declared.LogAnswer.the-variants.{Goes as LogGoes, Refused as LogRefused}
 use Rattle.log_steps.specs.declared.LogRefusal.{LogRefusal}
 use Rattle.log_steps.specs.declared.LogRefusal.the-variants.{Step, OverConditions, OverMarks}
-use Rattle.logs.specs.LogRun.{positionOf, HoldsAt, HoldsAny, Begun, LinesOn, PlaysLog, PlayedLog}
+use Rattle.logs.specs.LogRun.{positionOf, HoldsAt, Begun, LinesOn, PlaysLog, PlayedLog}
 use Rattle.logs.proofs.Lines.{refused-on, enabled-on, playable-on, stepped-on}
 
 -- a refusal of a log gives nothing

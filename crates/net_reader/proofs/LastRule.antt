@@ -5,7 +5,7 @@ use mathlib.Core.Option.{none, some}
 use mathlib.Core.List.{List}
 use native.Mathlib.Omega.{arith}
 use lib.Dec.{ltb}
-use lib.ListN.{length, getD}
+use lib.ListN.{getD}
 use Rattle.spec.specs.Answer.{Answer, gives, refuses, _>>_, refuse_at?_}
 use Rattle.spec.specs.Lists.{from, upTo, any, first, lowest}
 use Rattle.lists.specs.Search.{any-same, first-same}

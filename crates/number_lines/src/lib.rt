@@ -1,7 +1,7 @@
 // Lines of one letter and one number or more, as those of a log and of an arrangement are: judged, counted and read.
 ghost use mathlib.Core.Path.{_≡_};
 ghost use mathlib.Core.Bool.{_&&_};
-ghost use Prim.Native.Nat.{_+_, _≤_, max};
+ghost use Prim.Native.Nat.{_+_, _≤_};
 ghost use lib.Dec.{leb};
 ghost use lib.ListN.{length};
 ghost use Rattle.spec.specs.Lists.{any};

@@ -1,14 +1,14 @@
 -- What a list of marks says of a condition and an event: more marks, and the marks that say it.
 use Prim.Native.Nat.{ℕ, suc, _≤_, _<_, max}
 use mathlib.Core.Path.{_≡_, refl, sym, ap, _∙_}
-use mathlib.Core.Bool.{Bool, true, false, _&&_, _||_, cond}
+use mathlib.Core.Bool.{Bool, true, false, _||_, cond}
 use mathlib.Core.List.{List, [], _∷_, _++_, List·Memᴰ·head, List·Memᴰ·tail}
 use native.Mathlib.Nat.{max-zero}
 use native.Mathlib.Decide.{decLe}
 use native.Mathlib.Omega.{arith}
 use lib.Dec.{eqb, ltb}
 use borrow.Author.Tests.{eq-eqb, eqb-true, lt-ltb}
-use Rattle.spec.specs.Lists.{In, any, count, asCount}
+use Rattle.spec.specs.Lists.{In, any, count}
 use Rattle.spec.specs.Record.{RunRecord, Mark, isAt, marked}
 use Rattle.spec.specs.declared.MarkKind.{MarkKind}
 use Rattle.spec.specs.declared.MarkKind.the-variants.{Before, After}

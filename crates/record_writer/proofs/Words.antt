@@ -9,7 +9,7 @@ use lib.ListN.{length, getD, set, length-set}
 use lib.Seq.{getD-set-same, getD-set-other}
 use Rattle.bit_sets.specs.Bits.{bit, bit-most, bit-or, bit-zero, bit-pow, bit-pow-other}
 use Rattle.arc_sets.specs.Walk.{word-one}
-use Rattle.record_writer.specs.Sets.{bitAt, JoinsRow, EmptyRow, Tells, Placed, Watched, WatchedBy, OthersKept, Ready}
+use Rattle.record_writer.specs.Sets.{bitAt, JoinsRow, EmptyRow, Placed, WatchedBy, OthersKept, Ready}
 
 pub at-most : (sets : List ℕ) (r c : ℕ) → bitAt sets r c < 2
 unfolding bitAt

@@ -2,14 +2,13 @@
 -- of the text wherever one starts to count, be it inside a line in front of it.
 use mathlib.Core.Path.{_≡_, refl, sym, ap, _∙_, subst}
 use Prim.Native.Nat.{ℕ, zero, suc, _+_, _-_, _≤_, _<_}
-use mathlib.Core.Bool.{Bool, true, false, cond}
-use mathlib.Core.Option.{none, some}
+use mathlib.Core.Bool.{Bool, true, false}
+use mathlib.Core.Option.{none}
 use mathlib.Core.List.{List, [], _∷_}
 use native.Mathlib.Nat.{zero-add}
 use native.Mathlib.Omega.{arith}
 use lib.ListN.{length, take, drop, getElem?, drop-of-length-le, length-take, length-drop}
 use lib.Seq.{drop-drop}
-use lib.Dec.{ltb}
 use borrow.Author.Tests.{lt-ltb, le-ltb}
 use Rattle.spec.specs.Lists.{count}
 use Rattle.spec.specs.Text.{Line, linesOf, onFirst, isA}
@@ -25,7 +24,7 @@ use denote.Ref.{RefT, ptr, now}
 use Rattle.spec.specs.Values.{lineValues}
 use Rattle.refused_lines.specs.Shown.{lineOf, Running, Goes, Finds, FindsChosen, placeIn, placeOf, answerOf}
 use Rattle.refused_lines.specs.declared.Found.{Found}
-use Rattle.refused_lines.specs.declared.Found.the-variants.{At, Nothing}
+use Rattle.refused_lines.specs.declared.Found.the-variants.{Nothing}
 use Rattle.refused_lines.specs.declared.LineAnswer.the-variants.{Shown, NoSuchLine}
 
 -- ---- line ends passed over

@@ -1,5 +1,4 @@
 // Replaying an arrangement, from its texts to its rows.
-ghost use mathlib.Core.Path.{_≡_};
 ghost use lib.ListN.{length};
 ghost use Rattle.spec.specs.Replaying.{replay};
 ghost use Rattle.replaying.specs.Replaying.{Replays};

@@ -9,7 +9,7 @@ use lib.ListN.{length, getD}
 use lib.Dec.{eqb}
 use borrow.Author.Tests.{ne-eqb, ltb-true}
 use Rattle.spec.specs.Lists.{In, any, upTo}
-use Rattle.spec.specs.Net.{Net as NetD, places}
+use Rattle.spec.specs.Net.{Net as NetD}
 use Rattle.spec.specs.Record.{RunRecord, noCondition, conditionAt, names, isNone}
 use Rattle.spec.specs.Process.{isBelow}
 use Rattle.lists.specs.Laws.{at-in}

@@ -5,11 +5,11 @@ use mathlib.Core.Bool.{true, false}
 use mathlib.Core.List.{List}
 use native.Mathlib.Decide.{decLt}
 use native.Mathlib.Omega.{arith}
-use lib.Dec.{ltb, leb}
+use lib.Dec.{leb}
 use lib.ListN.{length}
 use borrow.Author.Tests.{lt-ltb, le-ltb, leb-false}
 use Rattle.spec.specs.Answer.{Answer, gives, refuses, _>>=_, _>>_, refuse_at_when_}
-use Rattle.spec.specs.Lists.{In, any}
+use Rattle.spec.specs.Lists.{any}
 use Rattle.spec.specs.Text.{Line, mostDigits, named, inDigits, classOf, isA}
 use Rattle.spec.specs.Classes.{alike}
 use Rattle.line_forms.specs.Rows.{isList}

@@ -1,31 +1,30 @@
 -- What is read, judged and played on arrays is what the definitions say of the step and the marking that they hold.
-use Prim.Native.Nat.{ℕ, _+_, _-_, _*_, _≤_, _<_, suc}
-use mathlib.Core.Path.{_≡_, refl, sym, ap, ap₂, _∙_, subst}
+use Prim.Native.Nat.{ℕ, _+_, _-_, _≤_, _<_}
+use mathlib.Core.Path.{_≡_, refl, sym, ap, ap₂, _∙_}
 use mathlib.Core.Bool.{Bool, true, false, _&&_, and-false}
 use mathlib.Core.Logic.{inl, inr}
 use mathlib.Core.List.{List}
-use native.Mathlib.Decide.{decLe, decLt}
+use native.Mathlib.Decide.{decLt}
 use native.Mathlib.Omega.{arith}
 use lib.Dec.{ltb}
 use lib.ListN.{length, getD, take, replicate, length-map, List·getD-eq-default}
 use lib.Seq.{getD-take, length-take-le}
-use borrow.Author.Tests.{ltb-false, ltb-true, lt-ltb, le-ltb}
-use Rattle.spec.specs.Answer.{Answer, gives, refuses, _>>_, refuse_at_when_}
+use borrow.Author.Tests.{ltb-false, lt-ltb, le-ltb}
+use Rattle.spec.specs.Answer.{gives, refuses, _>>_, refuse_at_when_}
 use Rattle.spec.specs.Lists.{In, any, sumOf, upTo, asCount}
 use Rattle.spec.specs.Net.{Net as NetD, places, takes, makes, inhibits}
 use Rattle.spec.specs.Step.{taken, made, short, inhibited, play}
 use Rattle.lists.specs.Laws
-use Rattle.lists.specs.Laws.{in-at, at-in, sumOf-same, in-upTo, upTo-in, length-upTo, getD-table}
+use Rattle.lists.specs.Laws.{at-in, sumOf-same, in-upTo, length-upTo, getD-table}
 use Rattle.lists.specs.Arrays.{blank}
 use Rattle.lists.specs.Along.{any-agree, some-counted}
 use Rattle.net.specs.NetArrays.{Holds}
 use Rattle.net.specs.declared.Net.{Net}
 use Rattle.number_lines.specs.Numbers.{Few, Begins}
 use Rattle.bit_sets.specs.Bits.{bit, bit-most}
-use Rattle.arc_sets.specs.Sets.{arcAt, Within, Says, HoldsArcs}
-use Rattle.steps.specs.StepArrays.{IsStep, HoldsStep, over, Summed, Joined, HoldsMarking, falls, Blocks, Playable, MovedBy}
-use Rattle.steps.specs.Judged.{stepAnswer, judgeStep}
-use Rattle.steps.proofs.Rows.{over-most}
+use Rattle.arc_sets.specs.Sets.{arcAt, Says, HoldsArcs}
+use Rattle.steps.specs.StepArrays.{HoldsStep, over, Summed, Joined, HoldsMarking, falls, Blocks, Playable, MovedBy}
+use Rattle.steps.specs.Judged.{judgeStep}
 
 -- ---- a step
 

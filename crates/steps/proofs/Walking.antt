@@ -1,6 +1,6 @@
 -- The places of a set, added to an array or taken from it one after the other.
-use Prim.Native.Nat.{ℕ, zero, suc, _+_, _-_, _*_, _%_, _^_, _≤_, _<_}
-use mathlib.Core.Path.{_≡_, refl, sym, ap, _∙_}
+use Prim.Native.Nat.{ℕ, _+_, _-_, _*_, _%_, _^_, _≤_, _<_}
+use mathlib.Core.Path.{_≡_, refl, _∙_}
 use mathlib.Core.List.{List}
 use native.Mathlib.Decide.{ℕ-discrete, decLt}
 use native.Mathlib.Omega.{arith}
@@ -8,7 +8,7 @@ use lib.Bits.{bitAnd, bitXor}
 use lib.Count.{trailingZeros}
 use lib.ListN.{length, getD, set, length-set}
 use lib.Seq.{getD-set-same, getD-set-other}
-use Rattle.bit_sets.specs.Bits.{bit, bit-most}
+use Rattle.bit_sets.specs.Bits.{bit}
 use Rattle.arc_sets.specs.Walk.{Left, lowest, left-within, lowest-word, skipped, left-rest, rest-less}
 use Rattle.steps.specs.StepArrays.{Addable, AddedTo, AddedSet, Payable, TakenSet, Within32}
 

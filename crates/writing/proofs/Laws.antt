@@ -1,16 +1,14 @@
 -- Writes one after another, and a write from the start of a buffer.
 use Prim.Native.Nat.{ℕ, zero, suc, _+_, _-_, _/_, _%_, _≤_, _<_}
 use mathlib.Core.Path.{_≡_, refl, sym, ap, ap₂, _∙_}
-use mathlib.Core.Bool.{Bool, true, false, cond}
 use mathlib.Core.List.{List, [], _∷_, _++_, append-assoc, append-nil}
 use native.Mathlib.Numerals.{add-one}
 use native.Mathlib.Nat.{add-zero, le-of-eq}
 use native.Mathlib.Decide.{decLt}
 use native.Mathlib.Omega.{arith}
-use lib.Dec.{ltb}
-use lib.ListN.{length, set, take, drop, getD, length-set, length-append}
-use lib.Seq.{sets, sets-eq, take-suc, set-comm}
-use borrow.Author.Tests.{lt-ltb, le-ltb, ltb-true, ltb-false}
+use lib.ListN.{length, set, take, getD, length-set, length-append}
+use lib.Seq.{sets, sets-eq, take-suc}
+use borrow.Author.Tests.{lt-ltb, le-ltb}
 use Rattle.spec.specs.Text.{digitByte, digits, fieldsBytes, fieldBytes}
 use Rattle.spec.specs.Buffer.{over}
 use Rattle.spec.specs.declared.Field.{Field}

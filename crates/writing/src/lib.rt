@@ -1,5 +1,4 @@
 // Writing texts: bytes, numbers, fields and lines, each from a position on; the answer is the next position.
-ghost use mathlib.Core.Path.{_≡_};
 ghost use Prim.Native.Nat.{_+_, _<_, _≤_};
 ghost use mathlib.Core.List.{_∷_, []};
 ghost use lib.ListN.{length, take};

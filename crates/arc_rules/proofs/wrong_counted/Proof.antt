@@ -1,7 +1,7 @@
 -- `arc_rules::wrong_counted` meets its contract. The loop's invariant: the lowest event from e on with wrong arcs is
 -- the lowest of all. A count cut off at 255 differs from an arc, which counts for one at most, where the whole count
 -- does.
-use Prim.Native.Nat.{ℕ, _-_, _≤_, _<_}
+use Prim.Native.Nat.{_-_, _≤_, _<_}
 use native.Mathlib.Omega.{arith}
 use mathlib.Core.Path.{_≡_, _∙_}
 use Rattle.spec.specs.Lists.{from, first, lowest}

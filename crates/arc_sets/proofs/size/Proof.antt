@@ -1,6 +1,5 @@
 -- `arc_sets::size` meets its contract: the ones of a word are counted bit by bit, as `sumOf` does (`size-is`), and a
 -- word has 64 bits.
-use mathlib.Core.Path.{_∙_}
 use native.Mathlib.Omega.{arith}
 use Rattle.arc_sets.proofs.Making.{size-is}
 use Rattle.arc_sets.proofs.size.Statement.{statement}

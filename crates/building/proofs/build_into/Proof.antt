@@ -1,6 +1,6 @@
 -- `building::build_into` meets its contract: each refusal is the buffer's, the net's or the log's; what is written and
 -- noted is the record of the run that the log leaves.
-use mathlib.Core.Path.{refl, sym, _∙_}
+use mathlib.Core.Path.{refl, _∙_}
 use native.Mathlib.Omega.{arith}
 use borrow.Author.Needs.{needs}
 use Rattle.building.specs.declared.BuildAnswer.the-variants.{BufferShort, Net, Log}

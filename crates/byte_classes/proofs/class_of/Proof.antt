@@ -1,6 +1,6 @@
 -- `byte_classes::class_of` meets its contract: a byte that an arm names has, computed, that arm's class; the digits are the
 -- range, and a byte that no arm names is named by no entry of the definition's list (`foreign`).
-use mathlib.Core.Path.{_≡_, sym, ap, _∙_}
+use mathlib.Core.Path.{sym, ap, _∙_}
 use mathlib.Core.Logic.{⊎-elim}
 use native.Mathlib.Omega.{arith}
 use Rattle.spec.specs.Text.{named, inDigits, classOf, digitOf, classAndDigit}

@@ -1,6 +1,6 @@
 -- `byte_classes::digit_value` meets its contract: the digit of a byte's class is its digit value, which is at most 9 and
 -- fits.
-use mathlib.Core.Path.{_≡_, ap}
+use mathlib.Core.Path.{ap}
 use native.Mathlib.Omega.{arith}
 use Rattle.spec.specs.Text.{classAndDigit}
 use Rattle.byte_classes.proofs.Classes.{digit-low}

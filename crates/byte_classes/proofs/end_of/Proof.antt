@@ -1,7 +1,7 @@
 -- `byte_classes::end_of` meets its contract. The loop's invariant: i and the count of bytes before the first of the class
 -- from i on give the same place as at the start, since no byte passed was of the class.
 use Prim.Native.Nat.{_+_, _-_, _≤_}
-use mathlib.Core.Path.{_≡_, refl, sym, ap, _∙_}
+use mathlib.Core.Path.{_≡_, refl, sym, _∙_}
 use native.Mathlib.Omega.{arith}
 use lib.ListN.{length, drop}
 use Rattle.byte_classes.specs.Scan.{before}

@@ -1,5 +1,4 @@
 -- `byte_classes::is_a` meets its contract: the class found is that of the definition, and so is its comparison with k.
-use mathlib.Core.Path.{_≡_, ap}
 use Rattle.spec.specs.Text.{isA, classAndDigit}
 use Rattle.byte_classes.proofs.is_a.Statement.{statement}
 use Rattle.byte_classes.proofs.is_a.Tie as tie

@@ -1,6 +1,6 @@
 -- One of each place of the set below d is taken, and `bits` holds the others.
 use Prim.Native.Nat.{ℕ, _+_, _≤_}
-use mathlib.Core.Path.{_≡_, refl, sym, _∙_}
+use mathlib.Core.Path.{sym}
 use native.Mathlib.Omega.{arith}
 use Rattle.arc_sets.specs.Walk.{Left, left-all, left-rest, rest-less, nothing-left}
 use Rattle.steps.proofs.Walking.{at-lowest, looks}

@@ -1,6 +1,5 @@
 -- `line_writer::earlier` meets its contract: without an event nothing is earlier, and of two events the steps are
 -- compared, as `earlierAt` says.
-use mathlib.Core.Path.{_≡_, refl}
 use native.Mathlib.Omega.{arith}
 use borrow.Author.Tests.{eq-eqb, ne-eqb}
 use Rattle.line_writer.specs.Lines.{earlierAt}

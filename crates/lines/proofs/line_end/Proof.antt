@@ -6,7 +6,7 @@ use Rattle.lines.specs.Lines.{endFrom}
 use Rattle.lines.specs.declared.Reader.{Reader}
 use Rattle.lines.proofs.Reader.Laws as T′
 use Rattle.lines.proofs.Reading.{D, L, B, vs, tok}
-use Rattle.walks.proofs.Walk.{_≡_, refl, [], _∷_, ℕ, _≤_, Holds, length, URA, named, w64, Val, WT, hasTy, vint, SProp, ent, emp, id⊢, Lft, Share, Memory, Routine, Heap, Calls, Loops, WpFn, Atoms, Fun, factI, givenOf, Given, ‵, raw, given, _$_, _∵_, !, qed, by, move, keep, use1, join, learn, fsplit, frame, done, whole, sub, look-in, look, init, forget, stop, fld, from, load, of-opd, and-then, no-more, assigns, land, returns, enter, alloc1, alloc0, params1, pass1, pass0, free1, free0, FmC, owns, Is, shows, uint-lawful, usize, now, peeks, heard, all-own, own-open, Contract, Triple, onEntry, tripleOf, cited, says, needs, calls-told, Ends, leaves, fm, by-walk₀}
+use Rattle.walks.proofs.Walk.{_≡_, refl, [], _∷_, ℕ, _≤_, Holds, length, URA, named, w64, Val, WT, hasTy, vint, SProp, ent, emp, id⊢, Lft, Share, Memory, Routine, Heap, Calls, Loops, WpFn, Atoms, Fun, factI, givenOf, Given, ‵, raw, given, _$_, _∵_, !, qed, by, move, keep, use1, learn, fsplit, frame, done, whole, sub, look-in, look, init, forget, stop, fld, from, load, of-opd, and-then, no-more, assigns, land, returns, enter, alloc1, alloc0, params1, pass1, pass0, free1, free0, FmC, owns, Is, shows, uint-lawful, usize, now, peeks, heard, all-own, own-open, Contract, Triple, onEntry, tripleOf, cited, says, needs, calls-told, Ends, leaves, fm, by-walk₀}
 use Rattle.lines.proofs.find_end as g
 use Rattle.lines.proofs.find_end.Symbol as g-def
 use Rattle.lines.proofs.find_end.Symbol.{name as #g}

@@ -5,7 +5,7 @@ use denote.Struct.Laws as LL
 use Rattle.lines.specs.declared.Reader.{Reader}
 use Rattle.lines.proofs.Reader.Laws as T′
 use Rattle.lines.proofs.Reading.{D, L, B, tok, Own}
-use Rattle.walks.proofs.Walk.{_≡_, refl, ap, [], _∷_, ℕ, _<_, _≤_, _^_, Holds, URA, fullShare, named, w64, tyInt, Val, WT, hasTy, vint, SProp, ent, emp, via, fst∗, id⊢, Lft, Share, ftrue, fat, Memory, Routine, Heap, Calls, Loops, WpFn, Atoms, Fun, factI, givenOf, Given, ‵, raw, _$_, _∵_, !, qed, by, move, keep, drop, use0, use2, join, rewrite, fsplit, fjoin, frame, done, whole, sub, look-in, agg, look, init, forget, stop, fld, from, load, of-opd, and-then, no-more, assigns, land, returns, enter, alloc1, alloc0, params1, pass1, pass0, free1, free0, FmC, owns, Is, shows, uint-vals, uint-tells, uint-makes, uint-lawful, usize, only, owned, peeks, heard, nothing, own-put, Contract, Triple, onEntry, tripleOf, cited, calls-told, Ends, leaves, fm, by-walk₀}
+use Rattle.walks.proofs.Walk.{_≡_, refl, ap, [], _∷_, ℕ, _<_, _≤_, _^_, Holds, URA, fullShare, named, w64, tyInt, Val, WT, hasTy, vint, SProp, ent, emp, via, fst∗, id⊢, Lft, Share, ftrue, fat, Memory, Routine, Heap, Calls, Loops, WpFn, Atoms, Fun, factI, givenOf, Given, ‵, raw, _$_, _∵_, !, qed, by, move, keep, use0, use2, join, rewrite, fsplit, fjoin, frame, done, whole, sub, look-in, agg, look, init, forget, stop, fld, from, load, of-opd, and-then, no-more, assigns, land, returns, enter, alloc1, alloc0, params1, pass1, pass0, free1, free0, FmC, owns, Is, shows, uint-vals, uint-tells, uint-makes, uint-lawful, usize, only, owned, peeks, heard, nothing, own-put, Contract, Triple, onEntry, tripleOf, cited, calls-told, Ends, leaves, fm, by-walk₀}
 use Rattle.lines.proofs.later as g
 use Rattle.lines.proofs.later.Symbol as g-def
 use Rattle.lines.proofs.later.Symbol.{name as #g}

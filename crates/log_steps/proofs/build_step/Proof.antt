@@ -1,5 +1,5 @@
 -- Each refusal is the definitions' by what is counted of the step; what is left is the run after the step.
-use mathlib.Core.Path.{_≡_, refl, sym, _∙_}
+use mathlib.Core.Path.{refl, _∙_}
 use native.Mathlib.Omega.{arith}
 use Rattle.lines.specs.Agree.{giving}
 use Rattle.log_steps.proofs.Reaching.{sets-within, refuses-on, tally-small, held-summable, watched-summable, tally-grows, held-most, watched-most, grown-wide, growable, cursors-grown, counts-kept}

@@ -1,6 +1,6 @@
 -- `net_reader::arcs_of` meets its contract. The loop's invariant: the entries below i are copied.
 use Prim.Native.Nat.{ℕ, _+_, _-_, _≤_}
-use mathlib.Core.Path.{_≡_, refl}
+use mathlib.Core.Path.{refl}
 use native.Mathlib.Omega.{arith}
 use lib.ListN.{getD, replicate, length-replicate}
 use Rattle.lists.specs.Mapped.{Mapped, mapped-none, mapped-more, mapped-end}

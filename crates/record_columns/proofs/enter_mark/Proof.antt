@@ -1,11 +1,10 @@
 -- `record_columns::enter_mark` meets its contract: its tests are the three refusals of the definitions, in their order,
 -- the second asked of the condition and then of the event. There is a mark where the words have a value, and the value
 -- that is raised is that of the new mark.
-use mathlib.Core.Path.{refl, sym, subst, _∙_}
+use mathlib.Core.Path.{sym, _∙_}
 use native.Mathlib.Omega.{arith}
 use borrow.Author.Tests.{le-leb, lt-leb}
 use Rattle.spec.specs.Checking.{withMark}
-use Rattle.reach.specs.Rows.{Raised}
 use Rattle.record_columns.proofs.Answers.{line-refused, line-entered}
 use Rattle.record_columns.proofs.Stores.{mark-counted, mark-raised}
 use Rattle.record_columns.proofs.Steps.{first, second, third, through, mark-is, mark-read, no-condition, no-event, both-declared}

@@ -1,6 +1,6 @@
 -- `record_reader::enter_at` meets its contract: a plain line is entered as the definitions enter it, by its letter; any
 -- other is read as a line.
-use mathlib.Core.Path.{sym, subst, _∙_}
+use mathlib.Core.Path.{sym, subst}
 use native.Mathlib.Omega.{arith}
 use lib.ListN.{getD}
 use Rattle.spec.specs.Checking.{enterEvent, enterCondition, enterMark}

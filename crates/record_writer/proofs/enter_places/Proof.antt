@@ -1,7 +1,7 @@
 -- `record_writer::enter_places` meets its contract. The loop's invariant: the conditions below c are in the sets of
 -- their places.
 use Prim.Native.Nat.{_+_, _-_, _≤_, _<_}
-use mathlib.Core.Path.{_≡_, refl, _∙_}
+use mathlib.Core.Path.{_≡_, refl}
 use native.Mathlib.Omega.{arith}
 use lib.ListN.{length, getD, length-set}
 use Rattle.record_writer.specs.Sets.{Placed}

@@ -1,6 +1,6 @@
 -- `record_writer::join` meets its contract. The loop's invariant: the first w words of the row are joined.
 use Prim.Native.Nat.{_+_, _*_, _-_, _≤_}
-use mathlib.Core.Path.{refl, ap}
+use mathlib.Core.Path.{ap}
 use native.Mathlib.Omega.{arith}
 use lib.Bits.{bitOr}
 use lib.ListN.{getD}

@@ -1,8 +1,5 @@
 -- `record_writer::note_mark` meets its contract: where there are words for marks, the value that is raised is that of
 -- the mark's kind at its condition and event; where there are none, nothing is noted.
-use Prim.Native.Nat.{_≤_}
-use mathlib.Core.Bool.{true, false}
-use mathlib.Core.Path.{refl}
 use native.Mathlib.Omega.{arith}
 use Rattle.record_writer.proofs.Noting.{noting, unnoted, after-code}
 use Rattle.record_writer.proofs.note_mark.Statement.{statement}

@@ -1,6 +1,6 @@
 -- `record_writer::put_row` meets its contract. The loop's invariant: the marks at the conditions of the first w words
 -- are put.
-use Prim.Native.Nat.{ℕ, _+_, _*_, _-_, _≤_}
+use Prim.Native.Nat.{_*_, _-_, _≤_}
 use native.Mathlib.Omega.{arith}
 use lib.ListN.{getD}
 use Rattle.writing.proofs.Laws.{wrote-length}

@@ -1,6 +1,6 @@
 -- `row_facts::first_loop` meets its contract. The loop's invariant: the lowest loop from e on is the lowest of all,
 -- since none was below e.
-use Prim.Native.Nat.{ℕ, _-_, _≤_}
+use Prim.Native.Nat.{_-_, _≤_}
 use native.Mathlib.Omega.{arith}
 use mathlib.Core.Path.{_≡_, sym, _∙_}
 use Rattle.spec.specs.Lists.{from, first, lowest}

@@ -1,9 +1,9 @@
 -- The sizes of the events up to the next are added up.
 use Prim.Native.Nat.{_-_, _*_, _≤_}
-use mathlib.Core.Path.{_≡_, refl, sym, _∙_}
+use mathlib.Core.Path.{_≡_, sym, _∙_}
 use native.Mathlib.Omega.{arith}
 use lib.ListN.{take}
-use Rattle.spec.specs.Lists.{sumOf, upTo}
+use Rattle.spec.specs.Lists.{sumOf}
 use Rattle.run_counts.specs.Tally.{sizeOf}
 use Rattle.run_counts.proofs.Tallying.{all-none, all-next, size-of}
 use Rattle.run_counts.proofs.made_all.Statement.{statement}

@@ -1,9 +1,9 @@
 -- The places that both sets of an event have are added up.
 use Prim.Native.Nat.{_-_, _*_, _≤_}
-use mathlib.Core.Path.{_≡_, refl, sym, _∙_}
+use mathlib.Core.Path.{_≡_, sym, _∙_}
 use native.Mathlib.Omega.{arith}
 use lib.ListN.{take}
-use Rattle.spec.specs.Lists.{sumOf, upTo}
+use Rattle.spec.specs.Lists.{sumOf}
 use Rattle.run_counts.specs.Tally.{bothOf}
 use Rattle.run_counts.proofs.Tallying.{all-none, all-next, both-of}
 use Rattle.run_counts.proofs.own_all.Statement.{statement}

@@ -1,8 +1,7 @@
 -- The products of the places up to the next are added up.
 use Prim.Native.Nat.{_-_, _*_, _≤_}
-use mathlib.Core.Path.{_≡_, refl, sym, _∙_}
+use mathlib.Core.Path.{_≡_, sym}
 use native.Mathlib.Omega.{arith}
-use lib.ListN.{take}
 use Rattle.spec.specs.Lists.{sumOf, upTo}
 use Rattle.columns.specs.Columns.{column}
 use Rattle.lists.specs.Grouped.{sumOf-none}

@@ -2,7 +2,6 @@
 -- all, since no more than 128 are there.
 use mathlib.Core.Path.{sym}
 use native.Mathlib.Omega.{arith}
-use borrow.Author.Needs.{needs}
 use Rattle.step_lines.proofs.Lines.{counts-23, counts-on}
 use Rattle.step_lines.proofs.count_step.Statement.{statement}
 use Rattle.step_lines.proofs.count_step.Tie as tie

@@ -1,5 +1,4 @@
 -- The first part that refuses is the definitions' too; where none does, the line is enabled.
-use mathlib.Core.Path.{_≡_, refl, sym, _∙_}
 use native.Mathlib.Omega.{arith}
 use borrow.Author.Needs.{needs}
 use Rattle.step_lines.proofs.Lines.{line-unread, line-uncounted, line-judged, count-fits, step-read}

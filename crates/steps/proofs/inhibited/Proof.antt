@@ -1,6 +1,5 @@
 -- The places of the set below d are empty, and `bits` holds the others.
-use Prim.Native.Nat.{ℕ, _+_, _-_, _≤_}
-use mathlib.Core.Path.{_≡_, refl, sym, ap, _∙_}
+use Prim.Native.Nat.{ℕ, _-_}
 use mathlib.Core.Bool.{true≢false, false≢true}
 use native.Mathlib.Omega.{arith}
 use Rattle.arc_sets.specs.Walk.{Left, left-all, rest-less, nothing-left}

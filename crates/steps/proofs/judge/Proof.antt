@@ -1,5 +1,5 @@
 -- The sums and the guards of the step are those of the definitions, and so is each test.
-use mathlib.Core.Path.{_≡_, refl, sym, ap, _∙_}
+use mathlib.Core.Path.{refl, sym, _∙_}
 use native.Mathlib.Omega.{arith}
 use Rattle.steps.proofs.Rows.{blank-summable, joined-within}
 use Rattle.steps.proofs.Held.{short-held, inhibited-held, judged-24, judged-25, judged-on}

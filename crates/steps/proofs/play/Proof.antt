@@ -1,7 +1,5 @@
 -- What is taken is taken, and then what is made is added.
-use Prim.Native.Nat.{ℕ, _+_, _-_, _≤_}
-use mathlib.Core.Path.{_≡_, refl, sym, ap, _∙_}
-use native.Mathlib.Omega.{arith}
+use Prim.Native.Nat.{_-_}
 use Rattle.steps.proofs.Rows.{paid-low, moved}
 use Rattle.steps.proofs.play.Statement.{statement}
 use Rattle.steps.proofs.play.Tie as tie

@@ -1,7 +1,7 @@
 -- `writing::put_fields` meets its contract. The loop's invariant: the first i fields are written. There is room for the
 -- next one, since the first fields are no longer than all of them (`fields-part`).
 use Prim.Native.Nat.{_+_, _-_, _≤_}
-use mathlib.Core.Path.{_≡_, refl, _∙_}
+use mathlib.Core.Path.{_≡_}
 use native.Mathlib.Omega.{arith}
 use lib.ListN.{length, take}
 use Rattle.spec.specs.Text.{fieldsBytes}

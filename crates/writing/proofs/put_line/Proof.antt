@@ -2,8 +2,7 @@
 -- where the one before it ended, are one (`after`).
 use native.Mathlib.Omega.{arith}
 use borrow.Author.Needs.{needs}
-use lib.ListN.{length, take, length-append}
-use Rattle.spec.specs.Text.{fieldsBytes}
+use lib.ListN.{take}
 use Rattle.writing.proofs.Laws.{after, wrote-length, line-length}
 use Rattle.writing.proofs.put_line.Statement.{statement}
 use Rattle.writing.proofs.put_line.Tie as tie
