@@ -6,6 +6,7 @@ ghost use Rattle.lists.specs.Mapped.{Mapped};
 ghost use Rattle.lists.specs.Stretch.{MappedFrom};
 ghost use Rattle.marking_rows.specs.Rows.{rowSize, rowCounts, sumCount};
 ghost use Rattle.marking_rows.specs.Rows.{Addable, AddsArcs, Playing, Plays, leftOf, Playable, PutsRows};
+use arrangement_reader::ENDS;
 use arrangement_reader::LINED;
 use machine_numbers::wide;
 use net::ARCS;
@@ -27,10 +28,7 @@ const SUMS: usize = 64;
 // Where the sums of what was taken start.
 const TAKEN: usize = 32;
 
-// Where it starts to say how many events the first lines have, none of them first.
-const ENDS: usize = 128;
-
-// Where it says that of the first line.
+// Where an array of lines says how many events the first line has.
 const NEXT_ENDS: usize = ENDS + 1;
 
 fn word(b: u8) -> u16
