@@ -41,11 +41,18 @@ add-i c = omega (arith, c .wide2 .ensures .1)
 
 -- the place is one of a row
 in-row : (c : tie.After-wide2) → c .wide2 .result < 32
-in-row c = let s = c .before .before .before .before .before .before .before in omega (arith, c .wide2 .ensures .0, s .pre .0 .place)
+in-row c =
+    let s = c .before .before .before .before .before .before .before in
+    omega (arith, c .wide2 .ensures .0, s .pre .0 .place)
 
 -- the count is inside the table
-in-table : (c : tie.After-wide2) → let i = c .before .before in 32 * i .before .wide .result + c .wide2 .result < length (i .before .before .before .before .before .args .t .now)
-in-table c = let i = c .before .before in let s = i .before .before .before .before .before in omega (arith, i .if1 .left, in-row c, s .pre .2 .room)
+in-table : (c : tie.After-wide2)
+    → let w = c .before .before .before in
+    32 * w .wide .result + c .wide2 .result < length (w .before .before .before .before .args .t .now)
+in-table c =
+    let i = c .before .before in
+    let s = i .before .before .before .before .before in
+    omega (arith, i .if1 .left, in-row c, s .pre .2 .room)
 
 slice-read-more : tie.Need-slice-read-more
 slice-read-more c = in-table (c .before)
