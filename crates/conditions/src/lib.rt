@@ -120,7 +120,8 @@ pub fn make_times(v: u8, p: usize, count: usize, n: usize, rec: &mut [u8]) -> us
 
 // Event e makes one of each place of a set, by place.
 fn make_event(e: usize, set: u64, n: usize, rec: &mut [u8]) -> usize
-    requires { ⌜ (e < 128) × Within32 set × (n + length (tokensOf set e 64) ≤ 512) × (recordBytes ≤ length (now rec)) ⌝ }
+    requires { ⌜ (e < 128) × Within32 set × (n + length (tokensOf set e 64) ≤ 512)
+        × (recordBytes ≤ length (now rec)) ⌝ }
     ensures { λ r. ⌜ MadeAt (map made-of (tokensOf set e 64)) n (now (rec .entry)) r (now (rec .exit)) ⌝ }
 {
     let mut r = n;
