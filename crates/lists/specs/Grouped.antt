@@ -9,7 +9,7 @@ use native.Mathlib.Numerals.{add-one}
 use native.Mathlib.Omega.{arith}
 use lib.Dec.{eqb}
 use lib.ListN.{length}
-use borrow.Author.Tests.{eqb-true}
+use borrow.Author.Tests.{eq-eqb, eqb-true}
 use Rattle.spec.specs.Lists.{In, from, upTo, count, sum, sumOf, asCount}
 use Rattle.lists.specs.Laws
 use Rattle.lists.specs.Laws.{here, there}
@@ -36,6 +36,19 @@ sum-at g a n b l =
     only p = elim (Laws.true-or-false (eqb a p)) [
       | inl e ↦ let q : a ≡ p = eqb-true a p e in rw (e, Laws.count-true {b = true} refl) (ap (λ z. g z * asCount b) (sym q) ∙ sym (mul-one (g a * asCount b)))
       | inr e ↦ rw (e, Laws.count-false {b = false} refl) (mul-zero (g p) ∙ sym (mul-zero (g a * asCount b)))
+    ]
+
+-- a sum of which one number below n has all
+pub sumOf-only : (f : ℕ → ℕ) (n i : ℕ) → i < n → ((j : ℕ) → j < n → (j ≡ i → ⊥) → f j ≡ 0) → sumOf f (upTo n) ≡ f i
+sumOf-only f n i l h =
+    Laws.sumOf-same f (λ j. f j * asCount (eqb i j && true)) (upTo n) (λ j m. each j (Laws.in-upTo n m))
+    ∙ sum-at f i n true l
+    ∙ rw (Laws.count-true {b = true} refl) (mul-one (f i))
+  where
+    each : (j : ℕ) → j < n → f j ≡ f j * asCount (eqb i j && true)
+    each j m = elim (Laws.true-or-false (eqb i j)) [
+      | inl e ↦ rw (e, Laws.count-true {b = true} refl) (sym (mul-one (f j)))
+      | inr e ↦ rw (e, Laws.count-false {b = false} refl, mul-zero) (h j m (λ z. Laws.clash (eq-eqb i j (sym z)) e))
     ]
 
 module _ {A : Type 0} (f : A → ℕ) (w : ℕ → Bool) (q : A → Bool) (n : ℕ) where

@@ -6,7 +6,7 @@ use native.Mathlib.Nat.{le-refl, le-of-eq, not-suc-le-zero, le-of-suc-le-suc, ad
 use native.Mathlib.Decide.{decLe, ℕ-discrete}
 use native.Mathlib.Omega.{arith}
 use mathlib.Core.Bool.{Bool, true, false, not, _&&_, _||_, cond}
-use mathlib.Core.Option.{none, some}
+use mathlib.Core.Option.{Option, none, some, Option·some-injective, Option·none-ne-some}
 use mathlib.Core.List.{List, [], _∷_, _++_, map, map-append, append-nil, append-assoc, List·Memᴰ·head, List·Memᴰ·tail, List·Memᴰ·not-nil, List·Memᴰ·append-cases, List·Memᴰ·eq-of-singleton, Memᴰ·append-left, Memᴰ·append-right, Memᴰ·of-map, Memᴰ·map}
 use lib.ListN.{length, getD, replicate, length-append, List·getD-append, take}
 use lib.Seq.{ext-getD, getD-append-add, getD-append-seam, take-suc}
@@ -226,6 +226,16 @@ pub count-map : {A B : Type 0} (p : B → Bool) (g : A → B) (xs : List A) → 
 count-map p g xs = count-sum p (map g xs) ∙ sumOf-map (λ x. asCount (p x)) g xs ∙ sym (count-sum (λ x. p (g x)) xs)
 
 -- counting twice
+-- of lists one after another, each made of an element
+pub count-flat-map : {A B : Type 0} (p : B → Bool) (g : A → List B) (xs : List A) → count p (flat (map g xs)) ≡ sumOf (λ x. count p (g x)) xs
+count-flat-map p g xs = count-flat p (map g xs) ∙ sumOf-map (count p) g xs
+
+pub length-flat-map : {A B : Type 0} (g : A → List B) (xs : List A) → length (flat (map g xs)) ≡ sumOf (λ x. length (g x)) xs
+length-flat-map g xs =
+    sym (count-all (λ y. true) (flat (map g xs)) (λ y m. refl))
+    ∙ count-flat-map (λ y. true) g xs
+    ∙ sumOf-same _ _ xs (λ x m. count-all (λ y. true) (g x) (λ y i. refl))
+
 pub sumOf-swap : {A B : Type 0} (f : A → B → ℕ) (xs : List A) (ys : List B) → sumOf (λ x. sumOf (f x) ys) xs ≡ sumOf (λ y. sumOf (λ x. f x y) xs) ys
 unfolding sumOf
 sumOf-swap f [] ys = sym (sumOf-zero _ ys (λ y m. refl))
@@ -280,6 +290,14 @@ module _ {A : Type 0} where
       go true e q m r = let z : _≡_ {A = ℕ} 0 1 = cc in absurd (omega arith)
       go false e q (List·Memᴰ·head d) r = ap p d ∙ e
       go false e q (List·Memᴰ·tail m) r = r q m
+
+  pub first-some : (p : A → Bool) {x : A} (xs : List A) → first p xs ≡ some x → In x xs × (p x ≡ true)
+  unfolding first
+  first-some p [] h = absurd (Option·none-ne-some _ h)
+  first-some p (y ∷ ys) h = elim (true-or-false (p y)) [
+    | inl t ↦ let z : y ≡ _ = Option·some-injective y _ (rw t at h) in (List·Memᴰ·head (sym z), rw (← z) t)
+    | inr t ↦ let r = first-some p ys (rw t at h) in (there (r .0), r .1)
+  ]
 
   pub none-first : (p : A → Bool) (xs : List A) → ((x : A) → In x xs → p x ≡ false) → first p xs ≡ none
   unfolding first
@@ -516,6 +534,29 @@ lowest-none p n h i l = first-none p (upTo n) h i (upTo-in n l)
 pub none-lowest : (p : ℕ → Bool) (n : ℕ) → ((i : ℕ) → i < n → p i ≡ false) → lowest p n ≡ none
 unfolding lowest
 none-lowest p n h = none-first p (upTo n) (λ i m. h i (in-upTo n m))
+
+-- the lowest one passes, and where one passes there is a lowest
+pub lowest-some : (p : ℕ → Bool) (n : ℕ) {i : ℕ} → lowest p n ≡ some i → (i < n) × (p i ≡ true)
+unfolding lowest
+lowest-some p n h = let r = first-some p (upTo n) h in (in-upTo n (r .0), r .1)
+
+pub lowest-is : (p : ℕ → Bool) (n r : ℕ) → r < n → ((i : ℕ) → i < r → p i ≡ false) → p r ≡ true → lowest p n ≡ some r
+unfolding lowest upTo from first
+lowest-is p n r l h t = go 0 n r l (λ i a b. h i (omega arith)) (ap p (omega arith) ∙ t) ∙ ap some (omega arith)
+  where
+    go : (a k i : ℕ) → i < k → ((j : ℕ) → a ≤ j → j < a + i → p j ≡ false) → p (a + i) ≡ true → first p (from a k) ≡ some (a + i)
+    go a zero i l h t = absurd (not-suc-le-zero l)
+    go a (suc k) zero l h t = let q : a + 0 ≡ a = omega arith in rw (ap p (sym q) ∙ t) (ap some (sym q))
+    go a (suc k) (suc i) l h t =
+        let q : a + suc i ≡ suc a + i = omega arith in
+        rw (h a (omega arith) (omega arith)) (go (suc a) k i (omega arith) (λ j u v. h j (omega arith) (omega arith)) (ap p (sym q) ∙ t) ∙ ap some (sym q))
+
+pub some-lowest : (p : ℕ → Bool) (n : ℕ) {j : ℕ} → j < n → p j ≡ true → (i : ℕ) × (lowest p n ≡ some i)
+some-lowest p n {j} l t = go (lowest p n) refl
+  where
+    go : (o : Option ℕ) → lowest p n ≡ o → (i : ℕ) × (lowest p n ≡ some i)
+    go none h = clash t (lowest-none p n h j l)
+    go (some i) h = (i, h)
 
 pub eqb-count : (a b : ℕ) → a ≡ b → asCount (eqb a b) ≡ 1
 eqb-count a b e = count-true (eq-eqb a b e)

@@ -1,19 +1,19 @@
--- Building a run record from a step log (01, "Steps", "Building"; refusals 20 to 27).
+-- Building a run record from a step log (01, "Steps", "Building"; 02, 2026-01; refusals 20 to 27).
 use Prim.Native.Nat.{ℕ, zero, suc, _+_}
-use mathlib.Core.Bool.{Bool, true, false, not, _&&_, cond}
+use mathlib.Core.Bool.{Bool, true, false, not, _&&_, _||_, cond}
 use mathlib.Core.Option.{Option, none, some}
 use mathlib.Core.List.{List, [], _∷_, _++_, map}
 use lib.ListN.{length, getD, replicate}
 use lib.Dec.{eqb, ltb, leb}
-use Rattle.spec.specs.Lists.{any, upTo, keep, flat}
+use Rattle.spec.specs.Lists.{any, upTo, lowest, flat}
 use Rattle.spec.specs.Answer.{Answer, gives, refuses, _>>=_, _>>_, refuse_at_when_}
 use Rattle.spec.specs.Text.{Line, linesOf, byLines}
 use Rattle.spec.specs.Forms.{isListLine, numbersOf}
-use Rattle.spec.specs.Net.{Net, places, takes, makes, readNet}
+use Rattle.spec.specs.Net.{Net, places, takes, makes, reads, readNet}
 use Rattle.spec.specs.Step.{short, inhibited, play}
-use Rattle.spec.specs.Record.{RunRecord, Condition, Mark, bench, isNone, conditionAt, due, recordBytes}
+use Rattle.spec.specs.Record.{RunRecord, Condition, Mark, bench, names, isNone, transitionOf, conditionAt, due, recordBytes}
 use Rattle.spec.specs.declared.Limits.{Limits}
-use Rattle.spec.specs.declared.MarkKind.the-variants.{Before, After}
+use Rattle.spec.specs.declared.MarkKind.the-variants.{Before, After, Read}
 
 -- an event of a log: its transition and the number of its step
 pub record Event : Type 0 where
@@ -110,7 +110,7 @@ unmarked r = record { events = map (λ v. v .transition) (r .events); conditions
 abbrev pub stepOf : List Event → ℕ → ℕ
 stepOf es e = getD es e noEvent .step
 
--- the consumer, if there is one, is an event of a step earlier than that of event e
+-- the producer or consumer, if there is one, is an event of a step earlier than that of event e
 unfoldable pub isEarlier : List Event → Option ℕ → ℕ → Bool
 isEarlier es none e = false
 isEarlier es (some f) e = ltb (stepOf es f) (stepOf es e)
@@ -122,9 +122,44 @@ markAt r e c =
     let early : Bool = isEarlier (r .events) (conditionAt (unmarked r) c .consumer) e in
     record { kind = cond early After Before; condition = c; event = e }
 
+-- ---- 2026-01: "The builder marks the lowest-numbered condition that held when the reader's step began, taken in that
+-- step or not, and reading takes nothing; R stands with the other marks by event, then condition."
+
+-- condition c is of place p and held when the step of event e began: it is initial or was produced in an earlier step,
+-- and was consumed in none
+unfoldable pub heldIn : Run → ℕ → ℕ → ℕ → Bool
+heldIn r p e c =
+    let k : Condition = conditionAt (unmarked r) c in
+    eqb (k .place) p
+    && (isNone (k .producer) || isEarlier (r .events) (k .producer) e)
+    && not (isEarlier (r .events) (k .consumer) e)
+
+-- the lowest-numbered of them
+unfoldable pub lowestHeld : Run → ℕ → ℕ → Option ℕ
+lowestHeld r p e = lowest (heldIn r p e) (length (r .conditions))
+
+-- event e reads condition c: its transition reads the condition's place, and c is the one that it marks there
+unfoldable pub readBy : Net → Run → ℕ → ℕ → Bool
+readBy n r c e =
+    let p : ℕ = conditionAt (unmarked r) c .place in
+    reads n p (transitionOf (unmarked r) e) && names (lowestHeld r p e) c
+
+unfoldable pub readMark : ℕ → ℕ → Mark
+readMark e c = record { kind = Read; condition = c; event = e }
+
+-- ---- all marks
+
+-- the mark, where the test passes
+unfoldable pub markIf : Bool → Mark → List Mark
+markIf b m = cond b (m ∷ []) []
+
+-- the marks of event e at condition c
+unfoldable pub marksAt : Net → Run → ℕ → ℕ → List Mark
+marksAt n r e c = markIf (due n (unmarked r) c e) (markAt r e c) ++ markIf (readBy n r c e) (readMark e c)
+
 -- the marks of event e, by condition
 unfoldable pub marksOf : Net → Run → ℕ → List Mark
-marksOf n r e = map (markAt r e) (keep (λ c. due n (unmarked r) c e) (upTo (length (r .conditions))))
+marksOf n r e = flat (map (marksAt n r e) (upTo (length (r .conditions))))
 
 -- all marks, by event
 unfoldable pub marksDue : Net → Run → List Mark

@@ -1,5 +1,5 @@
--- Reading and checking a run record, and the table that the check writes (01, "Record", "Checking"; refusals 30 to
--- 39).
+-- Reading and checking a run record, and the table that the check writes (01, "Record", "Checking"; 02,
+-- 2026-01; refusals 30 to 39).
 use Prim.Native.Nat.{ℕ, zero, suc, _+_}
 use mathlib.Core.Bool.{Bool, true, false, not, _&&_, _||_, cond}
 use mathlib.Core.Option.{Option}
@@ -10,17 +10,17 @@ use Rattle.spec.specs.Lists.{any, count, upTo, lowest, sum, flat, asCoun
 use Rattle.spec.specs.Answer.{Answer, gives, refuses, _>>=_, _>>_, refuse_at_when_, refuse_at?_}
 use Rattle.spec.specs.Text.{Line, linesOf, byLines}
 use Rattle.spec.specs.Forms.{number, numberOrDash, isLine, numberAt, eventAt}
-use Rattle.spec.specs.Net.{Net, places, takes, makes, readNet}
+use Rattle.spec.specs.Net.{Net, places, takes, makes, reads, readNet}
 use Rattle.spec.specs.Step.{tokensAt}
-use Rattle.spec.specs.Record.{RunRecord, Condition, Mark, bench, marked, due, transitionOf, conditionAt}
+use Rattle.spec.specs.Record.{RunRecord, Condition, Mark, bench, slotOf, guardSlot, marked, due, transitionOf, conditionAt}
 use Rattle.spec.specs.Order.{isStrictlyBefore, isNotLater}
-use Rattle.spec.specs.Process.{initialIn, consumedIn, producedIn, wrongEnd, isBelow}
+use Rattle.spec.specs.Process.{initialIn, consumedIn, producedIn, readIn, wrongEnd, isBelow}
 use Rattle.spec.specs.declared.Limits.{Limits}
 use Rattle.spec.specs.declared.MarkKind.{MarkKind}
-use Rattle.spec.specs.declared.MarkKind.the-variants.{Before, After}
+use Rattle.spec.specs.declared.MarkKind.the-variants.{Before, After, Read}
 
 -- ---- "per line 31 malformed or group out of order, 32 limit passed, 33 undeclared number, 34 condition and event
--- marked already (spot: line);"
+-- marked already (spot: line);" 2026-01: "34 lets R stand beside B or A but not twice"
 
 unfoldable pub isEmpty : {A : Type 0} → List A → Bool
 isEmpty [] = true
@@ -56,7 +56,7 @@ unfoldable pub enterMark : Limits → ℕ → Mark → RunRecord → Answer RunR
 enterMark lim k m r = do
   refuse 32 at k when leb (lim .marks) (length (r .marks))
   refuse 33 at k when not (ltb (m .condition) (length (r .conditions)) && ltb (m .event) (length (r .events)))
-  refuse 34 at k when marked r (m .condition) (m .event)
+  refuse 34 at k when marked r (slotOf (m .kind)) (m .condition) (m .event)
   gives (withMark m r)
 
 unfoldable pub conditionOf : Line → Condition
@@ -65,14 +65,15 @@ conditionOf l = record { place = numberAt l 0; producer = eventAt l 1; consumer 
 unfoldable pub markIn : MarkKind → Line → Mark
 markIn x l = record { kind = x; condition = numberAt l 0; event = numberAt l 1 }
 
--- "`E,transition`", "`C,place,producer,consumer`", "`B,condition,event` or `A,condition,event`"
+-- "`E,transition`", "`C,place,producer,consumer`", "`B,condition,event` or `A,condition,event`", "`R,condition,event`"
 unfoldable pub enterLine : Limits → Net → ℕ → Line → RunRecord → Answer RunRecord
 enterLine lim n k l r =
     cond (isLine "E" (number ∷ []) l) (enterEvent lim n k (numberAt l 0) r)
     (cond (isLine "C" (number ∷ numberOrDash ∷ numberOrDash ∷ []) l) (enterCondition lim n k (conditionOf l) r)
     (cond (isLine "B" (number ∷ number ∷ []) l) (enterMark lim k (markIn Before l) r)
     (cond (isLine "A" (number ∷ number ∷ []) l) (enterMark lim k (markIn After l) r)
-    (refuses 31 k))))
+    (cond (isLine "R" (number ∷ number ∷ []) l) (enterMark lim k (markIn Read l) r)
+    (refuses 31 k)))))
 
 unfoldable pub emptyRecord : RunRecord
 emptyRecord = record { events = []; conditions = []; marks = [] }
@@ -98,12 +99,22 @@ unfoldable pub agree : Bool → Bool → Bool
 agree true b = b
 agree false b = not b
 
--- 37: at some condition the event's mark is missing or undue
+-- 37: at some condition the event's mark B or A is missing or undue,
 unfoldable pub wrongMarkAt : Net → RunRecord → ℕ → ℕ → Bool
-wrongMarkAt n r e c = not (agree (marked r c e) (due n r c e))
+wrongMarkAt n r e c = not (agree (marked r guardSlot c e) (due n r c e))
 
 unfoldable pub wrongMarks : Net → RunRecord → ℕ → Bool
 wrongMarks n r e = any (wrongMarkAt n r e) (upTo (length (r .conditions)))
+
+-- or at some place the event has another number of R marks than its transition's read arc asks for ("37 a wrong R mark")
+unfoldable pub wrongReadingsAt : Net → RunRecord → ℕ → ℕ → Bool
+wrongReadingsAt n r e p = not (eqb (count (readIn r e p) (r .marks)) (asCount (reads n p (transitionOf r e))))
+
+unfoldable pub wrongReadings : Net → RunRecord → ℕ → Bool
+wrongReadings n r e = any (wrongReadingsAt n r e) (upTo (places n))
+
+unfoldable pub wronglyMarked : Net → RunRecord → ℕ → Bool
+wronglyMarked n r e = wrongMarks n r e || wrongReadings n r e
 
 -- 38: some mark of the event is B on an initial or A on an unconsumed condition
 unfoldable pub wrongKindAt : RunRecord → ℕ → Mark → Bool
@@ -120,7 +131,7 @@ unfoldable pub obeys : Net → RunRecord → Answer (Unit {0})
 obeys n r = do
   refuse 35 at? lowest (wrongInitial n r) (places n)
   refuse 36 at? lowest (wrongArcs n r) (length (r .events))
-  refuse 37 at? lowest (wrongMarks n r) (length (r .events))
+  refuse 37 at? lowest (wronglyMarked n r) (length (r .events))
   refuse 38 at? lowest (wrongKind r) (length (r .events))
   refuse 39 at? lowest (beforeItself r) (length (r .events))
 

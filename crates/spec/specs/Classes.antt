@@ -3,7 +3,7 @@ use Prim.Native.Nat.{ℕ}
 use mathlib.Core.Bool.{Bool}
 use lib.Dec.{eqb}
 use Rattle.spec.specs.declared.Class.{Class}
-use Rattle.spec.specs.declared.Class.the-variants.{Digit, Comma, Dash, LineEnd, LetterP, LetterT, LetterI, LetterO, LetterH, LetterS, LetterE, LetterC, LetterB, LetterA, LetterG, Foreign}
+use Rattle.spec.specs.declared.Class.the-variants.{Digit, Comma, Dash, LineEnd, LetterP, LetterT, LetterI, LetterO, LetterH, LetterS, LetterE, LetterC, LetterB, LetterA, LetterG, LetterR, Foreign}
 
 abbrev pub classCode : Class → ℕ
 classCode Digit = 0
@@ -21,7 +21,8 @@ classCode LetterC = 11
 classCode LetterB = 12
 classCode LetterA = 13
 classCode LetterG = 14
-classCode Foreign = 15
+classCode LetterR = 15
+classCode Foreign = 16
 
 unfoldable pub alike : Class → Class → Bool
 alike k l = eqb (classCode k) (classCode l)

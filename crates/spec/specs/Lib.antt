@@ -29,3 +29,4 @@ pub mod Cases
 pub mod Traps
 pub mod RefusalOrder
 pub mod Bounds
+pub mod ReadArcs

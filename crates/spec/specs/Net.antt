@@ -1,4 +1,4 @@
--- Nets, and how a net text is read (01, "Net"; refusals 11 to 15).
+-- Nets, and how a net text is read (01, "Net"; 02, 2026-01; refusals 11 to 15, 51).
 use Prim.Native.Nat.{ℕ, zero, suc, _+_}
 use mathlib.Core.Bool.{Bool, true, false, not, _&&_, _||_, cond}
 use mathlib.Core.List.{List, [], _∷_, _++_}
@@ -9,12 +9,13 @@ use Rattle.spec.specs.Answer.{Answer, gives, refuses, _>>=_, _>>_, refus
 use Rattle.spec.specs.Text.{Line, linesOf, byLines}
 use Rattle.spec.specs.Forms.{number, isLine, numberAt}
 use Rattle.spec.specs.declared.ArcKind.{ArcKind}
-use Rattle.spec.specs.declared.ArcKind.the-variants.{Input, Output, Inhibitor}
+use Rattle.spec.specs.declared.ArcKind.the-variants.{Input, Output, Inhibitor, Read}
 
 abbrev pub arcKindCode : ArcKind → ℕ
 arcKindCode Input = 0
 arcKindCode Output = 1
 arcKindCode Inhibitor = 2
+arcKindCode Read = 3
 
 pub record Arc : Type 0 where
   pub kind : ArcKind
@@ -50,6 +51,10 @@ makes n t p = asCount (joined n Output p t)
 unfoldable pub inhibits : Net → ℕ → ℕ → Bool
 inhibits n p t = joined n Inhibitor p t
 
+-- transition t reads place p (2026-01)
+unfoldable pub reads : Net → ℕ → ℕ → Bool
+reads n p t = joined n Read p t
+
 -- ---- what each line adds
 
 unfoldable pub withPlace : ℕ → Net → Net
@@ -74,14 +79,24 @@ addTransition k n = do
   refuse 12 at k when leb 32 (n .transitions)
   gives (withTransition n)
 
+-- "51 where one place is both read and consumed by one transition": the net has the other of these two arcs, where
+-- one of them is to be added
+unfoldable pub readAndConsumed : Net → ArcKind → ℕ → ℕ → Bool
+readAndConsumed n Input p t = joined n Read p t
+readAndConsumed n Output p t = false
+readAndConsumed n Inhibitor p t = false
+readAndConsumed n Read p t = joined n Input p t
+
 -- "An arc names things declared above it."
 unfoldable pub addArc : ArcKind → ℕ → ℕ → ℕ → Net → Answer Net
 addArc x k p t n = do
   refuse 13 at k when not (ltb p (places n) && ltb t (n .transitions))
   refuse 14 at k when joined n x p t
+  refuse 51 at k when readAndConsumed n x p t
   gives (withArc x p t n)
 
 -- "`P,tokens` place. `T` transition. `I,place,transition` input. `O,transition,place` output. `H,place,transition` inhibitor."
+-- 2026-01: "A net line `R,place,transition` asks for a token before the step"
 unfoldable pub addLine : ℕ → Line → Net → Answer Net
 addLine k l n =
     cond (isLine "P" (number ∷ []) l) (addPlace k (numberAt l 0) n)
@@ -89,7 +104,8 @@ addLine k l n =
     (cond (isLine "I" (number ∷ number ∷ []) l) (addArc Input k (numberAt l 0) (numberAt l 1) n)
     (cond (isLine "O" (number ∷ number ∷ []) l) (addArc Output k (numberAt l 1) (numberAt l 0) n)
     (cond (isLine "H" (number ∷ number ∷ []) l) (addArc Inhibitor k (numberAt l 0) (numberAt l 1) n)
-    (refuses 11 k)))))
+    (cond (isLine "R" (number ∷ number ∷ []) l) (addArc Read k (numberAt l 0) (numberAt l 1) n)
+    (refuses 11 k))))))
 
 unfoldable pub emptyNet : Net
 emptyNet = record { tokens = []; transitions = 0; arcs = [] }
@@ -107,7 +123,7 @@ whole n = do
   gives n
 
 -- "Net: per line 11 malformed, 12 limit passed, 13 undeclared number, 14 arc repeated (spot: line); then 15 transition
--- lacking input or output (spot: lowest such)."
+-- lacking input or output (spot: lowest such)." 2026-01: 51 "at the line, after 14"
 unfoldable pub netOf : List Line → Answer Net
 netOf ls = do
   n ← byLines addLine 1 ls emptyNet

@@ -5,14 +5,14 @@ use Rattle.spec.specs.Answer.{_>>=_, _>>_, refuse_at_when_, refuse_at?_,
 use Rattle.spec.specs.Classes.{alike}
 use Rattle.spec.specs.Text.{named, inDigits, classOf, digitOf, classAndDigit, isA, onFirst, linesOf, grow, pieces, isOnly, isDash, needlessZero, isNumber, valueFrom, numberIn, byLines, digitByte, digits, fieldBytes, fieldsBytes, lineWith}
 use Rattle.spec.specs.Forms.{hasLetter, fieldsOf, isOf, areOf, isLine, isListLine, eventAt, numberAt, numbersOf}
-use Rattle.spec.specs.Net.{isArc, joined, takes, makes, inhibits, withPlace, withTransition, withArc, addPlace, addTransition, addArc, addLine, emptyNet, lacking, whole, netOf, readNet}
+use Rattle.spec.specs.Net.{isArc, joined, takes, makes, inhibits, reads, readAndConsumed, withPlace, withTransition, withArc, addPlace, addTransition, addArc, addLine, emptyNet, lacking, whole, netOf, readNet}
 use Rattle.spec.specs.NetText.{declarationLine, netBytes, declare, declareAll}
-use Rattle.spec.specs.Step.{taken, made, short, inhibited, play, markingAfter}
-use Rattle.spec.specs.Record.{bench, noCondition, names, isNone, isAt, marked, due, eventField, eventLine, conditionLine, markLineOf, markLine, recordBytes}
+use Rattle.spec.specs.Step.{taken, made, needed, short, inhibited, play, markingAfter}
+use Rattle.spec.specs.Record.{bench, noCondition, names, isNone, slotOf, isAt, marked, due, eventField, eventLine, conditionLine, markLineOf, markLine, recordBytes}
 use Rattle.spec.specs.Order.{pairOf, conditionPair, markPairOf, markPair, pairs, isPair, reach, hasPath, pathBy, isStrictlyBefore, isNotLater}
-use Rattle.spec.specs.Process.{initialIn, consumedIn, producedIn, wrongEnd, isBelow}
-use Rattle.spec.specs.Building.{noEvent, initialOf, start, outputsOf, madeBy, makeAll, isFree, consumedBy, consume, consumeAll, inputsOf, takeAll, inStep, playStep, playSteps, runOf, isEarlier, markAt, marksOf, marksDue, recordOf, recordFor, isStepLine, logLine, playLog, built, build}
-use Rattle.spec.specs.Checking.{isEmpty, withEvent, withCondition, withMark, enterEvent, enterCondition, enterMark, conditionOf, markIn, enterLine, emptyRecord, wrongInitial, wrongArcsAt, wrongArcs, agree, wrongMarkAt, wrongMarks, wrongKindAt, wrongKind, beforeItself, obeys, readRecord, accepts, related, tableAt, tableBytes, independent, independentPairs, checkedOf, checkWithin, check}
+use Rattle.spec.specs.Process.{initialIn, consumedIn, producedIn, readIn, wrongEnd, isBelow}
+use Rattle.spec.specs.Building.{noEvent, initialOf, start, outputsOf, madeBy, makeAll, isFree, consumedBy, consume, consumeAll, inputsOf, takeAll, inStep, playStep, playSteps, runOf, isEarlier, markAt, heldIn, lowestHeld, readBy, readMark, markIf, marksAt, marksOf, marksDue, recordOf, recordFor, isStepLine, logLine, playLog, built, build}
+use Rattle.spec.specs.Checking.{isEmpty, withEvent, withCondition, withMark, enterEvent, enterCondition, enterMark, conditionOf, markIn, enterLine, emptyRecord, wrongInitial, wrongArcsAt, wrongArcs, agree, wrongMarkAt, wrongMarks, wrongReadingsAt, wrongReadings, wronglyMarked, wrongKindAt, wrongKind, beforeItself, obeys, readRecord, accepts, related, tableAt, tableBytes, independent, independentPairs, checkedOf, checkWithin, check}
 use Rattle.spec.specs.Arrangement.{times, index}
 use Rattle.spec.specs.Arranging.{prolonged, longest, levels, lineCount, onLine, arrangedLines, groupLine, arrangementBytes, arrangedOf, arrange}
 use Rattle.spec.specs.Replaying.{isGroupLine, repeats, late, breaks, groupsLine, missing, readArrangement, countAfter, firedBy, rowAt, replayRow, replayedOf, replay}
@@ -39,7 +39,7 @@ unfolding hasLetter fieldsOf isOf areOf isLine isListLine eventAt numberAt numbe
 openForms = tt
 
 unfoldable openNet : Unit {0}
-unfolding isArc joined takes makes inhibits withPlace withTransition withArc addPlace addTransition addArc addLine emptyNet lacking whole netOf readNet
+unfolding isArc joined takes makes inhibits reads readAndConsumed withPlace withTransition withArc addPlace addTransition addArc addLine emptyNet lacking whole netOf readNet
 openNet = tt
 
 unfoldable openNetText : Unit {0}
@@ -47,11 +47,11 @@ unfolding declarationLine netBytes declare declareAll
 openNetText = tt
 
 unfoldable openStep : Unit {0}
-unfolding taken made short inhibited play markingAfter
+unfolding taken made needed short inhibited play markingAfter
 openStep = tt
 
 unfoldable openRecord : Unit {0}
-unfolding bench noCondition names isNone isAt marked due eventField eventLine conditionLine markLineOf markLine recordBytes
+unfolding bench noCondition names isNone slotOf isAt marked due eventField eventLine conditionLine markLineOf markLine recordBytes
 openRecord = tt
 
 unfoldable openOrder : Unit {0}
@@ -59,15 +59,15 @@ unfolding pairOf conditionPair markPairOf markPair pairs isPair reach hasPath pa
 openOrder = tt
 
 unfoldable openProcess : Unit {0}
-unfolding initialIn consumedIn producedIn wrongEnd isBelow
+unfolding initialIn consumedIn producedIn readIn wrongEnd isBelow
 openProcess = tt
 
 unfoldable openBuilding : Unit {0}
-unfolding noEvent initialOf start outputsOf madeBy makeAll isFree consumedBy consume consumeAll inputsOf takeAll inStep playStep playSteps runOf isEarlier markAt marksOf marksDue recordOf recordFor isStepLine logLine playLog built build
+unfolding noEvent initialOf start outputsOf madeBy makeAll isFree consumedBy consume consumeAll inputsOf takeAll inStep playStep playSteps runOf isEarlier markAt heldIn lowestHeld readBy readMark markIf marksAt marksOf marksDue recordOf recordFor isStepLine logLine playLog built build
 openBuilding = tt
 
 unfoldable openChecking : Unit {0}
-unfolding isEmpty withEvent withCondition withMark enterEvent enterCondition enterMark conditionOf markIn enterLine emptyRecord wrongInitial wrongArcsAt wrongArcs agree wrongMarkAt wrongMarks wrongKindAt wrongKind beforeItself obeys readRecord accepts related tableAt tableBytes independent independentPairs checkedOf checkWithin check
+unfolding isEmpty withEvent withCondition withMark enterEvent enterCondition enterMark conditionOf markIn enterLine emptyRecord wrongInitial wrongArcsAt wrongArcs agree wrongMarkAt wrongMarks wrongReadingsAt wrongReadings wronglyMarked wrongKindAt wrongKind beforeItself obeys readRecord accepts related tableAt tableBytes independent independentPairs checkedOf checkWithin check
 openChecking = tt
 
 unfoldable openArrangement : Unit {0}

@@ -1,4 +1,4 @@
--- The pairs of a run record and its closed order (01, "Record"; 004, section 2.2).
+-- The pairs of a run record and its closed order (01, "Record"; 02, 2026-01; 004, section 2.2).
 use mathlib.Core.Path.{_≡_}
 use mathlib.Core.Logic.{_≢_}
 use Prim.Native.Nat.{ℕ, zero, suc}
@@ -10,7 +10,7 @@ use lib.Dec.{eqb}
 use Rattle.spec.specs.Lists.{In, any, flat}
 use Rattle.spec.specs.Record.{RunRecord, Condition, Mark, conditionAt}
 use Rattle.spec.specs.declared.MarkKind.{MarkKind}
-use Rattle.spec.specs.declared.MarkKind.the-variants.{Before, After}
+use Rattle.spec.specs.declared.MarkKind.the-variants.{Before, After, Read}
 
 -- a strict pair or a weak one, from an event to an event
 pub record Pair : Type 0 where
@@ -29,9 +29,11 @@ unfoldable pub conditionPair : Condition → List Pair
 conditionPair c = pairOf (c .producer) (c .consumer) true
 
 -- "under A, consumer to marked event. Weak pairs: under B, marked event to producer."
+-- 2026-01: "The condition's producer is strictly before the reader, the reader not later than its consumer."
 unfoldable pub markPairOf : MarkKind → Condition → Option ℕ → List Pair
 markPairOf Before c e = pairOf e (c .producer) false
 markPairOf After c e = pairOf (c .consumer) e true
+markPairOf Read c e = pairOf (c .producer) e true ++ pairOf e (c .consumer) false
 
 unfoldable pub markPair : RunRecord → Mark → List Pair
 markPair r m = markPairOf (m .kind) (conditionAt r (m .condition)) (some (m .event))

@@ -1,4 +1,4 @@
--- Run records and the bytes of one (01, "Record").
+-- Run records and the bytes of one (01, "Record"; 02, 2026-01).
 use Prim.Native.Nat.{ℕ}
 use mathlib.Core.Bool.{Bool, true, false, not, _&&_}
 use mathlib.Core.Option.{Option, none, some}
@@ -11,7 +11,7 @@ use Rattle.spec.specs.Net.{Net, inhibits}
 use Rattle.spec.specs.declared.Field.{Field}
 use Rattle.spec.specs.declared.Field.the-variants.{Number, Dash}
 use Rattle.spec.specs.declared.MarkKind.{MarkKind}
-use Rattle.spec.specs.declared.MarkKind.the-variants.{Before, After}
+use Rattle.spec.specs.declared.MarkKind.the-variants.{Before, After, Read}
 use Rattle.spec.specs.declared.Limits.{Limits}
 
 -- "`C,place,producer,consumer` (conditions; `-` for initial or unconsumed)": producer and consumer are events, or none
@@ -20,7 +20,8 @@ pub record Condition : Type 0 where
   pub producer : Option ℕ
   pub consumer : Option ℕ
 
--- "marks `B,condition,event` or `A,condition,event`": Busi and Pinna's before and after arcs
+-- "marks `B,condition,event` or `A,condition,event`": Busi and Pinna's before and after arcs;
+-- 2026-01: "a record line `R,condition,event` stands among the marks"
 pub record Mark : Type 0 where
   pub kind : MarkKind
   pub condition : ℕ
@@ -55,15 +56,27 @@ unfoldable pub isNone : Option ℕ → Bool
 isNone none = true
 isNone (some f) = false
 
--- the mark stands at condition c and event e
-unfoldable pub isAt : ℕ → ℕ → Mark → Bool
-isAt c e m = eqb (m .condition) c && eqb (m .event) e
+-- "34 lets R stand beside B or A but not twice": B and A share one slot of a condition and an event, R has its own
+unfoldable pub slotOf : MarkKind → ℕ
+slotOf Before = 0
+slotOf After = 0
+slotOf Read = 1
 
-unfoldable pub marked : RunRecord → ℕ → ℕ → Bool
-marked r c e = any (isAt c e) (r .marks)
+abbrev pub guardSlot : ℕ
+guardSlot = 0
 
--- ".. where the condition's place inhibits the event's transition and the event isn't its producer": a mark is due at
--- condition c and event e
+abbrev pub readSlot : ℕ
+readSlot = 1
+
+-- the mark stands in slot s of condition c and event e
+unfoldable pub isAt : ℕ → ℕ → ℕ → Mark → Bool
+isAt s c e m = eqb (slotOf (m .kind)) s && eqb (m .condition) c && eqb (m .event) e
+
+unfoldable pub marked : RunRecord → ℕ → ℕ → ℕ → Bool
+marked r s c e = any (isAt s c e) (r .marks)
+
+-- ".. where the condition's place inhibits the event's transition and the event isn't its producer": a mark, B or A, is
+-- due at condition c and event e
 unfoldable pub due : Net → RunRecord → ℕ → ℕ → Bool
 due n r c e = inhibits n (conditionAt r c .place) (transitionOf r e) && not (names (conditionAt r c .producer) e)
 
@@ -82,6 +95,7 @@ conditionLine c = lineWith "C" (Number (c .place) ∷ eventField (c .producer) �
 unfoldable pub markLineOf : MarkKind → ℕ → ℕ → List ℕ
 markLineOf Before c e = lineWith "B" (Number c ∷ Number e ∷ [])
 markLineOf After c e = lineWith "A" (Number c ∷ Number e ∷ [])
+markLineOf Read c e = lineWith "R" (Number c ∷ Number e ∷ [])
 
 unfoldable pub markLine : Mark → List ℕ
 markLine m = markLineOf (m .kind) (m .condition) (m .event)

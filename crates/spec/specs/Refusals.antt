@@ -1,5 +1,5 @@
 -- The refusals that each operation can meet, in the paper's order, each with its least and its greatest spot (01,
--- "Refusals by operation"); and the statement that an operation meets no other. The statement is a type here; the
+-- "Refusals by operation"; 02, 2026-01); and the statement that an operation meets no other. The statement is a type here; the
 -- crate `runs` has its proof.
 use mathlib.Core.Path.{_≡_}
 use mathlib.Core.Logic.{_≢_}
@@ -24,10 +24,13 @@ abbrev pub refusal : ℕ → ℕ → ℕ → NumberAndSpots
 refusal n a b = record { number = n; least = a; most = b }
 
 -- "per line 11 malformed, 12 limit passed, 13 undeclared number, 14 arc repeated (spot: line); then 15 transition
--- lacking input or output (spot: lowest such)": 32 places, 32 transitions and 3 × 32 × 32 arcs take 3,136 lines; an
--- arc repeated stands below a place, a transition and an arc
+-- lacking input or output (spot: lowest such)"; 2026-01: "51 .. at the line, after 14". 32 places, 32 transitions and
+-- 3 × 32 × 32 arcs take 3,136 lines, as an input and a read arc exclude each other; an arc repeated, or of these two the
+-- second, stands below a place, a transition and an arc
 abbrev pub netRefusals : List NumberAndSpots
-netRefusals = refusal 11 1 3137 ∷ refusal 12 1 3137 ∷ refusal 13 1 3137 ∷ refusal 14 4 3137 ∷ refusal 15 0 31 ∷ []
+netRefusals =
+    refusal 11 1 3137 ∷ refusal 12 1 3137 ∷ refusal 13 1 3137 ∷ refusal 14 4 3137 ∷ refusal 51 4 3137
+    ∷ refusal 15 0 31 ∷ []
 
 -- "per line 21 malformed, 22 unknown transition, 23 over 128 events, 24 too few tokens, 25 inhibited, 26 over 512
 -- conditions, 27 over 4,096 marks (spot: line)": each line has an event, and 128 are the most

@@ -10,7 +10,7 @@ use Rattle.spec.specs.Lists.{every}
 use Rattle.spec.specs.Answer.{Answer, gives, refuses, _>>=_}
 use Rattle.spec.specs.Classes.{alike}
 use Rattle.spec.specs.declared.Class.{Class}
-use Rattle.spec.specs.declared.Class.the-variants.{Digit, Comma, Dash as DashByte, LineEnd, LetterP, LetterT, LetterI, LetterO, LetterH, LetterS, LetterE, LetterC, LetterB, LetterA, LetterG, Foreign}
+use Rattle.spec.specs.declared.Class.the-variants.{Digit, Comma, Dash as DashByte, LineEnd, LetterP, LetterT, LetterI, LetterO, LetterH, LetterS, LetterE, LetterC, LetterB, LetterA, LetterG, LetterR, Foreign}
 use Rattle.spec.specs.declared.ByteClass.{ByteClass}
 use Rattle.spec.specs.declared.Field.{Field}
 use Rattle.spec.specs.declared.Field.the-variants.{Number, Dash}
@@ -25,6 +25,8 @@ classNames =
     ∷ (code "S", LetterS)
     ∷ (code "E", LetterE) ∷ (code "C", LetterC) ∷ (code "B", LetterB) ∷ (code "A", LetterA)
     ∷ (code "G", LetterG)
+    -- 2026-01: of a net and of a record
+    ∷ (code "R", LetterR)
     ∷ []
 
 -- the class that a list names for a byte

@@ -17,6 +17,7 @@ pub enum Class {
     LetterB,
     LetterA,
     LetterG,
+    LetterR,
     Foreign,
 }
 
@@ -32,17 +33,19 @@ pub enum Field {
     Dash,
 }
 
-// The kinds of arcs: `I`, `O` and `H`.
+// The kinds of arcs: `I`, `O`, `H` and `R`.
 pub enum ArcKind {
     Input,
     Output,
     Inhibitor,
+    Read,
 }
 
-// The kinds of marks: `B` and `A`.
+// The kinds of marks: `B`, `A` and `R`.
 pub enum MarkKind {
     Before,
     After,
+    Read,
 }
 
 // The greatest numbers of events, conditions and marks of a record.
