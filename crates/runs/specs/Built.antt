@@ -7,13 +7,13 @@ use native.Mathlib.Decide.{decLe}
 use native.Mathlib.Omega.{arith}
 use mathlib.Core.Bool.{Bool, true, false, _&&_, and-true, and-false}
 use mathlib.Core.Option.{Option, none, some, Option·some-injective, Option·none-ne-some}
-use mathlib.Core.List.{List, [], _∷_, _++_, map, map-append, List·Memᴰ·append-cases, List·Memᴰ·not-nil, Memᴰ·of-map}
+use mathlib.Core.List.{List, [], _∷_, _++_, map, map-append, List·Memᴰ·append-cases, List·Memᴰ·not-nil, Memᴰ·of-map, Memᴰ·append-left}
 use lib.ListN.{length, getD, length-append, length-map, List·getD-append}
 use lib.Seq.{getD-append-add}
 use lib.Dec.{eqb}
-use borrow.Author.Tests.{eq-eqb, ne-eqb}
+use borrow.Author.Tests.{eq-eqb, ne-eqb, eqb-true}
 use Rattle.spec.specs.Lists.{In, count}
-use Rattle.spec.specs.Net.{Net, places, takes, makes, inhibits}
+use Rattle.spec.specs.Net.{Net, places, takes, makes, inhibits, reads}
 use Rattle.spec.specs.Step.{tokensAt, taken, EnabledAt, play}
 use Rattle.spec.specs.Record.{Condition, names, isNone}
 use Rattle.spec.specs.Process.{initialIn, consumedIn, producedIn}
@@ -21,7 +21,7 @@ use Rattle.spec.specs.Building.{Event, noEvent, Run, stepOf, start, initialOf, 
 use Rattle.lists.specs.Laws
 use Rattle.runs.specs.Steps.{play-at}
 use Rattle.runs.specs.Flows.{repeated, in-repeated, count-repeated, isFlow, flows, flows-before, flows-at}
-use Rattle.runs.specs.Consume.{count-blind, free-left, consumed-more, free-made, produced-made, none-made, in-makeAll, in-takeAll}
+use Rattle.runs.specs.Consume.{count-blind, free-left, consumed-more, free-made, produced-made, none-made, in-makeAll, in-takeAll, in-taken}
 
 abbrev pub firedBy : List Event → ℕ → ℕ
 firedBy es e = getD es e noEvent .transition
@@ -42,15 +42,25 @@ pub record Sound (N : Net) (es : List Event) (c : Condition) : Type 0 where
   pub apart : (g f : ℕ) → c .producer ≡ some g → c .consumer ≡ some f → stepOf es g < stepOf es f
   pub clear : (e : ℕ) → e < length es → inhibits N (c .place) (firedBy es e) ≡ true → ConsumedBefore es c e ⊎ ProducedSince es c e
 
+-- The condition held when the step of event e began: it was produced in an earlier step, if at all, and consumed in none.
+abbrev pub HeldAt : List Event → ℕ → Condition → Type 0
+HeldAt es e c = ((g : ℕ) → c .producer ≡ some g → stepOf es g < stepOf es e) × ((f : ℕ) → c .consumer ≡ some f → stepOf es e ≤ stepOf es f)
+
+-- such a condition of place p
+abbrev pub HeldOf : List Event → List Condition → ℕ → ℕ → Type 0
+HeldOf es cs p e = (c : Condition) × In c cs × (c .place ≡ p) × HeldAt es e c
+
 -- A run whose next step has number k: its counts are those of a process, and its marking counts the free conditions.
 pub record Good (N : Net) (k : ℕ) (r : Run) : Type 0 where
   pub steps : (e : ℕ) → e < length (r .events) → stepOf (r .events) e < k
+  pub ascend : (e f : ℕ) → e ≤ f → f < length (r .events) → stepOf (r .events) e ≤ stepOf (r .events) f
   pub known : (v : Event) → In v (r .events) → v .transition < N .transitions
   pub initial : (p : ℕ) → p < places N → count (initialIn p) (r .conditions) ≡ tokensAt (N .tokens) p
   pub consumed : (e p : ℕ) → e < length (r .events) → p < places N → count (consumedIn e p) (r .conditions) ≡ takes N (firedBy (r .events) e) p
   pub produced : (e p : ℕ) → e < length (r .events) → p < places N → count (producedIn e p) (r .conditions) ≡ makes N (firedBy (r .events) e) p
   pub marking : (p : ℕ) → p < places N → tokensAt (r .marking) p ≡ count (isFree p) (r .conditions)
   pub sound : (c : Condition) → In c (r .conditions) → Sound N (r .events) c
+  pub readable : (e p : ℕ) → e < length (r .events) → p < places N → reads N p (firedBy (r .events) e) ≡ true → HeldOf (r .events) (r .conditions) p e
 
 -- ---- the events after a step
 
@@ -125,6 +135,15 @@ module _ (N : Net) (k : ℕ) (r : Run) (G : Good N k r) (ts : List ℕ) (E : Ena
 
   steps′ : (e : ℕ) → e < length es′ → stepOf es′ e < suc k
   steps′ e l = elim (which es k ts e l) [ inl o ↦ omega (arith, G .steps e (o .low)) | inr v ↦ omega arith ]
+
+  old-step : (e : ℕ) → e < n → stepOf es′ e ≡ stepOf es e
+  old-step e l = old es k ts e l .step
+
+  ascend′ : (e f : ℕ) → e ≤ f → f < length es′ → stepOf es′ e ≤ stepOf es′ f
+  ascend′ e f l h = elim (which es k ts f h) [
+    | inl o ↦ omega (arith, o .step, old-step e (omega (arith, o .low)), G .ascend e f l (o .low))
+    | inr v ↦ omega (arith, v .step, steps′ e (omega arith))
+  ]
 
   known′ : (v : Event) → In v es′ → v .transition < N .transitions
   unfolding inStep
@@ -205,9 +224,6 @@ module _ (N : Net) (k : ℕ) (r : Run) (G : Good N k r) (ts : List ℕ) (E : Ena
       let z : isFree (d .place) d ≡ true = Laws.true-and (eq-eqb (d .place) (d .place) refl) (ap isNone a) in
       omega (arith, E .clear (d .place) t (G .sound d m .placed) i q, G .marking (d .place) (G .sound d m .placed), Laws.count-in (isFree (d .place)) d cs m z)
 
-  old-step : (e : ℕ) → e < n → stepOf es′ e ≡ stepOf es e
-  old-step e l = old es k ts e l .step
-
   still-clear : (d : Condition) → In d cs → (e : ℕ) → e < length es′ → inhibits N (d .place) (firedBy es′ e) ≡ true → ConsumedBefore es′ d e ⊎ ProducedSince es′ d e
   still-clear d m e l q = elim (which es k ts e l) [
     | inl o ↦ elim (G .sound d m .clear e (o .low) (rw (o .fired) at q)) [
@@ -266,16 +282,50 @@ module _ (N : Net) (k : ℕ) (r : Run) (G : Good N k r) (ts : List ℕ) (E : Ena
     | inr a ↦ let z = in-makeAll N n ts a in rw (z .5) (made-sound (z .0) (z .1) (z .2) (z .3) (z .4))
   ]
 
+  -- ---- what an event reads held when its step began
+
+  -- a condition that held for an event, and that an event of the step may have taken since
+  still-held : (e p : ℕ) → stepOf es′ e ≤ k → (c : Condition) → In c cs → c .place ≡ p
+      → ((g : ℕ) → c .producer ≡ some g → stepOf es′ g < stepOf es′ e) → ((f : ℕ) → c .consumer ≡ some f → stepOf es′ e ≤ stepOf es′ f)
+      → HeldOf es′ cs′ p e
+  unfolding consumedBy
+  still-held e p s c m q a b = elim (in-taken N n ts cs m) [
+    | inl i ↦ (c, Memᴰ·append-left _ i, q, (a, b))
+    | inr z ↦ (consumedBy (z .0) c, Memᴰ·append-left _ (z .4), q, (a, λ f x. omega (arith, s, new es k ts (z .0) (z .1) (z .2) .step, ap (stepOf es′) (Option·some-injective (z .0) f x))))
+  ]
+
+  readable′ : (e p : ℕ) → e < length es′ → p < places N → reads N p (firedBy es′ e) ≡ true → HeldOf es′ cs′ p e
+  unfolding isFree isNone
+  readable′ e p l j q = elim (which es k ts e l) [
+    | inl o ↦
+        let h : HeldOf es cs p e = G .readable e p (o .low) j (rw (o .fired) at q) in
+        let c : Condition = h .0 in
+        still-held e p (omega (arith, o .step, G .steps e (o .low))) c (h .1) (h .2)
+        (λ g x. omega (arith, h .3 .0 g x, o .step, old-step g (G .sound c (h .1) .producer g x)))
+        (λ f x. omega (arith, h .3 .1 f x, o .step, old-step f (G .sound c (h .1) .consumer f x)))
+    | inr v ↦
+        let t : ℕ = getD ts (v .nth) 0 in
+        let r : (c : Condition) × In c cs × (isFree p c ≡ true) =
+        Laws.count-found (isFree p) cs (omega (arith, E .present p t j (Laws.at-in 0 ts (v .nth) (v .inside)) (rw (v .fired) at q), G .marking p j)) in
+        let c : Condition = r .0 in
+        let z = Laws.and-true _ _ (r .2) in
+        still-held e p (omega (arith, v .step)) c (r .1) (eqb-true _ _ (z .0))
+        (λ g x. omega (arith, v .step, old-step g (G .sound c (r .1) .producer g x), G .steps g (G .sound c (r .1) .producer g x)))
+        (λ f x. Laws.clash (z .1) (ap isNone x))
+  ]
+
   pub good-step : Good N (suc k) (playStep N k ts r)
   unfolding playStep
   good-step = record {
     steps = steps′;
+    ascend = ascend′;
     known = known′;
     initial = initial′;
     consumed = consumed′;
     produced = produced′;
     marking = marking′;
     sound = sound′;
+    readable = readable′;
   }
 
 -- ---- the start
@@ -315,10 +365,12 @@ pub good-start : (N : Net) → Good N 1 (start N)
 unfolding start initialIn isFree blank isNone
 good-start N = record {
   steps = λ e l. absurd (not-suc-le-zero l);
+  ascend = λ e f l h. absurd (not-suc-le-zero h);
   known = λ v m. absurd (List·Memᴰ·not-nil m);
   initial = λ p l. start-count (initialIn p) p (λ q. and-true (eqb q p)) (N .tokens);
   consumed = λ e p l. absurd (not-suc-le-zero l);
   produced = λ e p l. absurd (not-suc-le-zero l);
   marking = λ p l. sym (start-count (isFree p) p (λ q. and-true (eqb q p)) (N .tokens));
   sound = start-sound N;
+  readable = λ e p l. absurd (not-suc-le-zero l);
 }

@@ -160,3 +160,7 @@ A-letter = letter "A" refl
 pub G-letter : Letter "G"
 unfolding alone every isA alike classOf inDigits named
 G-letter = letter "G" refl
+
+pub R-letter : Letter "R"
+unfolding alone every isA alike classOf inDigits named
+R-letter = letter "R" refl

@@ -233,3 +233,54 @@ in-takeAll N e ts cs m = elim (in-taking (takings N e ts) cs (rw (takeAll-taking
   | inl a ↦ inl a
   | inr a ↦ let b = in-flows (takes N) (places N) e ts (a .1) in inr (a .0 .event, b .0, b .1, a .2)
 ]
+
+-- ---- no condition is lost
+
+-- what is not free stays as it is
+stays-consumed : {d : Condition} (e p : ℕ) (cs : List Condition) → In d cs → isNone (d .consumer) ≡ false → In d (consume e p cs)
+unfolding consume isFree
+stays-consumed e p [] m h = m
+stays-consumed {d} e p (x ∷ cs) m h = elim (Laws.true-or-false (isFree p x)) [
+  | inl q ↦ elim (List·Memᴰ·cases-cons m) [
+    | inl z ↦ Laws.clash (Laws.and-true (eqb (x .place) p) (isNone (x .consumer)) q .1) (ap (λ (c : Condition). isNone (c .consumer)) (sym z) ∙ h)
+    | inr a ↦ rw q (there a)
+  ]
+  | inr q ↦ elim (List·Memᴰ·cases-cons m) [ inl z ↦ rw q (List·Memᴰ·head z) | inr a ↦ rw q (there (stays-consumed e p cs a h)) ]
+]
+
+stays-taken : {d : Condition} (xs : List Flow) (cs : List Condition) → In d cs → isNone (d .consumer) ≡ false → In d (taking xs cs)
+unfolding taking
+stays-taken [] cs m h = m
+stays-taken (x ∷ xs) cs m h = stays-taken xs (takeOne x cs) (stays-consumed (x .event) (x .place) cs m h) h
+
+-- any other stays, or is consumed
+consumed-or-not : {c : Condition} (e p : ℕ) (cs : List Condition) → In c cs → In c (consume e p cs) ⊎ ((c .consumer ≡ none) × In (consumedBy e c) (consume e p cs))
+unfolding consume
+consumed-or-not e p [] m = inl m
+consumed-or-not {c} e p (x ∷ cs) m = elim (Laws.true-or-false (isFree p x)) [
+  | inl q ↦ elim (List·Memᴰ·cases-cons m) [
+    | inl z ↦ inr (ap (λ (d : Condition). d .consumer) z ∙ free-is x q .1, rw q (List·Memᴰ·head (ap (consumedBy e) z)))
+    | inr a ↦ inl (rw q (there a))
+  ]
+  | inr q ↦ elim (List·Memᴰ·cases-cons m) [
+    | inl z ↦ inl (rw q (List·Memᴰ·head z))
+    | inr a ↦ elim (consumed-or-not e p cs a) [ inl b ↦ inl (rw q (there b)) | inr b ↦ inr (b .0, rw q (there (b .1))) ]
+  ]
+]
+
+taken-or-not : {c : Condition} (xs : List Flow) (cs : List Condition) → In c cs
+    → In c (taking xs cs) ⊎ ((x : Flow) × In x xs × (c .consumer ≡ none) × In (consumedBy (x .event) c) (taking xs cs))
+unfolding taking consumedBy isNone
+taken-or-not [] cs m = inl m
+taken-or-not (x ∷ xs) cs m = elim (consumed-or-not (x .event) (x .place) cs m) [
+  | inl a ↦ elim (taken-or-not xs (takeOne x cs) a) [ inl b ↦ inl b | inr b ↦ inr (b .0, there (b .1), b .2, b .3) ]
+  | inr a ↦ inr (x, here, a .0, stays-taken xs (takeOne x cs) (a .1) refl)
+]
+
+-- after a step a condition is as it was, or one of the step's events has taken it
+pub in-taken : {c : Condition} (N : Net) (e : ℕ) (ts : List ℕ) (cs : List Condition) → In c cs
+    → In c (takeAll N e ts cs) ⊎ ((f : ℕ) × (e ≤ f) × (f < e + length ts) × (c .consumer ≡ none) × In (consumedBy f c) (takeAll N e ts cs))
+in-taken N e ts cs m = elim (taken-or-not (takings N e ts) cs m) [
+  | inl a ↦ inl (rw (takeAll-taking N e ts cs) a)
+  | inr a ↦ let b = in-flows (takes N) (places N) e ts (a .1) in inr (a .0 .event, b .0, b .1, a .2, rw (takeAll-taking N e ts cs) (a .3))
+]

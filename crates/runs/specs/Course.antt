@@ -12,20 +12,21 @@ use lib.ListN.{length, getD, take}
 use lib.Dec.{eqb}
 use borrow.Author.Tests.{eqb-true, ltb-true, lt-ltb, le-ltb}
 use Rattle.spec.specs.Lists.{In, count, sumOf, asCount, flat}
-use Rattle.spec.specs.Net.{Net, places, takes, makes, inhibits}
+use Rattle.spec.specs.Net.{Net, places, takes, makes, inhibits, reads}
 use Rattle.spec.specs.Step.{tokensAt, taken, made}
-use Rattle.spec.specs.Record.{RunRecord, Condition, noCondition, Mark, names, isNone, isAt, due, transitionOf, conditionAt}
+use Rattle.spec.specs.Record.{RunRecord, Condition, noCondition, Mark, names, isNone, slotOf, guardSlot, isAt, due, transitionOf, conditionAt}
 use Rattle.spec.specs.Order.{pairs}
-use Rattle.spec.specs.Process.{Process, WellFormed, isBelow, initialIn, consumedIn, producedIn, wrongEnd}
+use Rattle.spec.specs.Process.{Process, WellFormed, isBelow, initialIn, consumedIn, producedIn, readIn, wrongEnd}
 use Rattle.spec.specs.Building.{isFree}
 use Rattle.spec.specs.Arrangement.{Arrangement, index}
 use Rattle.spec.specs.Replaying.{firedBy}
 use Rattle.spec.specs.Runs.{KeepsOrder}
 use Rattle.spec.specs.declared.MarkKind.{MarkKind}
-use Rattle.spec.specs.declared.MarkKind.the-variants.{Before, After}
+use Rattle.spec.specs.declared.MarkKind.the-variants.{Before, After, Read}
 use Rattle.lists.specs.Laws
+use Rattle.runs.specs.MarkSlots.{read-kind}
 use Rattle.runs.specs.Pairs.{KeepsPairs, order-pairs}
-use Rattle.runs.specs.Sources.{bounded, condition-pair, before-pair, after-pair}
+use Rattle.runs.specs.Sources.{bounded, marked-in, condition-pair, before-pair, after-pair, made-read, read-taken}
 use Rattle.runs.specs.Lines.{stands, line-below, line-inside, line-index, first-inside, first-lines}
 
 -- A condition came with the first k lines: it is initial, or one of their events produces it.
@@ -75,7 +76,7 @@ unfolding isNone
 some-end none h = Laws.clash refl h
 some-end (some e) h = (e, refl)
 
-named-end : (a : Option ℕ) (e : ℕ) → names a e ≡ true → a ≡ some e
+pub named-end : (a : Option ℕ) (e : ℕ) → names a e ≡ true → a ≡ some e
 unfolding names
 named-end none e h = Laws.clash h refl
 named-end (some f) e h = ap some (eqb-true f e h)
@@ -91,6 +92,23 @@ module _ (lines : List (List ℕ)) (k : ℕ) where
   not-came : (c : Condition) {g : ℕ} → c .producer ≡ some g → k ≤ index g lines → came lines k c ≡ false
   unfolding came isNone stands
   not-came c {g} q h = rw q (le-ltb (index g lines) k h)
+
+  -- it came, if its producer did; it has not left, if its consumer stands later
+  has-come : (c : Condition) → ((g : ℕ) → c .producer ≡ some g → index g lines < k) → came lines k c ≡ true
+  unfolding came isNone stands
+  has-come c h = go (c .producer) h
+    where
+      go : (a : Option ℕ) → ((g : ℕ) → a ≡ some g → index g lines < k) → (isNone a || stands lines k a) ≡ true
+      go none h = refl
+      go (some g) h = lt-ltb (index g lines) k (h g refl)
+
+  not-left : (c : Condition) → ((f : ℕ) → c .consumer ≡ some f → k ≤ index f lines) → left lines k c ≡ false
+  unfolding left stands
+  not-left c h = go (c .consumer) h
+    where
+      go : (a : Option ℕ) → ((f : ℕ) → a ≡ some f → k ≤ index f lines) → stands lines k a ≡ false
+      go none h = refl
+      go (some f) h = le-ltb (index f lines) k (h f refl)
 
   has-left : (c : Condition) {f : ℕ} → c .consumer ≡ some f → index f lines < k → left lines k c ≡ true
   unfolding left stands
@@ -129,26 +147,27 @@ module _ (N : Net) (R : RunRecord) (W : WellFormed N R) (P : Process N R) (lines
       go none h = h
       go (some f) h = lt-ltb (index f lines) (suc k) (omega (arith, ltb-true (index f lines) k h))
 
-  -- a condition with a mark at an event of line k has left by then if it came
-  marked-left : (k : ℕ) (m : Mark) → In m (R .marks) → index (m .event) lines ≡ k → came lines k (conditionAt R (m .condition)) ≡ true → left lines k (conditionAt R (m .condition)) ≡ true
-  unfolding wrongEnd
-  marked-left k m i h = go (m .kind) refl (P .kinds m i)
+  -- a condition with a mark B or A at an event of line k has left by then if it came
+  marked-left : (k : ℕ) (m : Mark) → In m (R .marks) → slotOf (m .kind) ≡ guardSlot → index (m .event) lines ≡ k → came lines k (conditionAt R (m .condition)) ≡ true → left lines k (conditionAt R (m .condition)) ≡ true
+  unfolding wrongEnd slotOf
+  marked-left k m i s h = go (m .kind) refl s (P .kinds m i)
     where
       c : Condition
       c = conditionAt R (m .condition)
 
-      go : (x : MarkKind) → m .kind ≡ x → wrongEnd x c ≡ false → came lines k c ≡ true → left lines k c ≡ true
-      go Before q w t = let r = some-end (c .producer) w in Laws.clash t (not-came lines k c (r .1) (omega (arith, kept .weak _ (before-pair R i q (r .1)))))
-      go After q w t = let r = some-end (c .consumer) w in has-left lines k c (r .1) (omega (arith, kept .strict _ (after-pair R i q (r .1)) refl))
+      go : (x : MarkKind) → m .kind ≡ x → slotOf x ≡ guardSlot → wrongEnd x c ≡ false → came lines k c ≡ true → left lines k c ≡ true
+      go Before q s w t = let r = some-end (c .producer) w in Laws.clash t (not-came lines k c (r .1) (omega (arith, kept .weak _ (before-pair R i q (r .1)))))
+      go Read q s w t = absurd (omega arith)
+      go After q s w t = let r = some-end (c .consumer) w in has-left lines k c (r .1) (omega (arith, kept .strict _ (after-pair R i q (r .1)) refl))
 
   -- where a mark is due there is one
   due-mark : (j e : ℕ) → j < length (R .conditions) → e < length (R .events) → due N R j e ≡ true
-      → (m : Mark) × In m (R .marks) × (m .condition ≡ j) × (m .event ≡ e)
+      → (m : Mark) × In m (R .marks) × (slotOf (m .kind) ≡ guardSlot) × (m .condition ≡ j) × (m .event ≡ e)
   unfolding isAt
   due-mark j e l h d =
-      let r : (m : Mark) × In m (R .marks) × (isAt j e m ≡ true) = Laws.count-found (isAt j e) (R .marks) (omega (arith, P .marks j e l h, Laws.count-true d)) in
-      let z = Laws.and-true _ _ (r .2) in
-      (r .0, r .1, eqb-true _ _ (z .0), eqb-true _ _ (z .1))
+      let r : (m : Mark) × In m (R .marks) × (isAt guardSlot j e m ≡ true) = Laws.count-found (isAt guardSlot j e) (R .marks) (omega (arith, P .marks j e l h, Laws.count-true d)) in
+      let z = Laws.and-three _ _ _ (r .2) in
+      (r .0, r .1, eqb-true _ _ (z .0), eqb-true _ _ (z .1), eqb-true _ _ (z .2))
 
   -- so has every condition of a place that inhibits an event of line k
   inhibited-left : (k e : ℕ) → In e (getD lines k []) → (c : Condition) → In c (R .conditions) → inhibits N (c .place) (transitionOf R e) ≡ true → came lines k c ≡ true → left lines k c ≡ true
@@ -158,11 +177,33 @@ module _ (N : Net) (R : RunRecord) (W : WellFormed N R) (P : Process N R) (lines
     | inr a ↦
         let r : (j : ℕ) × (j < length (R .conditions)) × (conditionAt R j ≡ c) = Laws.in-at noCondition c (R .conditions) i in
         let x = due-mark (r .0) e (r .1) (line-inside _ lines (K .each-once) k e m) (rw (r .2, h, a)) in
-        let y : index (x .0 .event) lines ≡ k = ap (λ (z : ℕ). index z lines) (x .3) ∙ line-index _ lines (K .each-once) k e m in
-        subst (λ (d : Condition). came lines k d ≡ true → left lines k d ≡ true) (ap (conditionAt R) (x .2) ∙ r .2) (marked-left k (x .0) (x .1) y) t
+        let y : index (x .0 .event) lines ≡ k = ap (λ (z : ℕ). index z lines) (x .4) ∙ line-index _ lines (K .each-once) k e m in
+        subst (λ (d : Condition). came lines k d ≡ true → left lines k d ≡ true) (ap (conditionAt R) (x .3) ∙ r .2) (marked-left k (x .0) (x .1) (x .2) y) t
   ]
 
+  -- an event of line k that reads place p has a mark R at a condition that holds then
+  read-holds : (k p e : ℕ) → p < places N → In e (getD lines k []) → reads N p (transitionOf R e) ≡ true
+      → (c : Condition) × In c (R .conditions) × (holds lines k p c ≡ true)
+  unfolding readIn holds slotOf
+  read-holds k p e l i h =
+      let r : (m : Mark) × In m (R .marks) × (readIn R e p m ≡ true) =
+      Laws.count-found (readIn R e p) (R .marks) (omega (arith, P .readings e p (line-inside _ lines (K .each-once) k e i) l, Laws.count-true h)) in
+      let z = Laws.and-three _ _ _ (r .2) in
+      let c : Condition = conditionAt R (r .0 .condition) in
+      let q : r .0 .kind ≡ Read = read-kind (r .0 .kind) (eqb-true _ _ (z .0)) in
+      let d : index (r .0 .event) lines ≡ k = ap (λ (x : ℕ). index x lines) (eqb-true _ _ (z .1)) ∙ line-index _ lines (K .each-once) k e i in (
+        c,
+        marked-in N R W (r .0) (r .1),
+        Laws.true-and (z .2) (Laws.true-and
+            (has-come lines k c (λ g x. omega (arith, d, kept .strict _ (made-read R (r .1) q x) refl)))
+            (ap not (not-left lines k c (λ f x. omega (arith, d, kept .weak _ (read-taken R (r .1) q x)))))),
+      )
+
   -- ---- counted by place
+
+  -- so its place is not empty
+  pub present : (k p e : ℕ) → p < places N → In e (getD lines k []) → reads N p (transitionOf R e) ≡ true → 0 < count (holds lines k p) (R .conditions)
+  present k p e l i h = let r = read-holds k p e l i h in Laws.count-in (holds lines k p) (r .0) (R .conditions) (r .1) (r .2)
 
   pub taken-left : (k p : ℕ) → p < places N → taken N (firedBy R lines k) p ≡ leftAt R lines k p
   unfolding taken consumedIn left

@@ -4,49 +4,49 @@ use Prim.Native.Nat.{ℕ, suc, _+_, _≤_, zero-le}
 use native.Mathlib.Nat.{le-trans}
 use native.Mathlib.Omega.{arith}
 use mathlib.Core.Bool.{Bool, true, false, cond}
-use mathlib.Core.List.{List, [], _∷_, _++_, map}
-use lib.ListN.{length, length-append, length-map, length-replicate, replicate}
-use Rattle.spec.specs.Lists.{from, upTo, flat, count, sum}
+use mathlib.Core.List.{List, [], _∷_, _++_, map, append-nil}
+use lib.ListN.{length, length-append, length-map, length-replicate, replicate, List·getD-append}
+use lib.Seq.{append-snoc}
+use Rattle.spec.specs.Lists.{from, upTo, flat, count, sum, sumOf}
 use Rattle.spec.specs.Net.{Net}
 use Rattle.spec.specs.Record.{Condition, Mark}
-use Rattle.spec.specs.Building.{Event, Run, initialOf, start, inStep, takeAll, makeAll, consumedBy, playStep, playSteps, runOf, marksDue, recordOf, recordFor}
+use Rattle.spec.specs.Building.{Event, noEvent, Run, initialOf, start, inStep, takeAll, makeAll, consumedBy, playStep, playSteps, runOf, marksDue, recordOf, recordFor}
 use Rattle.spec.specs.declared.Limits.{Limits}
-use Rattle.lists.specs.Laws.{count-append}
-use Rattle.runs.specs.MarkWalks.{dueFor, markOf, marksOn, marksFrom, marks-walked}
+use Rattle.spec.specs.Runs.{EnabledSequence}
+use Rattle.lists.specs.Laws.{count-append, sumOf-le, sumOf-append, in-upTo, from-append}
 use Rattle.runs.specs.Consume.{count-blind, length-takeAll}
-use Rattle.runs.specs.Built.{blank}
+use Rattle.runs.specs.Built.{firedBy, Good, blank}
+use Rattle.runs.specs.MarkCounts.{dueFor, readsOf, marks-length}
+use Rattle.runs.specs.Log.{enabled-beginning, good-run}
 use Rattle.runs.specs.ReadRecord.{Fits}
 
--- ---- how many marks are due
-
-pub on-length : (N : Net) (es : List Event) (e : ℕ) (v : Event) (i : ℕ) (cs : List Condition) → length (marksOn N es e v i cs) ≡ count (dueFor N e (v .transition)) cs
-unfolding marksOn count
-on-length N es e v i [] = refl
-on-length N es e v i (c ∷ cs) = go (dueFor N e (v .transition) c) (markOf es (v .step) e i c) (on-length N es e v (suc i) cs)
-  where
-    go : (b : Bool) (m : Mark) → length (marksOn N es e v (suc i) cs) ≡ count (dueFor N e (v .transition)) cs
-        → length (cond b (m ∷ marksOn N es e v (suc i) cs) (marksOn N es e v (suc i) cs)) ≡ cond b (suc (count (dueFor N e (v .transition)) cs)) (count (dueFor N e (v .transition)) cs)
-    go true m h = ap suc h
-    go false m h = h
-
--- more events, and conditions among which as many marks or more are due
-from-grows : (N : Net) (es fs : List Event) (cs ds : List Condition) → ((e t : ℕ) → count (dueFor N e t) cs ≤ count (dueFor N e t) ds)
-    → (e : ℕ) (vs ws : List Event) → length (marksFrom N es cs e vs) ≤ length (marksFrom N fs ds e (vs ++ ws))
-unfolding marksFrom
-from-grows N es fs cs ds h e [] ws = zero-le
-from-grows N es fs cs ds h e (v ∷ vs) ws = omega (
-  arith,
-  length-append (marksOn N es e v 0 cs) (marksFrom N es cs (suc e) vs),
-  length-append (marksOn N fs e v 0 ds) (marksFrom N fs ds (suc e) (vs ++ ws)),
-  on-length N es e v 0 cs,
-  on-length N fs e v 0 ds,
-  h e (v .transition),
-  from-grows N es fs cs ds h (suc e) vs ws,
-)
+-- ---- how many marks there are
 
 due-grows : (N : Net) (e t n : ℕ) (ts : List ℕ) (cs : List Condition) → count (dueFor N e t) cs ≤ count (dueFor N e t) (takeAll N n ts cs ++ makeAll N n ts)
 unfolding dueFor consumedBy
 due-grows N e t n ts cs = omega (arith, count-append (dueFor N e t) (takeAll N n ts cs) (makeAll N n ts), count-blind (dueFor N e t) (λ e c. refl) N n ts cs)
+
+-- the marks of a run grow with a step: no event loses one
+marks-grow : (N : Net) (k : ℕ) (ts : List ℕ) (r : Run) → Good N k r → Good N (suc k) (playStep N k ts r) → length (marksDue N r) ≤ length (marksDue N (playStep N k ts r))
+unfolding playStep upTo
+marks-grow N k ts r G H =
+    let es : List Event = r .events in
+    let fs : List Event = es ++ map (inStep k) ts in
+    let cs : List Condition = r .conditions in
+    let ds : List Condition = takeAll N (length es) ts cs ++ makeAll N (length es) ts in
+    let f : ℕ → ℕ = λ e. count (dueFor N e (firedBy es e)) cs + readsOf N (firedBy es e) in
+    let g : ℕ → ℕ = λ e. count (dueFor N e (firedBy fs e)) ds + readsOf N (firedBy fs e) in
+    let more : length fs ≡ length es + length ts = length-append es (map (inStep k) ts) ∙ ap (λ (z : ℕ). length es + z) (length-map ts (inStep k)) in
+    let each : sumOf f (upTo (length es)) ≤ sumOf g (upTo (length es)) = sumOf-le f g (upTo (length es)) (λ e m.
+    let q : firedBy fs e ≡ firedBy es e = ap (λ (v : Event). v .transition) (List·getD-append es (map (inStep k) ts) noEvent e (in-upTo (length es) m)) in
+    omega (arith, due-grows N e (firedBy es e) (length es) ts cs, ap (λ t. count (dueFor N e t) ds) q, ap (readsOf N) q)) in
+    let before : length (marksDue N r) ≡ sumOf f (upTo (length es)) = marks-length N k r G in
+    let after : length (marksDue N (playStep N k ts r)) ≡ sumOf g (upTo (length es)) + sumOf g (from (0 + length es) (length ts)) =
+    marks-length N (suc k) (playStep N k ts r) H
+    ∙ ap (λ (z : ℕ). sumOf g (upTo z)) more
+    ∙ ap (sumOf g) (from-append 0 (length es) (length ts))
+    ∙ sumOf-append g (upTo (length es)) (from (0 + length es) (length ts)) in
+    omega (arith, before, after, each)
 
 -- ---- steps
 
@@ -73,27 +73,26 @@ module _ (N : Net) where
   run-snoc s ts = run-append s (ts ∷ [])
 
 module _ (lim : Limits) (N : Net) where
-  fits-before : (k : ℕ) (ts : List ℕ) (r : Run) → Fits lim (recordOf N (playStep N k ts r)) → Fits lim (recordOf N r)
+  fits-before : (k : ℕ) (ts : List ℕ) (r : Run) → Good N k r → Good N (suc k) (playStep N k ts r) → Fits lim (recordOf N (playStep N k ts r)) → Fits lim (recordOf N r)
   unfolding recordOf playStep
-  fits-before k ts r F =
+  fits-before k ts r G H F =
       let n = length (r .events) in
-      let cs : List Condition = takeAll N n ts (r .conditions) ++ makeAll N n ts in
       record {
         events = omega (arith, F .events, step-events N k ts r, length-map (r .events) (λ (v : Event). v .transition));
         conditions = omega (arith, F .conditions, length-append (takeAll N n ts (r .conditions)) (makeAll N n ts), length-takeAll N n ts (r .conditions));
-        marks = rw (marks-walked N r) (le-trans
-            (from-grows N (r .events) _ (r .conditions) cs (λ e t. due-grows N e t n ts (r .conditions)) 0 (r .events) (map (inStep k) ts))
-            (rw (marks-walked N (playStep N k ts r)) at (F .marks)));
+        marks = le-trans (marks-grow N k ts r G H) (F .marks);
       }
 
-  fits-earlier : (k : ℕ) (tss : List (List ℕ)) (r : Run) → Fits lim (recordOf N (playSteps N k tss r)) → Fits lim (recordOf N r)
-  unfolding playSteps
-  fits-earlier k [] r F = F
-  fits-earlier k (ts ∷ tss) r F = fits-before k ts r (fits-earlier (suc k) tss (playStep N k ts r) F)
-
-  pub fits-beginning : (s t : List (List ℕ)) → Fits lim (recordFor N (s ++ t)) → Fits lim (recordFor N s)
+  pub fits-beginning : (s t : List (List ℕ)) → EnabledSequence N (s ++ t) → Fits lim (recordFor N (s ++ t)) → Fits lim (recordFor N s)
   unfolding recordFor
-  fits-beginning s t F = fits-earlier (1 + length s) t (runOf N s) (rw (run-append N s t) at F)
+  fits-beginning s [] E F = rw append-nil at F
+  fits-beginning s (ts ∷ t) E F =
+      let D : EnabledSequence N ((s ++ ts ∷ []) ++ t) = rw append-snoc E in
+      let more : 1 + length (s ++ ts ∷ []) ≡ suc (1 + length s) = omega (arith, length-append s (ts ∷ [])) in
+      let H : Good N (suc (1 + length s)) (playStep N (1 + length s) ts (runOf N s)) =
+      rw (more, run-snoc) at (good-run N (s ++ ts ∷ []) (enabled-beginning N (s ++ ts ∷ []) t D)) in
+      fits-before (1 + length s) ts (runOf N s) (good-run N s (enabled-beginning N s (ts ∷ t) E)) H
+      (rw run-snoc at (fits-beginning (s ++ ts ∷ []) t D (rw append-snoc F)))
 
 -- ---- the start
 

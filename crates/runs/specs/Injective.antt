@@ -20,13 +20,13 @@ use Rattle.spec.specs.Classes.{alike}
 use Rattle.spec.specs.Arranging.{groupLine, arrangementBytes}
 use Rattle.spec.specs.Runs.{stepLine, logBytes}
 use Rattle.spec.specs.Exactness.{LinesBelow, DeclarationBelow, DeclarationsBelow, RecordBelow, OneReading}
-use Rattle.spec.specs.declared.ArcKind.the-variants.{Input, Output, Inhibitor}
+use Rattle.spec.specs.declared.ArcKind.the-variants.{Input, Output, Inhibitor, Read}
 use Rattle.spec.specs.declared.Field.{Field}
 use Rattle.spec.specs.declared.Field.the-variants.{Number, Dash}
 use Rattle.spec.specs.declared.MarkKind.{MarkKind}
-use Rattle.spec.specs.declared.MarkKind.the-variants.{Before, After}
+use Rattle.spec.specs.declared.MarkKind.the-variants.{Before, After, Read as ReadMark}
 use Rattle.lists.specs.Laws.{here, there, clash, map-same, flat-in}
-use Rattle.runs.specs.Bytes.{Letter, P-letter, T-letter, I-letter, O-letter, H-letter, S-letter, E-letter, C-letter, B-letter, A-letter, G-letter}
+use Rattle.runs.specs.Bytes.{Letter, P-letter, T-letter, I-letter, O-letter, H-letter, S-letter, E-letter, C-letter, B-letter, A-letter, G-letter, R-letter}
 use Rattle.runs.specs.Fields.{FieldBelow, FieldsBelow, body-pieces}
 use Rattle.runs.specs.Digits.{digits-all, same-digits, small-digits}
 use Rattle.runs.specs.LineForms.{eventOf, valueOf, event-back, event-below, fields-back, numbers-below, values}
@@ -166,6 +166,7 @@ declaration-form newTransition = formed T-letter []
 declaration-form (newArc Input p t) = formed I-letter (Number p ∷ Number t ∷ [])
 declaration-form (newArc Output p t) = formed O-letter (Number t ∷ Number p ∷ [])
 declaration-form (newArc Inhibitor p t) = formed H-letter (Number p ∷ Number t ∷ [])
+declaration-form (newArc Read p t) = formed R-letter (Number p ∷ Number t ∷ [])
 
 -- the number of a field, from 0
 abbrev numberAt : List Field → ℕ → ℕ
@@ -176,7 +177,8 @@ declaration-back r =
     let u = numberAt (r .1) 0 in
     let v = numberAt (r .1) 1 in
     cond (eqb (r .0) (code "P")) (newPlace u) (cond (eqb (r .0) (code "T")) newTransition
-    (cond (eqb (r .0) (code "I")) (newArc Input u v) (cond (eqb (r .0) (code "O")) (newArc Output v u) (newArc Inhibitor u v))))
+    (cond (eqb (r .0) (code "I")) (newArc Input u v) (cond (eqb (r .0) (code "O")) (newArc Output v u)
+    (cond (eqb (r .0) (code "H")) (newArc Inhibitor u v) (newArc Read u v)))))
 
 declarations : Format declarationLine
 unfolding declarationLine declaration-back
@@ -188,6 +190,7 @@ declarations = record { form = declaration-form; written = written; back = decla
     written (newArc Input p t) = refl
     written (newArc Output p t) = refl
     written (newArc Inhibitor p t) = refl
+    written (newArc Read p t) = refl
 
     kept : (d : Declaration) → declaration-back (code (declaration-form d .letter), declaration-form d .fields) ≡ d
     kept (newPlace v) = refl
@@ -195,6 +198,7 @@ declarations = record { form = declaration-form; written = written; back = decla
     kept (newArc Input p t) = refl
     kept (newArc Output p t) = refl
     kept (newArc Inhibitor p t) = refl
+    kept (newArc Read p t) = refl
 
 -- ---- records
 
@@ -217,9 +221,10 @@ conditions = record {
 abbrev mark-form : MarkKind → ℕ → ℕ → Form
 mark-form Before c e = formed B-letter (Number c ∷ Number e ∷ [])
 mark-form After c e = formed A-letter (Number c ∷ Number e ∷ [])
+mark-form ReadMark c e = formed R-letter (Number c ∷ Number e ∷ [])
 
 unfoldable mark-back : Said → Mark
-mark-back r = record { kind = cond (eqb (r .0) (code "B")) Before After; condition = numberAt (r .1) 0; event = numberAt (r .1) 1 }
+mark-back r = record { kind = cond (eqb (r .0) (code "B")) Before (cond (eqb (r .0) (code "A")) After ReadMark); condition = numberAt (r .1) 0; event = numberAt (r .1) 1 }
 
 marks : Format markLine
 unfolding markLine markLineOf mark-back
@@ -228,10 +233,12 @@ marks = record { form = λ m. mark-form (m .kind) (m .condition) (m .event); wri
     written : (x : MarkKind) (c e : ℕ) → markLineOf x c e ≡ lineWith (mark-form x c e .letter) (mark-form x c e .fields)
     written Before c e = refl
     written After c e = refl
+    written ReadMark c e = refl
 
     kept : (x : MarkKind) (c e : ℕ) → mark-back (code (mark-form x c e .letter), mark-form x c e .fields) ≡ record { kind = x; condition = c; event = e }
     kept Before c e = refl
     kept After c e = refl
+    kept ReadMark c e = refl
 
 -- two lists in which the elements that pass a test stand in front of those that do not
 parts-same : {A : Type 0} (p : A → Bool) (xs ys vs ws : List A) → ((x : A) → In x xs → p x ≡ true) → ((y : A) → In y ys → p y ≡ false) → ((v : A) → In v vs → p v ≡ true)
@@ -248,13 +255,14 @@ lettered : {A : Type 0} {print : A → List ℕ} (F : Format print) (k : ℕ) (b
     → eqb (r .0) k ≡ b
 lettered F k b h xs r m = let z = Memᴰ·of-map (row F) xs m in subst (λ r. eqb (r .0) k ≡ b) (z .2) (h (z .0))
 
-marks-lettered : (k : ℕ) → eqb (code "B") k ≡ false → eqb (code "A") k ≡ false → (ms : List Mark) (r : Row) → In r (map (row marks) ms) → eqb (r .0) k ≡ false
+marks-lettered : (k : ℕ) → eqb (code "B") k ≡ false → eqb (code "A") k ≡ false → eqb (code "R") k ≡ false → (ms : List Mark) (r : Row) → In r (map (row marks) ms) → eqb (r .0) k ≡ false
 unfolding marks
-marks-lettered k b a = lettered marks k false (λ m. go (m .kind) (m .condition) (m .event))
+marks-lettered k b a r = lettered marks k false (λ m. go (m .kind) (m .condition) (m .event))
   where
     go : (x : MarkKind) (c e : ℕ) → eqb (code (mark-form x c e .letter)) k ≡ false
     go Before c e = b
     go After c e = a
+    go ReadMark c e = r
 
 record-rows : (R : RunRecord) → rowsIn (recordBytes R) ≡ map (row events) (R .events) ++ (map (row conditions) (R .conditions) ++ map (row marks) (R .marks))
 unfolding recordBytes
@@ -281,14 +289,14 @@ groups-same R S e =
     others : (R : RunRecord) (r : Row) → In r (map (row conditions) (R .conditions) ++ map (row marks) (R .marks)) → eqb (r .0) (code "E") ≡ false
     others R r m = elim (List·Memᴰ·append-cases (map (row conditions) (R .conditions)) m) [
       | inl i ↦ lettered conditions (code "E") false (λ c. refl) (R .conditions) r i
-      | inr i ↦ marks-lettered (code "E") refl refl (R .marks) r i
+      | inr i ↦ marks-lettered (code "E") refl refl refl (R .marks) r i
     ]
 
     second : (R : RunRecord) (r : Row) → In r (map (row conditions) (R .conditions)) → eqb (r .0) (code "C") ≡ true
     second R = lettered conditions (code "C") true (λ c. refl) (R .conditions)
 
     third : (R : RunRecord) (r : Row) → In r (map (row marks) (R .marks)) → eqb (r .0) (code "C") ≡ false
-    third R = marks-lettered (code "C") refl refl (R .marks)
+    third R = marks-lettered (code "C") refl refl refl (R .marks)
 
 -- ---- the four kinds of texts
 
@@ -311,6 +319,7 @@ declaration-below b newTransition h = tt
 declaration-below b (newArc Input p t) h = (h .0, (h .1, tt))
 declaration-below b (newArc Output p t) h = (h .1, (h .0, tt))
 declaration-below b (newArc Inhibitor p t) h = (h .0, (h .1, tt))
+declaration-below b (newArc Read p t) h = (h .0, (h .1, tt))
 
 pub nets-same : (ds es : List Declaration) → Apart DeclarationsBelow ds es → netBytes ds ≡ netBytes es → ds ≡ es
 unfolding netBytes declarations
@@ -319,6 +328,7 @@ nets-same ds es h e = same declarations ds es (apart DeclarationsBelow (Elements
 mark-below : (b : ℕ) (x : MarkKind) (c e : ℕ) → c < b → e < b → FieldsBelow b (mark-form x c e .fields)
 mark-below b Before c e l h = (l, (h, tt))
 mark-below b After c e l h = (l, (h, tt))
+mark-below b ReadMark c e l h = (l, (h, tt))
 
 pub records-same : (R S : RunRecord) → Apart RecordBelow R S → recordBytes R ≡ recordBytes S → R ≡ S
 unfolding events conditions marks

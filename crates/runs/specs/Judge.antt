@@ -9,12 +9,12 @@ use lib.Dec.{eqb, ltb}
 use borrow.Author.Tests.{eq-eqb, eqb-true}
 use Rattle.spec.specs.Lists.{In, count, asCount, upTo}
 use Rattle.spec.specs.Answer.{gives, _>>_, refuse_at?_}
-use Rattle.spec.specs.Net.{Net, places, takes, makes}
+use Rattle.spec.specs.Net.{Net, places, takes, makes, reads}
 use Rattle.spec.specs.Step.{tokensAt}
-use Rattle.spec.specs.Record.{RunRecord, Mark, transitionOf, conditionAt, isAt, marked, due}
+use Rattle.spec.specs.Record.{RunRecord, Mark, transitionOf, conditionAt, guardSlot, isAt, marked, due}
 use Rattle.spec.specs.Order.{StrictlyBefore, isStrictlyBefore}
-use Rattle.spec.specs.Process.{Process, WellFormed, initialIn, consumedIn, producedIn, wrongEnd}
-use Rattle.spec.specs.Checking.{wrongInitial, wrongArcsAt, wrongArcs, agree, wrongMarkAt, wrongMarks, wrongKindAt, wrongKind, beforeItself, obeys}
+use Rattle.spec.specs.Process.{Process, WellFormed, initialIn, consumedIn, producedIn, readIn, wrongEnd}
+use Rattle.spec.specs.Checking.{wrongInitial, wrongArcsAt, wrongArcs, agree, wrongMarkAt, wrongMarks, wrongReadingsAt, wrongReadings, wronglyMarked, wrongKindAt, wrongKind, beforeItself, obeys}
 use Rattle.lists.specs.Laws
 use Rattle.runs.specs.Answers.{of-lowest, of-last}
 use Rattle.runs.specs.Pairs.{path-bounded}
@@ -42,22 +42,34 @@ module _ (N : Net) (R : RunRecord) where
     λ h. Laws.none-any _ (upTo (places N)) (λ p m. let r = h p (Laws.in-upTo (places N) m) in rw (eq-eqb _ _ (r .0), eq-eqb _ _ (r .1))),
   )
 
-  -- where no condition and event are marked twice, a mark there counts once
-  mark-count : (c e : ℕ) (b : Bool) → count (isAt c e) (R .marks) ≤ 1 → marked R c e ≡ b → count (isAt c e) (R .marks) ≡ asCount b
+  -- where no condition and event are marked twice in a slot, a mark there counts once
+  pub mark-count : (s c e : ℕ) (b : Bool) → count (isAt s c e) (R .marks) ≤ 1 → marked R s c e ≡ b → count (isAt s c e) (R .marks) ≡ asCount b
   unfolding marked
-  mark-count c e b l h = sym (Laws.pos-count _ l) ∙ ap asCount (sym (Laws.any-count (isAt c e) (R .marks)) ∙ h)
+  mark-count s c e b l h = sym (Laws.pos-count _ l) ∙ ap asCount (sym (Laws.any-count (isAt s c e) (R .marks)) ∙ h)
 
-  count-mark : (c e : ℕ) (b : Bool) → count (isAt c e) (R .marks) ≡ asCount b → marked R c e ≡ b
+  pub count-mark : (s c e : ℕ) (b : Bool) → count (isAt s c e) (R .marks) ≡ asCount b → marked R s c e ≡ b
   unfolding marked
-  count-mark c e b h = Laws.any-count (isAt c e) (R .marks) ∙ ap (ltb 0) h ∙ Laws.count-pos b
+  count-mark s c e b h = Laws.any-count (isAt s c e) (R .marks) ∙ ap (ltb 0) h ∙ Laws.count-pos b
 
-  marks-rule : (e : ℕ) → ((c : ℕ) → c < length (R .conditions) → count (isAt c e) (R .marks) ≤ 1) → (wrongMarks N R e ≡ false)
-      ↔ ((c : ℕ) → c < length (R .conditions) → count (isAt c e) (R .marks) ≡ asCount (due N R c e))
+  marks-rule : (e : ℕ) → ((c : ℕ) → c < length (R .conditions) → count (isAt guardSlot c e) (R .marks) ≤ 1) → (wrongMarks N R e ≡ false)
+      ↔ ((c : ℕ) → c < length (R .conditions) → count (isAt guardSlot c e) (R .marks) ≡ asCount (due N R c e))
   unfolding wrongMarks wrongMarkAt
   marks-rule e once = (
-    λ h c l. mark-count c e _ (once c l) (same-is _ _ .0 (Laws.not-is-false _ (Laws.any-none (wrongMarkAt N R e) _ h c (Laws.upTo-in (length (R .conditions)) l)))),
-    λ h. Laws.none-any _ (upTo (length (R .conditions))) (λ c m. rw (same-is _ _ .1 (count-mark c e _ (h c (Laws.in-upTo (length (R .conditions)) m))))),
+    λ h c l. mark-count guardSlot c e _ (once c l) (same-is _ _ .0 (Laws.not-is-false _ (Laws.any-none (wrongMarkAt N R e) _ h c (Laws.upTo-in (length (R .conditions)) l)))),
+    λ h. Laws.none-any _ (upTo (length (R .conditions))) (λ c m. rw (same-is _ _ .1 (count-mark guardSlot c e _ (h c (Laws.in-upTo (length (R .conditions)) m))))),
   )
+
+  readings-rule : (e : ℕ) → (wrongReadings N R e ≡ false) ↔ ((p : ℕ) → p < places N → count (readIn R e p) (R .marks) ≡ asCount (reads N p (transitionOf R e)))
+  unfolding wrongReadings wrongReadingsAt
+  readings-rule e = (
+    λ h p l. eqb-true _ _ (Laws.not-is-false _ (Laws.any-none (wrongReadingsAt N R e) _ h p (Laws.upTo-in (places N) l))),
+    λ h. Laws.none-any _ (upTo (places N)) (λ p m. rw (eq-eqb _ _ (h p (Laws.in-upTo (places N) m)))),
+  )
+
+  -- 37 is the one rule and the other
+  both-rules : (e : ℕ) → (wronglyMarked N R e ≡ false) ↔ ((wrongMarks N R e ≡ false) × (wrongReadings N R e ≡ false))
+  unfolding wronglyMarked
+  both-rules e = (Laws.or-false (wrongMarks N R e) (wrongReadings N R e), λ h. Laws.false-or (h .0) (h .1))
 
   kinds-rule : (e : ℕ) → (wrongKind R e ≡ false) ↔ ((m : Mark) → In m (R .marks) → m .event ≡ e → wrongEnd (m .kind) (conditionAt R (m .condition)) ≡ false)
   unfolding wrongKind wrongKindAt
@@ -76,7 +88,7 @@ module _ (N : Net) (R : RunRecord) where
 -- ---- the five rules, each over the whole record
 
 module _ (N : Net) (R : RunRecord) (W : WellFormed N R) where
-  pub obeys-process : ((c e : ℕ) → count (isAt c e) (R .marks) ≤ 1) → obeys N R ≡ gives tt → Process N R
+  pub obeys-process : ((c e : ℕ) → count (isAt guardSlot c e) (R .marks) ≤ 1) → obeys N R ≡ gives tt → Process N R
   unfolding obeys
   obeys-process once h =
       let h1 = of-lowest 35 _ _ h in
@@ -86,7 +98,8 @@ module _ (N : Net) (R : RunRecord) (W : WellFormed N R) where
       record {
         initial = λ p l. initial-rule N R p .0 (Laws.lowest-none _ _ (h1 .0) p l);
         arcs = λ e p l. arcs-rule N R e .0 (Laws.lowest-none _ _ (h2 .0) e l) p;
-        marks = λ c e l m. marks-rule N R e (λ c k. once c e) .0 (Laws.lowest-none _ _ (h3 .0) e m) c l;
+        marks = λ c e l m. marks-rule N R e (λ c k. once c e) .0 (both-rules N R e .0 (Laws.lowest-none _ _ (h3 .0) e m) .0) c l;
+        readings = λ e p l. readings-rule N R e .0 (both-rules N R e .0 (Laws.lowest-none _ _ (h3 .0) e l) .1) p;
         kinds = λ m i. kinds-rule N R (m .event) .0 (Laws.lowest-none _ _ (h4 .0) (m .event) (W .events m i)) m i refl;
         acyclic = λ e p. order-rule N R W e .0 (Laws.lowest-none _ _ (of-last 39 _ (h4 .1)) e (path-bounded (bounded N R W) p .0)) p;
       }
@@ -96,7 +109,10 @@ module _ (N : Net) (R : RunRecord) (W : WellFormed N R) where
   process-obeys P = rw (
     Laws.none-lowest (wrongInitial N R) (places N) (λ p l. initial-rule N R p .1 (P .initial p l)),
     Laws.none-lowest (wrongArcs N R) (length (R .events)) (λ e l. arcs-rule N R e .1 (λ p. P .arcs e p l)),
-    Laws.none-lowest (wrongMarks N R) (length (R .events)) (λ e l. marks-rule N R e (λ c k. le-trans (le-of-eq (P .marks c e k l)) (Laws.one-le _)) .1 (λ c k. P .marks c e k l)),
+    Laws.none-lowest (wronglyMarked N R) (length (R .events)) (λ e l. both-rules N R e .1 (
+      marks-rule N R e (λ c k. le-trans (le-of-eq (P .marks c e k l)) (Laws.one-le _)) .1 (λ c k. P .marks c e k l),
+      readings-rule N R e .1 (λ p. P .readings e p l),
+    )),
     Laws.none-lowest (wrongKind R) (length (R .events)) (λ e l. kinds-rule N R e .1 (λ m i q. P .kinds m i)),
     Laws.none-lowest (beforeItself R) (length (R .events)) (λ e l. order-rule N R W e .1 (P .acyclic e)),
   )

@@ -10,7 +10,7 @@ pub mod Play
 pub mod Flows
 pub mod Consume
 pub mod Built
-pub mod MarkWalks
+pub mod MarkCounts
 pub mod Marks
 pub mod Log
 pub mod Bytes
@@ -21,8 +21,10 @@ pub mod Answers
 pub mod Texts
 pub mod Readers
 pub mod NetText
+pub mod ArcSlots
 pub mod NetLimits
 pub mod ReadNet
+pub mod MarkSlots
 pub mod ReadRecord
 pub mod RecordText
 pub mod Accepted

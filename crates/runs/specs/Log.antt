@@ -7,7 +7,7 @@ use native.Mathlib.Decide.{decLe}
 use native.Mathlib.Omega.{arith}
 use mathlib.Core.List.{List, [], _∷_, _++_, map, append-assoc, append-nil, map-append, map-map, map-id}
 use lib.ListN.{length, getD, take, length-append, length-map, List·getD-append}
-use lib.Seq.{getD-append-add, getD-append-seam}
+use lib.Seq.{getD-append-add, getD-append-seam, take-append-le}
 use lib.Dec.{eqb}
 use borrow.Author.Tests.{eq-eqb, ne-eqb}
 use Rattle.spec.specs.Lists.{In, from, upTo, flat}
@@ -140,6 +140,21 @@ good-steps N k [] r G E K = rw add-zero G
 good-steps N k (ts ∷ tss) r G E K = rw (add-suc, ← suc-add k (length tss))
     (good-steps N (suc k) tss (playStep N k ts r) (good-step N k r G ts (E 0 (omega arith)) (λ t m. K 0 t (omega arith) m)) (λ j l. E (suc j) (omega arith)) (λ j t l m. K (suc j) t (omega arith) m))
 
+-- the beginning of an enabled sequence is enabled
+pub enabled-beginning : (N : Net) (s t : List (List ℕ)) → EnabledSequence N (s ++ t) → EnabledSequence N s
+unfolding markingAt
+enabled-beginning N s t E = record {
+  full = λ k l. rw (step k l) at (E .full k (longer k l));
+  known = λ k x l m. E .known k x (longer k l) (rw (step k l) m);
+  enabled = λ k l. rw (step k l, take-append-le k s t (omega arith)) at (E .enabled k (longer k l));
+}
+  where
+    longer : (k : ℕ) → k < length s → k < length (s ++ t)
+    longer k l = omega (arith, length-append s t)
+
+    step : (k : ℕ) → k < length s → getD (s ++ t) k [] ≡ getD s k []
+    step k l = List·getD-append s t [] k l
+
 module _ (N : Net) (steps : List (List ℕ)) where
   pub run-events : runOf N steps .events ≡ stepEvents 1 steps
   unfolding runOf start
@@ -157,7 +172,7 @@ module _ (N : Net) (steps : List (List ℕ)) where
   built-reads = rw record-events (read-lines [] steps)
 
   module _ (E : EnabledSequence N steps) where
-    good-run : Good N (1 + length steps) (runOf N steps)
+    pub good-run : Good N (1 + length steps) (runOf N steps)
     unfolding runOf start markingAt
     good-run = good-steps N 1 steps (start N) (good-start N) (E .enabled) (E .known)
 

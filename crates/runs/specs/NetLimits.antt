@@ -1,5 +1,5 @@
 -- The limits of an accepted net: at most 32 places, 32 transitions and 512 initial tokens in all.
-use mathlib.Core.Path.{_≡_, refl, ap}
+use mathlib.Core.Path.{_≡_, refl}
 use Prim.Native.Nat.{ℕ, _≤_, zero-le}
 use native.Mathlib.Omega.{arith}
 use mathlib.Core.List.{List, [], _∷_, List·Memᴰ·head, List·Memᴰ·tail}
@@ -11,7 +11,7 @@ use Rattle.spec.specs.Net.{Net, places, withPlace, withTransition, withArc, emp
 use Rattle.spec.specs.NetText.{Declaration, newPlace, newTransition, newArc, declare, declareAll, Allowed}
 use Rattle.spec.specs.Exactness.{DeclarationBelow, DeclarationsBelow}
 use Rattle.lists.specs.Arrays.{sum-more}
-use Rattle.runs.specs.NetText.{Sound, net-lines}
+use Rattle.runs.specs.NetText.{Sound, sound-tail, sound-keeps, net-lines}
 
 pub record NetLimits (N : Net) : Type 0 where
   pub places : places N ≤ 32
@@ -37,20 +37,14 @@ allowed-below n (newPlace v) L a = omega (arith, a .1)
 allowed-below n newTransition L a = tt
 allowed-below n (newArc x p t) L a = (omega (arith, a .0, L .places), omega (arith, a .1, L .transitions))
 
-sound-keeps : (n : Net) (ds : List Declaration) → NetLimits n → Sound n ds → NetLimits (declareAll n ds)
-unfolding declareAll
-sound-keeps n [] L S = L
-sound-keeps n (d ∷ ds) L S = sound-keeps (declare n d) ds (declare-keeps n d L (S [] ds d refl)) (λ above below e h. S (d ∷ above) below e (ap (λ (es : List Declaration). d ∷ es) h))
-
 pub sound-limits : (ds : List Declaration) → Sound emptyNet ds → NetLimits (declareAll emptyNet ds)
-sound-limits ds S = sound-keeps emptyNet ds no-net S
+sound-limits ds S = sound-keeps NetLimits declare-keeps emptyNet ds no-net S
 
 -- the numbers of sound declarations have at most three digits
 sound-below : (n : Net) (ds : List Declaration) → NetLimits n → Sound n ds → DeclarationsBelow 1000 ds
 unfolding declareAll
 sound-below n (d ∷ ds) L S e (List·Memᴰ·head q) = rw q (allowed-below n d L (S [] ds d refl))
-sound-below n (d ∷ ds) L S e (List·Memᴰ·tail m) =
-    sound-below (declare n d) ds (declare-keeps n d L (S [] ds d refl)) (λ above below x h. S (d ∷ above) below x (ap (λ (es : List Declaration). d ∷ es) h)) e m
+sound-below n (d ∷ ds) L S e (List·Memᴰ·tail m) = sound-below (declare n d) ds (declare-keeps n d L (S [] ds d refl)) (sound-tail n d ds S) e m
 
 pub sound-small : (ds : List Declaration) → Sound emptyNet ds → DeclarationsBelow 1000 ds
 sound-small ds S = sound-below emptyNet ds no-net S

@@ -18,9 +18,9 @@ use Rattle.spec.specs.Net.{Net, places, joined, takes, makes, addPlace, addTran
 use Rattle.spec.specs.NetText.{Declaration, newPlace, newTransition, newArc, declarationLine, netBytes, declare, declareAll, declared, Allowed, Complete}
 use Rattle.spec.specs.Exactness.{IsNet}
 use Rattle.spec.specs.declared.ArcKind.{ArcKind}
-use Rattle.spec.specs.declared.ArcKind.the-variants.{Input, Output, Inhibitor}
+use Rattle.spec.specs.declared.ArcKind.the-variants.{Input, Output, Inhibitor, Read}
 use Rattle.lists.specs.Laws.{and-true, or-false, false-or, not-is-false, count-pos, any-in, any-found, in-upTo, upTo-in, lowest-none, none-lowest, flat-map-snoc}
-use Rattle.runs.specs.Bytes.{P-letter, T-letter, I-letter, O-letter, H-letter}
+use Rattle.runs.specs.Bytes.{P-letter, T-letter, I-letter, O-letter, H-letter, R-letter}
 use Rattle.runs.specs.Answers.{of-gives, not-refused, of-bind, of-when, of-lowest, of-cond}
 use Rattle.runs.specs.Texts.{lineBytes, text-is, form-line}
 use Rattle.runs.specs.Readers.{lines-keep}
@@ -53,6 +53,17 @@ sound-snoc n ds d S a above below e h = elim (snoc-cases ds d above e below h) [
   | inr q ↦ S above (q .0) e (q .1)
 ]
 
+-- what stands below the first declaration is sound below it
+pub sound-tail : (n : Net) (d : Declaration) (ds : List Declaration) → Sound n (d ∷ ds) → Sound (declare n d) ds
+unfolding declareAll
+sound-tail n d ds S above below e h = S (d ∷ above) below e (ap (λ (es : List Declaration). d ∷ es) h)
+
+-- what each allowed declaration keeps, sound declarations keep
+pub sound-keeps : (P : Net → Type 0) → ((n : Net) (d : Declaration) → P n → Allowed n d → P (declare n d)) → (n : Net) (ds : List Declaration) → P n → Sound n ds → P (declareAll n ds)
+unfolding declareAll
+sound-keeps P step n [] p S = p
+sound-keeps P step n (d ∷ ds) p S = sound-keeps P step (declare n d) ds (step n d p (S [] ds d refl)) (sound-tail n d ds S)
+
 -- ---- a line
 
 -- the bytes are those of one declaration, which is allowed below net n and makes it net m
@@ -82,8 +93,9 @@ module _ (k : ℕ) (n m : Net) where
   arc-added x p t h =
       let z = of-when 13 k _ _ h in
       let y = of-when 14 k _ _ (z .1) in
+      let w = of-when 51 k _ _ (y .1) in
       let b = and-true (ltb p (places n)) (ltb t (n .transitions)) (not-is-false _ (z .0)) in
-      ((ltb-true p (places n) (b .0), ltb-true t (n .transitions) (b .1), y .0), of-gives (y .1))
+      ((ltb-true p (places n) (b .0), ltb-true t (n .transitions) (b .1), y .0, w .0), of-gives (w .1))
 
   line-added : (l : Line) → addLine k l n ≡ gives m → Declares (lineBytes l) n m
   unfolding addLine declarationLine numberAt eventAt
@@ -95,7 +107,8 @@ module _ (k : ℕ) (n m : Net) where
       of-cond (isLine "T" [] l) _ _ h (λ t q. declares newTransition (form-line T-letter [] l t) (transition-added q)) λ h.
       of-cond (isLine "I" two l) _ _ h (λ t q. declares (newArc Input u v) (form-line I-letter two l t) (arc-added Input u v q)) λ h.
       of-cond (isLine "O" two l) _ _ h (λ t q. declares (newArc Output v u) (form-line O-letter two l t) (arc-added Output v u q)) λ h.
-      of-cond (isLine "H" two l) _ _ h (λ t q. declares (newArc Inhibitor u v) (form-line H-letter two l t) (arc-added Inhibitor u v q)) not-refused
+      of-cond (isLine "H" two l) _ _ h (λ t q. declares (newArc Inhibitor u v) (form-line H-letter two l t) (arc-added Inhibitor u v q)) λ h.
+      of-cond (isLine "R" two l) _ _ h (λ t q. declares (newArc Read u v) (form-line R-letter two l t) (arc-added Read u v q)) not-refused
 
 -- ---- a text
 

@@ -10,7 +10,7 @@ use lib.ListN.{length, getD, take, length-map, List·getD-map}
 use lib.Seq.{ext-getD}
 use borrow.Author.Tests.{lt-ltb, le-ltb}
 use Rattle.spec.specs.Lists.{In, count, sumOf, flat, upTo}
-use Rattle.spec.specs.Net.{Net, places, takes, makes, inhibits}
+use Rattle.spec.specs.Net.{Net, places, takes, makes, inhibits, reads}
 use Rattle.spec.specs.Step.{tokensAt, taken, made, EnabledAt, play, markingAfter}
 use Rattle.spec.specs.Record.{RunRecord, transitionOf}
 use Rattle.spec.specs.Process.{Process, WellFormed}
@@ -20,7 +20,7 @@ use Rattle.spec.specs.Runs.{EnabledSequence, KeepsOrder, markingAt, asSteps}
 use Rattle.lists.specs.Laws
 use Rattle.runs.specs.Steps.{play-at, marking-suc, marking-length, marking-beyond}
 use Rattle.runs.specs.Lines.{line-inside}
-use Rattle.runs.specs.Course.{holds, cameAt, leftAt, taken-left, made-came, enough, emptied, came-holds, holds-last}
+use Rattle.runs.specs.Course.{holds, cameAt, leftAt, taken-left, made-came, enough, emptied, present, came-holds, holds-last}
 
 -- ---- the lines as steps
 
@@ -78,6 +78,9 @@ module _ (N : Net) (R : RunRecord) (W : WellFormed N R) (P : Process N R) (lines
   step-enabled : (k : ℕ) → k < length lines → EnabledAt N (marking k) (stepAt R lines k)
   step-enabled k h = record {
     enough = λ p l. omega (arith, balance k p (omega arith) l, next-left k p h l, enough N R W P lines K k p);
+    present = λ p t l i q.
+        let r : (e : ℕ) × In e (getD lines k []) × (transitionOf R e ≡ t) = Memᴰ·of-map (transitionOf R) (getD lines k []) i in
+        omega (arith, balance k p (omega arith) l, came-holds N R W P lines K k p, present N R W P lines K k p (r .0) l (r .1) (ap (reads N p) (r .2) ∙ q));
     clear = λ p t l i q.
         let r : (e : ℕ) × In e (getD lines k []) × (transitionOf R e ≡ t) = Memᴰ·of-map (transitionOf R) (getD lines k []) i in
         omega (arith, balance k p (omega arith) l, emptied N R W P lines K k p (r .0) (r .1) (ap (inhibits N p) (r .2) ∙ q));

@@ -59,7 +59,7 @@ module _ (lim : Limits) (N : Net) (small : N .transitions ≤ 10 ^ mostDigits) w
         let before : take (length s) steps ≡ s = rw e (take-append-seam s (ts ∷ t)) in
         let marking : markingAt N steps (length s) ≡ runOf N s .marking = sym (run-marking N steps (length s)) ∙ ap (λ (z : List (List ℕ)). runOf N z .marking) before in
         let known : (x : ℕ) → In x ts → x < N .transitions = λ x m. E .known (length s) x l (rw here m) in
-        let fits : Fits lim (recordFor N (s ++ ts ∷ [])) = fits-beginning lim N (s ++ ts ∷ []) t (rw (append-snoc s ts t, ← e) F) in
+        let fits : Fits lim (recordFor N (s ++ ts ∷ [])) = fits-beginning lim N (s ++ ts ∷ []) t (rw (append-snoc s ts t, ← e) E) (rw (append-snoc s ts t, ← e) F) in
         takes-line S-letter (map Number ts)
         (line-played (1 + length s) ts (runOf N s) (rw here at (E .full (length s) l)) known (rw (here, marking) at (E .enabled (length s) l)) (rw (run-snoc N s ts) at fits)
         ∙ ap gives (sym (run-snoc N s ts)))

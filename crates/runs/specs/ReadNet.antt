@@ -1,20 +1,20 @@
 -- The text of declarations, each allowed below those above it, is read, and gives the net that they declare.
 use mathlib.Core.Path.{_≡_, ap, _∙_}
-use Prim.Native.Nat.{ℕ, suc, _+_, _^_, _<_}
+use Prim.Native.Nat.{ℕ, suc, _+_, _<_}
 use native.Mathlib.Omega.{arith}
 use mathlib.Core.List.{List, [], _∷_, _++_, append-assoc}
 use borrow.Author.Tests.{lt-ltb, le-ltb, lt-leb}
 use Rattle.spec.specs.Lists.{sum}
 use Rattle.spec.specs.Answer.{gives, _>>=_, _>>_, refuse_at_when_, refuse_at?_}
 use Rattle.spec.specs.Classes.{alike}
-use Rattle.spec.specs.Text.{linesOf, byLines, named, inDigits, classOf, isA, isOnly, mostDigits}
+use Rattle.spec.specs.Text.{linesOf, byLines, named, inDigits, classOf, isA, isOnly}
 use Rattle.spec.specs.Net.{Net, places, withArc, addPlace, addTransition, addArc, addLine, emptyNet, whole, netOf, readNet}
 use Rattle.spec.specs.NetText.{Declaration, newPlace, newTransition, newArc, declarationLine, netBytes, declare, declareAll, declared, Allowed}
 use Rattle.spec.specs.Exactness.{IsNet}
 use Rattle.spec.specs.declared.ArcKind.{ArcKind}
-use Rattle.spec.specs.declared.ArcKind.the-variants.{Input, Output, Inhibitor}
+use Rattle.spec.specs.declared.ArcKind.the-variants.{Input, Output, Inhibitor, Read}
 use Rattle.spec.specs.declared.Field.the-variants.{Number}
-use Rattle.runs.specs.Bytes.{P-letter, T-letter, I-letter, O-letter, H-letter}
+use Rattle.runs.specs.Bytes.{P-letter, T-letter, I-letter, O-letter, H-letter, R-letter}
 use Rattle.runs.specs.Fields.{AllWritable}
 use Rattle.runs.specs.LineForms.{form-back, number-at}
 use Rattle.runs.specs.Readers.{Takes, takes-line, takes-end, takes-all}
@@ -23,12 +23,12 @@ use Rattle.runs.specs.NetLimits.{NetLimits, sound-limits}
 
 module _ (k : ℕ) (n : Net) (L : NetLimits n) where
   -- the numbers that an arc names can be written
-  ends : (p t : ℕ) → p < places n → t < n .transitions → (p < 10 ^ mostDigits) × (t < 10 ^ mostDigits)
-  ends p t l h = (omega (arith, L .places), omega (arith, L .transitions))
+  written : (p t : ℕ) → p < places n → t < n .transitions → AllWritable (Number p ∷ Number t ∷ [])
+  written p t l h = (omega (arith, L .places), (omega (arith, L .transitions), tt))
 
   arc-added : (x : ArcKind) (p t : ℕ) → Allowed n (newArc x p t) → addArc x k p t n ≡ gives (withArc x p t n)
   unfolding addArc _>>_ refuse_at_when_
-  arc-added x p t a = rw (lt-ltb p (places n) (a .0), lt-ltb t (n .transitions) (a .1), a .2)
+  arc-added x p t a = rw (lt-ltb p (places n) (a .0), lt-ltb t (n .transitions) (a .1), a .2, a .3)
 
   line-taken : (d : Declaration) → Allowed n d → Takes addLine k n (declarationLine d) (suc k) (declare n d)
   unfolding declarationLine declare addLine isOnly isA alike classOf named inDigits addPlace addTransition _>>_ refuse_at_when_
@@ -39,19 +39,21 @@ module _ (k : ℕ) (n : Net) (L : NetLimits n) where
   line-taken newTransition a = takes-line T-letter [] (simp (form-back T-letter [] tt) (rw (lt-leb 32 (n .transitions) a)))
   line-taken (newArc Input p t) a =
       let fs = Number p ∷ Number t ∷ [] in
-      let e = ends p t (a .0) (a .1) in
-      let w : AllWritable fs = (e .0, (e .1, tt)) in
+      let w = written p t (a .0) (a .1) in
       takes-line I-letter fs (simp (form-back I-letter fs w, number-at I-letter fs w) (arc-added Input p t a))
   line-taken (newArc Output p t) a =
       let fs = Number t ∷ Number p ∷ [] in
-      let e = ends p t (a .0) (a .1) in
-      let w : AllWritable fs = (e .1, (e .0, tt)) in
+      let e = written p t (a .0) (a .1) in
+      let w : AllWritable fs = (e .1 .0, (e .0, tt)) in
       takes-line O-letter fs (simp (form-back O-letter fs w, number-at O-letter fs w) (arc-added Output p t a))
   line-taken (newArc Inhibitor p t) a =
       let fs = Number p ∷ Number t ∷ [] in
-      let e = ends p t (a .0) (a .1) in
-      let w : AllWritable fs = (e .0, (e .1, tt)) in
+      let w = written p t (a .0) (a .1) in
       takes-line H-letter fs (simp (form-back H-letter fs w, number-at H-letter fs w) (arc-added Inhibitor p t a))
+  line-taken (newArc Read p t) a =
+      let fs = Number p ∷ Number t ∷ [] in
+      let w = written p t (a .0) (a .1) in
+      takes-line R-letter fs (simp (form-back R-letter fs w, number-at R-letter fs w) (arc-added Read p t a))
 
 -- what stands above a line is sound too
 above-sound : (ds above below : List Declaration) (d : Declaration) → Sound emptyNet ds → ds ≡ above ++ d ∷ below → Sound emptyNet above

@@ -4,10 +4,10 @@ use mathlib.Core.Path.{_≡_, refl, sym, ap, _∙_}
 use mathlib.Core.Logic.{_≢_, inl, inr}
 use Prim.Native.Nat.{ℕ, suc, _+_, _*_, _≤_, _<_, zero-le}
 use native.Mathlib.Nat.{le-refl, le-trans, le-of-eq}
-use native.Mathlib.Decide.{ℕ-discrete}
+use native.Mathlib.Decide.{ℕ-discrete, decLe}
 use native.Mathlib.Omega.{arith}
-use mathlib.Core.Bool.{true, false, not, _&&_}
-use mathlib.Core.Option.{none, some}
+use mathlib.Core.Bool.{true, false, not, _&&_, _||_}
+use mathlib.Core.Option.{some}
 use mathlib.Core.List.{List, [], _∷_, _++_, map, List·Memᴰ·head, List·Memᴰ·tail, List·Memᴰ·not-nil}
 use lib.ListN.{length, length-append, length-map}
 use lib.Dec.{eqb, ltb, leb}
@@ -16,74 +16,68 @@ use Rattle.spec.specs.Lists.{In, upTo, any, count, first, flat, isIn}
 use Rattle.spec.specs.Order.{hasPath, isStrictlyBefore, isNotLater}
 use Rattle.spec.specs.Text.{Line, linesOf, byLines}
 use Rattle.spec.specs.Forms.{number, numberOrDash, isLine, numberAt, numbersOf}
-use Rattle.spec.specs.Net.{Net, Arc, places, arcKindCode, isArc, joined, withPlace, withTransition, withArc, addPlace, addTransition, addArc, addLine, emptyNet, lacking, whole, netOf}
-use Rattle.spec.specs.Record.{RunRecord, Condition, Mark, isAt, marked, bench}
+use Rattle.spec.specs.Net.{Net, Arc, places, joined, readAndConsumed, withPlace, withTransition, withArc, addPlace, addTransition, addArc, addLine, emptyNet, lacking, whole, netOf}
+use Rattle.spec.specs.Record.{RunRecord, Condition, Mark, slotOf, isAt, marked, bench}
 use Rattle.spec.specs.Building.{Run, start, inStep, playStep, isStepLine, logLine, playLog, built}
 use Rattle.spec.specs.Checking.{withEvent, withCondition, withMark, enterEvent, enterCondition, enterMark, conditionOf, markIn, enterLine, emptyRecord, obeys, readRecord}
 use Rattle.spec.specs.Replaying.{isGroupLine, repeats, late, breaks, groupsLine, missing, readArrangement}
 use Rattle.spec.specs.Exactness.{IsProcess}
 use Rattle.spec.specs.Refusals.{netRefusals, logRefusals, recordRefusals, arrangementRefusals}
 use Rattle.spec.specs.declared.ArcKind.{ArcKind}
-use Rattle.spec.specs.declared.ArcKind.the-variants.{Input, Output, Inhibitor}
-use Rattle.spec.specs.declared.MarkKind.the-variants.{Before, After}
-use Rattle.lists.specs.Laws.{true-or-false, clash, and-true, true-and, or-true, or-false, not-is-true, not-is-false, one-le, count-cons, count-append, count-none, count-in, count-same, count-true, count-false, eqb-sym, neqb-count, any-none, any-found, all-below, in-upTo, flat-long}
+use Rattle.spec.specs.declared.ArcKind.the-variants.{Input, Output, Inhibitor, Read}
+use Rattle.spec.specs.declared.MarkKind.the-variants.{Before, After, Read as ReadMark}
+use Rattle.lists.specs.Laws.{and-true, true-and, or-true, or-false, true-or-l, true-or-r, not-is-true, not-is-false, one-le, count-cons, count-append, count-none, count-in, count-le, count-found, count-same, eqb-sym, neqb-count, any-none, any-found, all-below, in-upTo, flat-long}
 use Rattle.runs.specs.Bytes.{S-letter, G-letter}
 use Rattle.runs.specs.Texts.{list-line}
 use Rattle.runs.specs.Closure.{strict-is}
+use Rattle.runs.specs.ArcSlots.{arcSlot, slots-few, inSlot, slot-taken, SlotsOnce, slots-more}
 use Rattle.runs.specs.ReadArrangement.{once-each, Lined, lined-snoc, no-lines}
 use Rattle.runs.specs.Within.{listed, Within, given-within, refused-within, when-within, cond-within, seq-within, lowest-within, bind-within, lines-within, has-some, few}
 
 -- ---- nets
 
--- arcs between things below 32 by number: 3 · 32 · 32 of them
+-- the slots of arcs between things below 32 by number: 3 · 32 · 32 of them
 abbrev arcCode : Arc → ℕ
-arcCode a = arcKindCode (a .kind) * 1024 + a .place * 32 + a .transition
+arcCode a = arcSlot (a .kind) * 1024 + a .place * 32 + a .transition
 
-kinds : (x : ArcKind) → arcKindCode x ≤ 2
-kinds Input = omega arith
-kinds Output = omega arith
-kinds Inhibitor = omega arith
-
--- line k is next, and each line before it added a place, a transition or an arc that was not there
+-- line k is next, and each line before it added a place, a transition or an arc whose slot was free
 record Drafted (k : ℕ) (n : Net) : Type 0 where
   next : k ≡ 1 + places n + n .transitions + length (n .arcs)
   places : places n ≤ 32
   transitions : n .transitions ≤ 32
   declared : (a : Arc) → In a (n .arcs) → (a .place < 32) × (a .transition < 32)
-  once : (c : ℕ) → count (λ a. eqb (arcCode a) c) (n .arcs) ≤ 1
+  once : SlotsOnce n
 
 nothing : Drafted 1 emptyNet
 unfolding emptyNet count
-nothing = record { next = refl; places = zero-le; transitions = zero-le; declared = λ a i. absurd (List·Memᴰ·not-nil i); once = λ c. zero-le }
+nothing = record { next = refl; places = zero-le; transitions = zero-le; declared = λ a i. absurd (List·Memᴰ·not-nil i); once = λ s p t. zero-le }
 
 module _ {k : ℕ} {n : Net} (D : Drafted k n) where
+  -- arcs with the same number stand in the same slot
+  same-slot : (a b : Arc) → In a (n .arcs) → In b (n .arcs) → arcCode a ≡ arcCode b → inSlot (arcSlot (a .kind)) (a .place) (a .transition) b ≡ true
+  unfolding inSlot
+  same-slot a b i j e =
+      let x = D .declared a i in
+      let y = D .declared b j in
+      let f : arcSlot (b .kind) ≡ arcSlot (a .kind) = omega (arith, x .0, x .1, y .0, y .1) in
+      let g : b .place ≡ a .place = omega (arith, x .0, x .1, y .0, y .1) in
+      true-and (true-and (eq-eqb _ _ f) (eq-eqb _ _ g)) (eq-eqb (b .transition) (a .transition) (omega arith))
+
+  code-once : (c : ℕ) → count (λ a. eqb (arcCode a) c) (n .arcs) ≤ 1
+  code-once c = elim (decLe (count (λ a. eqb (arcCode a) c) (n .arcs)) 0) [
+    | yes h ↦ omega arith
+    | no h ↦
+        let r : (a : Arc) × In a (n .arcs) × (eqb (arcCode a) c ≡ true) = count-found (λ a. eqb (arcCode a) c) (n .arcs) (omega arith) in
+        let a = r .0 in
+        le-trans (count-le _ (inSlot (arcSlot (a .kind)) (a .place) (a .transition)) (n .arcs)
+        (λ b i e. same-slot a b (r .1) i (eqb-true (arcCode a) c (r .2) ∙ sym (eqb-true (arcCode b) c e)))) (D .once (arcSlot (a .kind)) (a .place) (a .transition))
+  ]
+
   arcs-few : length (n .arcs) ≤ 3072
-  arcs-few = few arcCode 3072 (n .arcs) (λ a i. let z = D .declared a i in omega (arith, kinds (a .kind), z .0, z .1)) (D .once)
+  arcs-few = few arcCode 3072 (n .arcs) (λ a i. let z = D .declared a i in omega (arith, slots-few (a .kind), z .0, z .1)) code-once
 
   spot-few : (1 ≤ k) × (k ≤ 3137)
   spot-few = (omega (arith, D .next), omega (arith, D .next, D .places, D .transitions, arcs-few))
-
-  -- an arc that the net does not have has a number of its own
-  number-new : (x : ArcKind) (p t c : ℕ) → p < 32 → t < 32 → joined n x p t ≡ false → arcKindCode x * 1024 + p * 32 + t ≡ c → (a : Arc) → In a (n .arcs) → eqb (arcCode a) c ≡ false
-  unfolding joined isArc
-  number-new x p t c h l e q a i = elim (true-or-false (eqb (arcCode a) c)) [
-    | inl r ↦
-        let b = D .declared a i in
-        let z : arcCode a ≡ c = eqb-true (arcCode a) c r in
-        let f : arcKindCode (a .kind) ≡ arcKindCode x = omega (arith, b .0, b .1) in
-        let g : a .place ≡ p = omega (arith, b .0, b .1) in
-        clash (true-and (true-and (eq-eqb _ _ f) (eq-eqb _ _ g)) (eq-eqb (a .transition) t (omega arith))) (any-none (isArc x p t) (n .arcs) e a i)
-    | inr r ↦ r
-  ]
-
-  arc-once : (x : ArcKind) (p t : ℕ) → p < 32 → t < 32 → joined n x p t ≡ false → (c : ℕ) → count (λ a. eqb (arcCode a) c) (withArc x p t n .arcs) ≤ 1
-  unfolding withArc
-  arc-once x p t h l e c =
-      let m = count-cons (λ a. eqb (arcCode a) c) (record { kind = x; place = p; transition = t }) (n .arcs) in
-      elim (true-or-false (eqb (arcKindCode x * 1024 + p * 32 + t) c)) [
-        | inl q ↦ omega (arith, m, count-true q, count-none (λ a. eqb (arcCode a) c) (n .arcs) (number-new x p t c h l e (eqb-true _ c q)))
-        | inr q ↦ omega (arith, m, count-false q, D .once c)
-      ]
 
   place-within : (v : ℕ) → Within (Drafted (suc k)) netRefusals (addPlace k v n)
   unfolding addPlace withPlace first
@@ -106,19 +100,23 @@ module _ {k : ℕ} {n : Net} (D : Drafted k n) where
   })
 
   arc-within : (x : ArcKind) (p t : ℕ) → Within (Drafted (suc k)) netRefusals (addArc x k p t n)
-  unfolding addArc withArc joined first
+  unfolding addArc withArc first
   arc-within x p t = when-within 13 k _ _ (λ d. listed netRefusals 13 refl spot-few) λ d.
       let z = and-true (ltb p (places n)) (ltb t (n .transitions)) (not-is-false _ d) in
       let i = ltb-true p (places n) (z .0) in
       let j = ltb-true t (n .transitions) (z .1) in
       let h : p < 32 = omega (arith, D .places) in
       let l : t < 32 = omega (arith, D .transitions) in
-      when-within 14 k _ _ (λ e. listed netRefusals 14 refl (omega (arith, D .next, has-some (isArc x p t) (n .arcs) e), spot-few .1)) λ e. given-within (record {
+      let slot = slot-taken n p t x in
+      let taken : (joined n x p t || readAndConsumed n x p t) ≡ true → (4 ≤ k) × (k ≤ 3137) =
+      λ e. (omega (arith, D .next, has-some (inSlot (arcSlot x) p t) (n .arcs) (slot ∙ e)), spot-few .1) in
+      when-within 14 k _ _ (λ e. listed netRefusals 14 refl (taken (true-or-l (readAndConsumed n x p t) e))) λ e.
+      when-within 51 k _ _ (λ f. listed netRefusals 51 refl (taken (true-or-r (joined n x p t) f))) λ f. given-within (record {
         next = omega (arith, D .next);
         places = D .places;
         transitions = D .transitions;
         declared = λ a i. elim i [ List·Memᴰ·head q ↦ rw q (h, l) | List·Memᴰ·tail j ↦ D .declared a j ];
-        once = arc-once x p t h l e;
+        once = slots-more n x p t (D .once) e f;
       })
 
   line-within : (l : Line) → Within (Drafted (suc k)) netRefusals (addLine k l n)
@@ -129,7 +127,8 @@ module _ {k : ℕ} {n : Net} (D : Drafted k n) where
       let b : ℕ = numberAt l 1 in
       cond-within (isLine "P" (number ∷ []) l) _ _ (place-within a) (cond-within (isLine "T" [] l) _ _ transition-within
       (cond-within (isLine "I" two l) _ _ (arc-within Input a b) (cond-within (isLine "O" two l) _ _ (arc-within Output b a)
-      (cond-within (isLine "H" two l) _ _ (arc-within Inhibitor a b) (refused-within (listed netRefusals 11 refl spot-few))))))
+      (cond-within (isLine "H" two l) _ _ (arc-within Inhibitor a b) (cond-within (isLine "R" two l) _ _ (arc-within Read a b)
+      (refused-within (listed netRefusals 11 refl spot-few)))))))
 
   whole-within : Within (λ m. Unit) netRefusals (whole n)
   unfolding whole first
@@ -212,7 +211,7 @@ module _ (N : Net) {k : ℕ} {r : RunRecord} (D : Entered k r) where
       let z = and-true (ltb (m .condition) (length (r .conditions))) (ltb (m .event) (length (r .events))) (not-is-false _ c) in
       let i = ltb-true (m .condition) (length (r .conditions)) (z .0) in
       let j = ltb-true (m .event) (length (r .events)) (z .1) in
-      when-within 34 k _ _ (λ e. listed recordRefusals 34 refl (omega (arith, D .next, has-some (isAt (m .condition) (m .event)) (r .marks) e), spot)) λ d.
+      when-within 34 k _ _ (λ e. listed recordRefusals 34 refl (omega (arith, D .next, has-some (isAt (slotOf (m .kind)) (m .condition) (m .event)) (r .marks) e), spot)) λ d.
       let more = length-append (r .marks) (m ∷ []) in
       given-within (record { next = omega (arith, D .next); events = D .events; conditions = D .conditions; marks = omega arith })
 
@@ -223,7 +222,7 @@ module _ (N : Net) {k : ℕ} {r : RunRecord} (D : Entered k r) where
       let three = number ∷ numberOrDash ∷ numberOrDash ∷ [] in
       cond-within (isLine "E" (number ∷ []) l) _ _ (event-within (numberAt l 0)) (cond-within (isLine "C" three l) _ _ (condition-within (conditionOf l))
       (cond-within (isLine "B" two l) _ _ (mark-within (markIn Before l)) (cond-within (isLine "A" two l) _ _ (mark-within (markIn After l))
-      (refused-within (listed recordRefusals 31 refl record-spot)))))
+      (cond-within (isLine "R" two l) _ _ (mark-within (markIn ReadMark l)) (refused-within (listed recordRefusals 31 refl record-spot))))))
 
 -- the rules that are judged after all lines
 rules-within : (N : Net) (r : RunRecord) → places N ≤ 32 → length (r .events) ≤ 128 → Within (λ u. Unit) recordRefusals (obeys N r)

@@ -1,5 +1,5 @@
 -- A record text that is read is the text of the record that was read: a well-formed one, within the limits, that marks no
--- condition and event twice.
+-- condition and event twice in one slot.
 use mathlib.Core.Path.{_≡_, refl, sym, ap, _∙_, subst}
 use mathlib.Core.Logic.{inl, inr}
 use Prim.Native.Nat.{ℕ, _<_, zero-le}
@@ -7,22 +7,23 @@ use native.Mathlib.Omega.{arith}
 use mathlib.Core.Bool.{true, false}
 use mathlib.Core.List.{List, [], _∷_, _++_, map, append-nil, append-assoc, List·Memᴰ·not-nil}
 use lib.ListN.{length, length-append}
-use lib.Dec.{eqb, ltb}
-use borrow.Author.Tests.{ltb-true, leb-false, eqb-true}
+use lib.Dec.{ltb}
+use borrow.Author.Tests.{ltb-true, leb-false}
 use Rattle.spec.specs.Lists.{In, any, count, flat}
 use Rattle.spec.specs.Answer.{gives}
 use Rattle.spec.specs.Text.{Line, linesOf, byLines}
 use Rattle.spec.specs.Forms.{number, numberOrDash, isLine, eventAt, numberAt}
 use Rattle.spec.specs.Net.{Net, places}
-use Rattle.spec.specs.Record.{RunRecord, Condition, Mark, isAt, marked, eventLine, conditionLine, markLineOf, markLine, recordBytes}
+use Rattle.spec.specs.Record.{RunRecord, Condition, Mark, slotOf, isAt, marked, eventLine, conditionLine, markLineOf, markLine, recordBytes}
 use Rattle.spec.specs.Process.{WellFormed, isBelow}
 use Rattle.spec.specs.Checking.{isEmpty, withEvent, withCondition, withMark, enterEvent, enterCondition, enterMark, conditionOf, markIn, enterLine, emptyRecord}
 use Rattle.spec.specs.declared.Limits.{Limits}
-use Rattle.spec.specs.declared.MarkKind.the-variants.{Before, After}
+use Rattle.spec.specs.declared.MarkKind.the-variants.{Before, After, Read}
 use Rattle.lists.specs.Laws.{clash, true-or-false, and-true, and-three, not-is-false, all-snoc, any-none, count-none, count-append, count-cons, count-false, one-le, flat-map-snoc}
-use Rattle.runs.specs.Bytes.{E-letter, C-letter, B-letter, A-letter}
+use Rattle.runs.specs.Bytes.{E-letter, C-letter, B-letter, A-letter, R-letter}
 use Rattle.runs.specs.Answers.{of-gives, not-refused, of-when, of-cond}
 use Rattle.runs.specs.Texts.{lineBytes, form-line}
+use Rattle.runs.specs.MarkSlots.{at-is}
 use Rattle.runs.specs.Readers.{text-keeps}
 use Rattle.runs.specs.ReadRecord.{Fits, MarksOnce}
 
@@ -67,19 +68,19 @@ empty-nil (x ∷ xs) h = clash h refl
 in-empty : {A X : Type 0} (x : A) (xs : List A) → xs ≡ [] → In x xs → X
 in-empty x xs e m = absurd (List·Memᴰ·not-nil (subst (λ z. In x z) e m))
 
--- one mark more, at a condition and event that had none
-marks-once : (r : RunRecord) (m : Mark) → MarksOnce r → marked r (m .condition) (m .event) ≡ false → MarksOnce (withMark m r)
+-- one mark more, in a slot of its condition and event that had none
+marks-once : (r : RunRecord) (m : Mark) → MarksOnce r → marked r (slotOf (m .kind)) (m .condition) (m .event) ≡ false → MarksOnce (withMark m r)
 unfolding withMark count
-marks-once r m h q c e =
-    let both = count-append (isAt c e) (r .marks) (m ∷ []) in
-    let new = count-cons (isAt c e) m [] in
-    elim (true-or-false (isAt c e m)) [
-      | inl a ↦ omega (arith, one-le (isAt c e m), count-none (isAt c e) (r .marks) (any-none (isAt c e) (r .marks) (here-none a)))
-      | inr a ↦ omega (arith, count-false a, h c e)
+marks-once r m h q s c e =
+    let both = count-append (isAt s c e) (r .marks) (m ∷ []) in
+    let new = count-cons (isAt s c e) m [] in
+    elim (true-or-false (isAt s c e m)) [
+      | inl a ↦ omega (arith, one-le (isAt s c e m), count-none (isAt s c e) (r .marks) (any-none (isAt s c e) (r .marks) (here-none a)))
+      | inr a ↦ omega (arith, count-false a, h s c e)
     ]
   where
-    here-none : isAt c e m ≡ true → any (isAt c e) (r .marks) ≡ false
-    here-none a = unfold isAt marked in (let z = and-true (eqb (m .condition) c) (eqb (m .event) e) a in rw (← eqb-true (m .condition) c (z .0), ← eqb-true (m .event) e (z .1)) q)
+    here-none : isAt s c e m ≡ true → any (isAt s c e) (r .marks) ≡ false
+    here-none a = unfold marked in (let z = at-is s c e m .0 a in rw (← z .0, ← z .1, ← z .2) q)
 
 module _ (lim : Limits) (N : Net) (k : ℕ) (r s : RunRecord) (done : List ℕ) (I : IsRecord lim N done r) where
   abbrev W : WellFormed N r
@@ -171,7 +172,8 @@ module _ (lim : Limits) (N : Net) (k : ℕ) (r s : RunRecord) (done : List ℕ) 
       of-cond (isLine "E" (number ∷ []) l) _ _ h (λ t q. rw (form-line E-letter (number ∷ []) l t) (event-entered (numberAt l 0) q)) λ h.
       of-cond (isLine "C" three l) _ _ h (λ t q. rw (form-line C-letter three l t) (condition-entered (conditionOf l) q)) λ h.
       of-cond (isLine "B" two l) _ _ h (λ t q. rw (form-line B-letter two l t) (mark-entered (markIn Before l) q)) λ h.
-      of-cond (isLine "A" two l) _ _ h (λ t q. rw (form-line A-letter two l t) (mark-entered (markIn After l) q)) not-refused
+      of-cond (isLine "A" two l) _ _ h (λ t q. rw (form-line A-letter two l t) (mark-entered (markIn After l) q)) λ h.
+      of-cond (isLine "R" two l) _ _ h (λ t q. rw (form-line R-letter two l t) (mark-entered (markIn Read l) q)) not-refused
 
 -- ---- a text
 
@@ -188,7 +190,7 @@ nothing lim N = record {
     events = λ x m. absurd (List·Memᴰ·not-nil m);
   };
   fits = record { events = zero-le; conditions = zero-le; marks = zero-le };
-  once = λ c e. zero-le;
+  once = λ s c e. zero-le;
 }
 
 pub record-text : (lim : Limits) (N : Net) (text : List ℕ) (R : RunRecord) → byLines (enterLine lim N) 1 (linesOf text) emptyRecord ≡ gives R → IsRecord lim N text R

@@ -20,7 +20,7 @@ use Rattle.spec.specs.Arranging.{groupLine, arrangementBytes}
 use Rattle.spec.specs.declared.Field.{Field}
 use Rattle.spec.specs.declared.Field.the-variants.{Number}
 use Rattle.spec.specs.declared.MarkKind.{MarkKind}
-use Rattle.spec.specs.declared.MarkKind.the-variants.{Before, After}
+use Rattle.spec.specs.declared.MarkKind.the-variants.{Before, After, Read}
 use Rattle.lists.specs.Laws.{here, there, flat-long, flat-wide, once-length}
 use Rattle.runs.specs.Digits.{width}
 use Rattle.runs.specs.Lines.{first-inside}
@@ -53,10 +53,15 @@ event-wide n (some e) l h = number-wide 3 e (omega arith) (le-trans (ltb-true e 
 
 -- ---- a record: 5 bytes for an event, 13 for a condition, 10 for a mark
 
+marked-wide : (l : Char) (c e : ℕ) → c < 1000 → e < 1000 → length (lineWith l (Number c ∷ Number e ∷ [])) ≤ 10
+unfolding sumOf
+marked-wide l c e i h = omega (arith, line-wide l (Number c ∷ Number e ∷ []), number-wide 3 c (omega arith) i, number-wide 3 e (omega arith) h)
+
 mark-wide : (x : MarkKind) (c e : ℕ) → c < 1000 → e < 1000 → length (markLineOf x c e) ≤ 10
-unfolding markLineOf sumOf
-mark-wide Before c e l h = omega (arith, line-wide "B" (Number c ∷ Number e ∷ []), number-wide 3 c (omega arith) l, number-wide 3 e (omega arith) h)
-mark-wide After c e l h = omega (arith, line-wide "A" (Number c ∷ Number e ∷ []), number-wide 3 c (omega arith) l, number-wide 3 e (omega arith) h)
+unfolding markLineOf
+mark-wide Before c e l h = marked-wide "B" c e l h
+mark-wide After c e l h = marked-wide "A" c e l h
+mark-wide Read c e l h = marked-wide "R" c e l h
 
 module _ (N : Net) (R : RunRecord) (L : NetLimits N) (W : WellFormed N R) (F : Fits bench R) where
   events-wide : (t : ℕ) → In t (R .events) → length (eventLine t) ≤ 5

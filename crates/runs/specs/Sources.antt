@@ -13,14 +13,14 @@ use Rattle.spec.specs.Record.{RunRecord, Condition, Mark, conditionAt, noCondit
 use Rattle.spec.specs.Order.{Pair, pairOf, conditionPair, markPairOf, markPair, pairs}
 use Rattle.spec.specs.Process.{WellFormed, isBelow}
 use Rattle.spec.specs.declared.MarkKind.{MarkKind}
-use Rattle.spec.specs.declared.MarkKind.the-variants.{Before, After}
+use Rattle.spec.specs.declared.MarkKind.the-variants.{Before, After, Read}
 use Rattle.lists.specs.Laws
 use Rattle.runs.specs.Pairs.{Bounded}
 
 abbrev pub between : ℕ → ℕ → Bool → Pair
 between e f s = record { source = e; target = f; strict = s }
 
--- ---- the pair of a condition, of a mark B and of a mark A
+-- ---- the pair of a condition, of a mark B and of a mark A, and the two of a mark R
 
 module _ (R : RunRecord) where
   pub condition-pair : {c : Condition} → In c (R .conditions) → {e f : ℕ} → c .producer ≡ some e → c .consumer ≡ some f → In (between e f true) (pairs R)
@@ -39,6 +39,14 @@ module _ (R : RunRecord) where
   unfolding markPair markPairOf pairOf
   after-pair i k p = mark-pair i (rw (k, p) Laws.here)
 
+  pub made-read : {m : Mark} → In m (R .marks) → m .kind ≡ Read → {g : ℕ} → conditionAt R (m .condition) .producer ≡ some g → In (between g (m .event) true) (pairs R)
+  unfolding markPair markPairOf pairOf
+  made-read i k p = mark-pair i (rw (k, p) Laws.here)
+
+  pub read-taken : {m : Mark} → In m (R .marks) → m .kind ≡ Read → {f : ℕ} → conditionAt R (m .condition) .consumer ≡ some f → In (between (m .event) f false) (pairs R)
+  unfolding markPair markPairOf pairOf
+  read-taken {m} i k p = mark-pair i (rw k (Memᴰ·append-right (pairOf (conditionAt R (m .condition) .producer) (some (m .event)) true) (rw p Laws.here)))
+
 -- ---- there are no others: what holds of those holds of every pair
 
 in-pair : (X : Pair → Type 0) {q : Pair} (a d : Option ℕ) (s : Bool) → ((e f : ℕ) → a ≡ some e → d ≡ some f → X (between e f s)) → In q (pairOf a d s) → X q
@@ -51,9 +59,11 @@ pub each-pair : (R : RunRecord) (X : Pair → Type 0)
     → ((c : Condition) → In c (R .conditions) → (e f : ℕ) → c .producer ≡ some e → c .consumer ≡ some f → X (between e f true))
     → ((m : Mark) → In m (R .marks) → m .kind ≡ Before → (g : ℕ) → conditionAt R (m .condition) .producer ≡ some g → X (between (m .event) g false))
     → ((m : Mark) → In m (R .marks) → m .kind ≡ After → (f : ℕ) → conditionAt R (m .condition) .consumer ≡ some f → X (between f (m .event) true))
+    → ((m : Mark) → In m (R .marks) → m .kind ≡ Read → (g : ℕ) → conditionAt R (m .condition) .producer ≡ some g → X (between g (m .event) true))
+    → ((m : Mark) → In m (R .marks) → m .kind ≡ Read → (f : ℕ) → conditionAt R (m .condition) .consumer ≡ some f → X (between (m .event) f false))
     → (q : Pair) → In q (pairs R) → X q
 unfolding pairs conditionPair markPair markPairOf
-each-pair R X x y z q i = elim (List·Memᴰ·append-cases (flat (map conditionPair (R .conditions))) i) [
+each-pair R X x y z u v q i = elim (List·Memᴰ·append-cases (flat (map conditionPair (R .conditions))) i) [
   | inl a ↦
       let r : (c : Condition) × In c (R .conditions) × In q (conditionPair c) = Laws.in-flat-map conditionPair (R .conditions) a in
       in-pair X (r .0 .producer) (r .0 .consumer) true (x (r .0) (r .1)) (r .2)
@@ -65,6 +75,10 @@ each-pair R X x y z q i = elim (List·Memᴰ·append-cases (flat (map conditionP
     mark : (m : Mark) → In m (R .marks) → (k : MarkKind) → m .kind ≡ k → In q (markPairOf k (conditionAt R (m .condition)) (some (m .event))) → X q
     mark m i Before k j = in-pair X _ (conditionAt R (m .condition) .producer) false (λ e g p r. let s : m .event ≡ e = cc in rw (← s) (y m i k g r)) j
     mark m i After k j = in-pair X (conditionAt R (m .condition) .consumer) _ true (λ f e r p. let s : m .event ≡ e = cc in rw (← s) (z m i k f r)) j
+    mark m i Read k j = elim (List·Memᴰ·append-cases (pairOf (conditionAt R (m .condition) .producer) (some (m .event)) true) j) [
+      | inl a ↦ in-pair X (conditionAt R (m .condition) .producer) _ true (λ g e r p. let s : m .event ≡ e = cc in rw (← s) (u m i k g r)) a
+      | inr a ↦ in-pair X _ (conditionAt R (m .condition) .consumer) false (λ e f p r. let s : m .event ≡ e = cc in rw (← s) (v m i k f r)) a
+    ]
 
 -- ---- well-formed records
 
@@ -87,3 +101,5 @@ module _ (N : Net) (R : RunRecord) (W : WellFormed N R) where
       (λ c i e f p q. (producer-below i p, consumer-below i q))
       (λ m i k g p. (W .events m i, producer-below (marked-in m i) p))
       (λ m i k f p. (consumer-below (marked-in m i) p, W .events m i))
+      (λ m i k g p. (producer-below (marked-in m i) p, W .events m i))
+      (λ m i k f p. (W .events m i, consumer-below (marked-in m i) p))

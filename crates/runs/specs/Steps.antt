@@ -11,16 +11,22 @@ use lib.Seq.{take-suc}
 use lib.Dec.{ltb}
 use borrow.Author.Tests.{ltb-false, le-ltb}
 use Rattle.spec.specs.Lists.{any, upTo}
-use Rattle.spec.specs.Net.{Net, places, inhibits}
-use Rattle.spec.specs.Step.{tokensAt, taken, made, EnabledAt, short, inhibited, play, markingAfter}
+use Rattle.spec.specs.Net.{Net, places, inhibits, reads}
+use Rattle.spec.specs.Step.{tokensAt, taken, made, needed, EnabledAt, short, inhibited, play, markingAfter}
 use Rattle.spec.specs.Runs.{markingAt}
 use Rattle.lists.specs.Laws
 
 module _ (N : Net) (m step : List ℕ) where
+  -- what a step needs of a place is there
+  not-fewer : short N m step ≡ false → (p : ℕ) → p < places N → needed N step p ≤ tokensAt m p
+  unfolding short
+  not-fewer h p l = ltb-false _ _ (Laws.any-none (λ p. ltb (tokensAt m p) (needed N step p)) _ h p (Laws.upTo-in (places N) l))
+
   tests-enabled : short N m step ≡ false → inhibited N m step ≡ false → EnabledAt N m step
-  unfolding short inhibited
+  unfolding inhibited needed
   tests-enabled a b = record {
-    enough = λ p l. ltb-false _ _ (Laws.any-none (λ p. ltb (tokensAt m p) (taken N step p)) _ a p (Laws.upTo-in (places N) l));
+    enough = λ p l. omega (arith, not-fewer a p l);
+    present = λ p t l i h. omega (arith, not-fewer a p l, Laws.count-true (Laws.any-in (reads N p) t step i h));
     clear = λ p t l i h. elim (Laws.and-false (ltb 0 (tokensAt m p)) (any (inhibits N p) step) (Laws.any-none (λ p. ltb 0 (tokensAt m p) && any (inhibits N p) step) _ b p (Laws.upTo-in (places N) l))) [
       | inl z ↦ omega (arith, ltb-false 0 (tokensAt m p) z)
       | inr z ↦ Laws.clash (Laws.any-in (inhibits N p) t step i h) z
@@ -28,8 +34,13 @@ module _ (N : Net) (m step : List ℕ) where
   }
 
   not-short : EnabledAt N m step → short N m step ≡ false
-  unfolding short
-  not-short E = Laws.none-any _ (upTo (places N)) (λ p i. le-ltb _ _ (E .enough p (Laws.in-upTo (places N) i)))
+  unfolding short needed
+  not-short E = Laws.none-any _ (upTo (places N)) (λ p i.
+      let l : p < places N = Laws.in-upTo (places N) i in
+      le-ltb (tokensAt m p) (needed N step p) (elim (Laws.true-or-false (any (reads N p) step)) [
+        | inl a ↦ let r = Laws.any-found (reads N p) step a in omega (arith, E .enough p l, E .present p (r .0) l (r .1) (r .2), Laws.count-true a)
+        | inr a ↦ omega (arith, E .enough p l, Laws.count-false a)
+      ]))
 
   not-inhibited : EnabledAt N m step → inhibited N m step ≡ false
   unfolding inhibited
