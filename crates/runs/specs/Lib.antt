@@ -44,3 +44,5 @@ pub mod Within
 pub mod ReaderSpots
 pub mod Spots
 pub mod Summary
+pub mod Readless
+pub mod WithoutReads

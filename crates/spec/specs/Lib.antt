@@ -23,6 +23,8 @@ pub mod Exactness
 pub mod Computed
 pub mod Demand
 pub mod Refusals
+pub mod BeforeReads
+pub mod WithoutReads
 pub mod Quoted
 pub mod Opening
 pub mod Cases
