@@ -61,6 +61,7 @@ fn of_net_refusal(x: NetRefusal) -> Numbers
         NetRefusal::LimitPassed(k) => refused(12, k),
         NetRefusal::Undeclared(k) => refused(13, k),
         NetRefusal::ArcRepeated(k) => refused(14, k),
+        NetRefusal::ReadAndConsumed(k) => refused(51, k),
         NetRefusal::Lacking(t) => refused(15, t),
     }
 }

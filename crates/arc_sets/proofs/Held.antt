@@ -7,7 +7,7 @@ use native.Mathlib.Omega.{arith}
 use lib.Dec.{ltb}
 use lib.ListN.{getD}
 use Rattle.spec.specs.Lists.{asCount}
-use Rattle.spec.specs.Net.{Net, joined, takes, makes, inhibits}
+use Rattle.spec.specs.Net.{Net, joined, takes, makes, inhibits, reads}
 use Rattle.spec.specs.declared.ArcKind.the-variants.{Input, Output}
 use Rattle.columns.specs.Columns.{column, column-at}
 use Rattle.net.specs.NetArrays.{Cells}
@@ -21,7 +21,7 @@ counted-once false = refl
 
 module _ {arcs sets : List ℕ} {m n : ℕ} (l : m ≤ 32) (few : n ≤ 32) (S : SetsOf arcs m n sets) where
   -- the sets of one kind, which is the k-th
-  says : (k : ℕ) {f : ℕ → ℕ → ℕ} (w : ℕ → ℕ → Bool) → k < 3 → ((t p : ℕ) → f t p ≡ asCount (w t p)) → Cells (column (1024 * k) 1024 arcs) f
+  says : (k : ℕ) {f : ℕ → ℕ → ℕ} (w : ℕ → ℕ → Bool) → k < 4 → ((t p : ℕ) → f t p ≡ asCount (w t p)) → Cells (column (1024 * k) 1024 arcs) f
       → (t p : ℕ) → t < n → p < m → arcAt sets (32 * k) t p ≡ f t p
   unfolding arcAt
   says k {f} w h e C t p i j =
@@ -40,5 +40,6 @@ sets-held N e few A S = record {
   inputs = λ t p i j. says (A .few) few S 0 (λ t p. joined N Input p t) (omega arith) (λ t p. refl) (A .inputs) t p (omega arith) j;
   outputs = λ t p i j. says (A .few) few S 1 (λ t p. joined N Output p t) (omega arith) (λ t p. refl) (A .outputs) t p (omega arith) j;
   inhibitors = λ t p i j. says (A .few) few S 2 (λ t p. inhibits N p t) (omega arith) (λ t p. refl) (A .inhibitors) t p (omega arith) j;
+  reads = λ t p i j. says (A .few) few S 3 (λ t p. reads N p t) (omega arith) (λ t p. refl) (A .reads) t p (omega arith) j;
   within = S .within;
 }

@@ -58,17 +58,24 @@ module _ {arcs : List ℕ} {row : ℕ} where
 
 -- ---- all rows
 
+-- an entry once another, or itself, is set
+entry : (P : ℕ → Type 0) (xs : List ℕ) (k v i : ℕ) → k < length xs → (i ≡ k → P v) → ((i ≡ k → ⊥) → P (getD xs i 0)) → P (getD (set xs k v) i 0)
+entry P xs k v i l x o = elim (ℕ-discrete i k) [
+  | yes e ↦ rw (e, getD-set-same xs k v 0 l) (x e)
+  | no d ↦ rw (getD-set-other xs k i v 0 d) (o d)
+]
+
 module _ {arcs : List ℕ} {m : ℕ} where
-  pub sets-none : SetsOf arcs m 0 (replicate 96 0)
+  pub sets-none : SetsOf arcs m 0 (replicate 128 0)
   sets-none = record {
-    long = length-replicate {A = ℕ} 96 0;
+    long = length-replicate {A = ℕ} 128 0;
     rows = λ i h k. absurd (omega arith);
-    within = λ i p h. ap (λ (z : ℕ). bit z p) (blank 96 i) ∙ bit-zero p;
+    within = λ i p h. ap (λ (z : ℕ). bit z p) (blank 128 i) ∙ bit-zero p;
   }
 
-  -- the three sets of the next transition
-  module _ {t a b c : ℕ} {sets : List ℕ} (l : t < 32) (S : SetsOf arcs m t sets)
-      (A : RowSet arcs (32 * t) m a) (B : RowSet arcs (1024 + 32 * t) m b) (C : RowSet arcs (2048 + 32 * t) m c) where
+  -- the four sets of the next transition
+  module _ {t a b c d : ℕ} {sets : List ℕ} (l : t < 32) (S : SetsOf arcs m t sets) (A : RowSet arcs (32 * t) m a) (B : RowSet arcs (1024 + 32 * t) m b)
+      (C : RowSet arcs (2048 + 32 * t) m c) (D : RowSet arcs (3072 + 32 * t) m d) where
     abbrev one : List ℕ
     one = set sets t a
 
@@ -78,28 +85,33 @@ module _ {arcs : List ℕ} {m : ℕ} where
     abbrev three : List ℕ
     three = set two (64 + t) c
 
-    two-long : length two ≡ 96
-    two-long = length-set one (32 + t) b ∙ length-set sets t a ∙ S .long
+    abbrev four : List ℕ
+    four = set three (96 + t) d
+
+    one-long : length one ≡ 128
+    one-long = length-set sets t a ∙ S .long
+
+    two-long : length two ≡ 128
+    two-long = length-set one (32 + t) b ∙ one-long
+
+    three-long : length three ≡ 128
+    three-long = length-set two (64 + t) c ∙ two-long
 
     -- what an entry then is
-    entry : (P : ℕ → ℕ → Type 0) → P t a → P (32 + t) b → P (64 + t) c → ((i : ℕ) → (i ≡ t → ⊥) → (i ≡ 32 + t → ⊥) → (i ≡ 64 + t → ⊥) → P i (getD sets i 0)) → (i : ℕ) → P i (getD three i 0)
-    entry P x y z o i = elim (ℕ-discrete i (64 + t)) [
-      | yes e ↦ rw (e, getD-set-same two (64 + t) c 0 (omega (arith, two-long))) z
-      | no f ↦ rw (getD-set-other two (64 + t) i c 0 f) (elim (ℕ-discrete i (32 + t)) [
-        | yes e ↦ rw (e, getD-set-same one (32 + t) b 0 (omega (arith, length-set sets t a, S .long))) y
-        | no g ↦ rw (getD-set-other one (32 + t) i b 0 g) (elim (ℕ-discrete i t) [
-          | yes e ↦ rw (e, getD-set-same sets t a 0 (omega (arith, S .long))) x
-          | no d ↦ rw (getD-set-other sets t i a 0 d) (o i d g f)
-        ])
-      ])
-    ]
+    entries : (P : ℕ → Type 0) (i : ℕ) → (i ≡ t → P a) → (i ≡ 32 + t → P b) → (i ≡ 64 + t → P c) → (i ≡ 96 + t → P d)
+        → ((i ≡ t → ⊥) → (i ≡ 32 + t → ⊥) → (i ≡ 64 + t → ⊥) → (i ≡ 96 + t → ⊥) → P (getD sets i 0)) → P (getD four i 0)
+    entries P i x y z w o =
+        entry P three (96 + t) d i (omega (arith, three-long)) w (λ nw.
+        entry P two (64 + t) c i (omega (arith, two-long)) z (λ nz.
+        entry P one (32 + t) b i (omega (arith, one-long)) y (λ ny.
+        entry P sets t a i (omega (arith, S .long)) x (λ nx. o nx ny nz nw))))
 
-    pub sets-more : SetsOf arcs m (t + 1) three
+    pub sets-more : SetsOf arcs m (t + 1) four
     sets-more = record {
-      long = length-set two (64 + t) c ∙ two-long;
-      rows = λ i h k. entry (λ (j v : ℕ). j < 96 → j % 32 < t + 1 → RowSet arcs (1024 * (j / 32) + 32 * (j % 32)) m v)
-          (λ h k. at-row (omega arith) A) (λ h k. at-row (omega arith) B) (λ h k. at-row (omega arith) C) (λ j d g f h k. S .rows j h (omega arith)) i h k;
-      within = λ i p h. entry (λ (j v : ℕ). bit v p ≡ 0) (A .beyond p h) (B .beyond p h) (C .beyond p h) (λ j d g f. S .within j p h) i;
+      long = length-set three (96 + t) d ∙ three-long;
+      rows = λ i h k. entries (λ (v : ℕ). RowSet arcs (1024 * (i / 32) + 32 * (i % 32)) m v) i
+          (λ e. at-row (omega arith) A) (λ e. at-row (omega arith) B) (λ e. at-row (omega arith) C) (λ e. at-row (omega arith) D) (λ x y z w. S .rows i h (omega arith));
+      within = λ i p h. entries (λ (v : ℕ). bit v p ≡ 0) i (λ e. A .beyond p h) (λ e. B .beyond p h) (λ e. C .beyond p h) (λ e. D .beyond p h) (λ x y z w. S .within i p h);
     }
       where
         at-row : {x y r : ℕ} → x ≡ y → RowSet arcs x m r → RowSet arcs y m r

@@ -1,6 +1,6 @@
 // The arcs of a net as sets of places: for each transition the places that it takes from, those that it makes a token
-// in and those that inhibit it, with a bit for each place. So a step walks the arcs that are there, and not every
-// place.
+// in, those that inhibit it and those that it reads, with a bit for each place. So a step walks the arcs that are
+// there, and not every place.
 ghost use mathlib.Core.Path.{_≡_};
 ghost use Prim.Native.Nat.{_+_, _*_, _%_, _^_, _≤_, _<_};
 ghost use lib.Bits.{bitOr};
@@ -13,15 +13,19 @@ use machine_numbers::wide_word;
 use net::ARCS;
 use net::INHIBITORS;
 use net::OUTPUTS;
+use net::READS;
 use net::ROW;
 
 // The sets of all kinds, by transition.
-pub const SETS: usize = 96;
+pub const SETS: usize = 128;
 
-// Where the sets of the outputs and of the inhibitors start, by transition; those of the inputs stand in front.
+// Where the sets of the outputs, of the inhibitors and of the read places start, by transition; those of the inputs
+// stand in front.
 pub const MADE: usize = 32;
 
 pub const GUARDS: usize = 64;
+
+pub const READ: usize = 96;
 
 // The lowest bit that is set.
 pub fn lowest(bits: u64) -> usize
@@ -74,6 +78,7 @@ pub fn arc_sets(arcs: &[u8; ARCS], m: usize, n: usize) -> [u64; SETS]
         sets[t] = set_of(arcs, row, m);
         sets[MADE + t] = set_of(arcs, OUTPUTS + row, m);
         sets[GUARDS + t] = set_of(arcs, INHIBITORS + row, m);
+        sets[READ + t] = set_of(arcs, READS + row, m);
         t += 1;
     }
     sets

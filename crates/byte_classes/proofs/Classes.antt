@@ -6,14 +6,16 @@ use mathlib.Core.Bool.{Bool, true, false, not, _&&_, _||_, cond}
 use mathlib.Core.List.{List, [], _∷_}
 use native.Mathlib.Decide.{ℕ-discrete}
 use native.Mathlib.Omega.{arith}
+use denote.Enum.Declared.{tagOf}
 use lib.Dec.{leb, eqb}
 use borrow.Author.Tests.{le-leb, leb-true, eq-eqb, eqb-true, ne-eqb}
 use Rattle.spec.specs.Lists.{every}
 use Rattle.spec.specs.declared.Class.{Class}
-use Rattle.spec.specs.declared.Class.the-variants.{Digit, LineEnd, Foreign}
+use Rattle.spec.specs.declared.Class.the-variants.{Digit, Comma, Dash, LineEnd, LetterP, LetterT, LetterI, LetterO, LetterH, LetterS, LetterE, LetterC, LetterB, LetterA, LetterG, LetterR, Foreign}
 use Rattle.spec.specs.declared.ByteClass.{ByteClass}
 use Rattle.spec.specs.Text.{named, classNames, inDigits, classOf, digitOf, classAndDigit, isA}
-use Rattle.spec.specs.Classes.{alike}
+use Rattle.spec.specs.Classes.{classCode, alike}
+use Rattle.spec.proofs.Class
 use Rattle.lists.specs.Laws.{and-true}
 use Rattle.byte_classes.specs.Scan.{plainByte}
 
@@ -64,6 +66,27 @@ digit-low b = go (leb 48 b) (leb b 57) refl
     go true true q = omega (arith, leb-true b 57 q)
     go true false q = omega arith
     go false t q = omega arith
+
+-- ---- the number of a class is its place among the classes
+
+pub place-is-code : (k : Class) → tagOf Class.the-type k ≡ classCode k
+place-is-code Digit = refl
+place-is-code Comma = refl
+place-is-code Dash = refl
+place-is-code LineEnd = refl
+place-is-code LetterP = refl
+place-is-code LetterT = refl
+place-is-code LetterI = refl
+place-is-code LetterO = refl
+place-is-code LetterH = refl
+place-is-code LetterS = refl
+place-is-code LetterE = refl
+place-is-code LetterC = refl
+place-is-code LetterB = refl
+place-is-code LetterA = refl
+place-is-code LetterG = refl
+place-is-code LetterR = refl
+place-is-code Foreign = refl
 
 -- ---- what the class and the digit of a byte tell, once it has been looked at
 

@@ -38,6 +38,7 @@ pub fn class_of(b: u8) -> ByteClass
         b'B' => plain(Class::LetterB),
         b'A' => plain(Class::LetterA),
         b'G' => plain(Class::LetterG),
+        b'R' => plain(Class::LetterR),
         _ => plain(Class::Foreign),
     }
 }
@@ -62,7 +63,8 @@ fn class_code(k: Class) -> u8
         Class::LetterB => 12,
         Class::LetterA => 13,
         Class::LetterG => 14,
-        Class::Foreign => 15,
+        Class::LetterR => 15,
+        Class::Foreign => 16,
     }
 }
 

@@ -8,20 +8,21 @@ use Rattle.columns.specs.Columns.{column}
 use Rattle.spec.specs.Answer.{Answer, gives}
 use Rattle.lines.specs.Agree.{Agrees, refusedAs}
 use Rattle.spec.specs.Lists.{sum, asCount}
-use Rattle.spec.specs.Net.{Net as NetD, takes, makes, inhibits, addPlace, addTransition, addArc}
+use Rattle.spec.specs.Net.{Net as NetD, takes, makes, inhibits, reads, addPlace, addTransition, addArc}
 use Rattle.spec.specs.Values.{netValues}
 use Rattle.net.specs.declared.Net.{Net}
 use Rattle.spec.specs.declared.ArcKind.{ArcKind}
-use Rattle.spec.specs.declared.ArcKind.the-variants.{Input, Output, Inhibitor}
+use Rattle.spec.specs.declared.ArcKind.the-variants.{Input, Output, Inhibitor, Read}
 use Rattle.net.specs.declared.Size.{Size}
 use Rattle.net.specs.declared.Stepped.{Stepped}
 use Rattle.net.specs.declared.NetAnswer.{NetAnswer}
 use Rattle.net.specs.declared.NetAnswer.the-variants.{Accepted, Refused}
 use Rattle.net.specs.declared.NetRefusal.{NetRefusal}
-use Rattle.net.specs.declared.NetRefusal.the-variants.{Malformed, LimitPassed, Undeclared, ArcRepeated, Lacking}
+use Rattle.net.specs.declared.NetRefusal.the-variants.{Malformed, LimitPassed, Undeclared}
+use Rattle.net.specs.declared.NetRefusal.the-variants.{ArcRepeated, ReadAndConsumed, Lacking}
 
--- the tokens, one entry for each place; the arcs of a transition, of a kind and of all kinds; and where the outputs and
--- the inhibitors start behind the inputs
+-- the tokens, one entry for each place; the arcs of a transition, of a kind and of all kinds; and where the outputs,
+-- the inhibitors and the read arcs start behind the inputs
 abbrev pub tokenCount : ℕ
 tokenCount = 32
 
@@ -32,13 +33,16 @@ abbrev pub kindCount : ℕ
 kindCount = 1024
 
 abbrev pub arcCount : ℕ
-arcCount = 3072
+arcCount = 4096
 
 abbrev pub outputsAt : ℕ
 outputsAt = 1024
 
 abbrev pub inhibitorsAt : ℕ
 inhibitorsAt = 2048
+
+abbrev pub readsAt : ℕ
+readsAt = 3072
 
 -- in the row of t, at p, an array has what f says of t and p
 pub record Cells (xs : List ℕ) (f : ℕ → ℕ → ℕ) : Type 0 where
@@ -60,6 +64,7 @@ pub record Holds (n : Net) (m : NetD) : Type 0 where
   pub inputs : Cells (n .inputs) (takes m)
   pub outputs : Cells (n .outputs) (makes m)
   pub inhibitors : Cells (n .inhibitors) (λ t p. asCount (inhibits m p t))
+  pub reads : Cells (n .reads) (λ t p. asCount (reads m p t))
 
 -- ---- the arrays that are lent while the lines are read
 
@@ -68,30 +73,47 @@ pub record Arrays : Type 0 where
   pub inputs : List ℕ
   pub outputs : List ℕ
   pub inhibitors : List ℕ
+  pub reads : List ℕ
 
-abbrev pub arrays : List ℕ → List ℕ → List ℕ → List ℕ → Arrays
-arrays ts is os hs = record { tokens = ts; inputs = is; outputs = os; inhibitors = hs }
+abbrev pub arrays : List ℕ → List ℕ → List ℕ → List ℕ → List ℕ → Arrays
+arrays ts is os hs rs = record { tokens = ts; inputs = is; outputs = os; inhibitors = hs; reads = rs }
 
 -- the arrays with another in place of the tokens, and below of the arcs of one kind
 abbrev pub withTokens : Arrays → List ℕ → Arrays
-withTokens a xs = arrays xs (a .inputs) (a .outputs) (a .inhibitors)
+withTokens a xs = arrays xs (a .inputs) (a .outputs) (a .inhibitors) (a .reads)
 
 -- the array of one kind of arc
 abbrev pub cellsOf : ArcKind → Arrays → List ℕ
 cellsOf Input a = a .inputs
 cellsOf Output a = a .outputs
 cellsOf Inhibitor a = a .inhibitors
+cellsOf Read a = a .reads
 
 abbrev pub withCells : ArcKind → Arrays → List ℕ → Arrays
-withCells Input a xs = arrays (a .tokens) xs (a .outputs) (a .inhibitors)
-withCells Output a xs = arrays (a .tokens) (a .inputs) xs (a .inhibitors)
-withCells Inhibitor a xs = arrays (a .tokens) (a .inputs) (a .outputs) xs
+withCells Input a xs = arrays (a .tokens) xs (a .outputs) (a .inhibitors) (a .reads)
+withCells Output a xs = arrays (a .tokens) (a .inputs) xs (a .inhibitors) (a .reads)
+withCells Inhibitor a xs = arrays (a .tokens) (a .inputs) (a .outputs) xs (a .reads)
+withCells Read a xs = arrays (a .tokens) (a .inputs) (a .outputs) (a .inhibitors) xs
 
 -- where a kind stands in the array of arcs
 abbrev pub offsetOf : ArcKind → ℕ
 offsetOf Input = 0
 offsetOf Output = outputsAt
 offsetOf Inhibitor = inhibitorsAt
+offsetOf Read = readsAt
+
+-- the kind of arc that may not join the same two as one of this kind: an input and a read arc bar each other, and the
+-- others bar none but their own kind, which 14 says already
+abbrev pub barOf : ArcKind → ArcKind
+barOf Input = Read
+barOf Output = Output
+barOf Inhibitor = Inhibitor
+barOf Read = Input
+
+-- `other` is where the arcs stand that bar those of the kind that stands from `at` on
+pub record Bars (at other : ℕ) : Type 0 where
+  pub low : other ≤ readsAt
+  pub of : (x : ArcKind) → at ≡ offsetOf x → other ≡ offsetOf (barOf x)
 
 -- the arcs of one kind in the array of arcs
 abbrev pub inputsIn : List ℕ → List ℕ
@@ -103,9 +125,12 @@ outputsIn arcs = column outputsAt kindCount arcs
 abbrev pub inhibitorsIn : List ℕ → List ℕ
 inhibitorsIn arcs = column inhibitorsAt kindCount arcs
 
+abbrev pub readsIn : List ℕ → List ℕ
+readsIn arcs = column readsAt kindCount arcs
+
 -- the tokens and one array with the arcs of every kind
 abbrev pub arraysAt : List ℕ → List ℕ → Arrays
-arraysAt tokens arcs = arrays tokens (inputsIn arcs) (outputsIn arcs) (inhibitorsIn arcs)
+arraysAt tokens arcs = arrays tokens (inputsIn arcs) (outputsIn arcs) (inhibitorsIn arcs) (readsIn arcs)
 
 -- the net of a size and of arrays
 abbrev pub netWith : Size → Arrays → Net
@@ -116,6 +141,7 @@ netWith s a = record {
   inputs = a .inputs;
   outputs = a .outputs;
   inhibitors = a .inhibitors;
+  reads = a .reads;
 }
 
 -- they hold the net, and the size has the sum of its tokens
@@ -136,6 +162,7 @@ netRefusal (Malformed k) = (11, k)
 netRefusal (LimitPassed k) = (12, k)
 netRefusal (Undeclared k) = (13, k)
 netRefusal (ArcRepeated k) = (14, k)
+netRefusal (ReadAndConsumed k) = (51, k)
 netRefusal (Lacking t) = (15, t)
 
 -- the paper's values of an answer

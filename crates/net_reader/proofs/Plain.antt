@@ -1,6 +1,7 @@
 -- Lines of a net text, by their rows, and what plain lines add.
 use Prim.Native.Nat.{ℕ, _-_, _<_}
 use mathlib.Core.Path.{_≡_, refl, _∙_}
+use mathlib.Core.Logic.{inl, inr}
 use mathlib.Core.Bool.{Bool, true, false}
 use mathlib.Core.List.{List, [], _∷_}
 use lib.ListN.{getD, drop, take}
@@ -10,8 +11,7 @@ use Rattle.spec.specs.Forms.{isLine}
 use Rattle.line_forms.specs.Rows.{rowOf, isAlone, isOne, isTwo}
 use Rattle.line_forms.proofs.Ties.{alone-line, one-line, two-line, number-at}
 use Rattle.spec.specs.Classes.{alike}
-use Rattle.spec.specs.Net.{Net as NetD, addPlace, addTransition, addArc, addLine}
-use Rattle.spec.specs.declared.ArcKind.the-variants.{Input, Output, Inhibitor}
+use Rattle.spec.specs.Net.{Net as NetD, addPlace, addTransition, addLine}
 use Rattle.line_forms.specs.declared.Slot.{Slot}
 use Rattle.line_forms.specs.declared.Slot.the-variants.{Number}
 use Rattle.lines.specs.Lines.{lineOf, LineAt}
@@ -20,7 +20,7 @@ use Rattle.lines.proofs.Lines.{line-to}
 use Rattle.plain_lines.specs.Plain.{Opens, PlainLine, MayRead}
 use Rattle.plain_lines.proofs.Plain.{plain-to}
 use Rattle.net.specs.NetArrays.{Arrays, Steps}
-use Rattle.net_reader.specs.Reads.{addRow, Takes}
+use Rattle.net_reader.specs.Reads.{addRow, ArcLetter, addLetter, Takes}
 use Rattle.net.specs.declared.Size.{Size}
 use Rattle.net.specs.declared.Stepped.{Stepped}
 
@@ -31,7 +31,7 @@ module _ (k : ℕ) (b : List ℕ) (n : NetD) where
   unfolding addLine addRow rowOf alike classOf named inDigits
   row-added =
       let l = lineOf b true in
-      rw (one-line "P" refl l, alone-line "T" refl l, two-line "I" refl l, two-line "O" refl l, two-line "H" refl l, number-at l 0, number-at l 1)
+      rw (one-line "P" refl l, alone-line "T" refl l, two-line "I" refl l, two-line "O" refl l, two-line "H" refl l, two-line "R" refl l, number-at l 0, number-at l 1)
 
   -- by its row if it is ended; one that is not has no form
   pub ended-added : {e : Bool} → e ≡ true → addLine k (lineOf b e) n ≡ addRow k (rowOf mostDigits b) n
@@ -51,17 +51,13 @@ pub opens-transition : Opens 84
 unfolding isA alike classOf named inDigits
 opens-transition = record { comma = refl; end = refl }
 
-pub opens-input : Opens 73
+-- no letter of arcs is a comma or the end of a line
+pub opens-arc : (b : ℕ) → ArcLetter b → Opens b
 unfolding isA alike classOf named inDigits
-opens-input = record { comma = refl; end = refl }
-
-pub opens-output : Opens 79
-unfolding isA alike classOf named inDigits
-opens-output = record { comma = refl; end = refl }
-
-pub opens-inhibitor : Opens 72
-unfolding isA alike classOf named inDigits
-opens-inhibitor = record { comma = refl; end = refl }
+opens-arc b (inl e) = rw e (record { comma = refl; end = refl })
+opens-arc b (inr (inl e)) = rw e (record { comma = refl; end = refl })
+opens-arc b (inr (inr (inl e))) = rw e (record { comma = refl; end = refl })
+opens-arc b (inr (inr (inr e))) = rw e (record { comma = refl; end = refl })
 
 module _ (k : ℕ) {text : List ℕ} {i next : ℕ} (m : NetD) where
   pub place-line : {v : ℕ} (l : PlainLine 4 text i next (Number v ∷ [])) → getD text i 0 ≡ 80 → addLine k (lineOf (l .bytes) true) m ≡ addPlace k v m
@@ -72,18 +68,12 @@ module _ (k : ℕ) {text : List ℕ} {i next : ℕ} (m : NetD) where
   unfolding addRow isAlone isOne isTwo alike classOf named inDigits
   transition-line l e = row-added k (l .bytes) m ∙ rw (l .row, e)
 
-  module _ {a b : ℕ} (l : PlainLine 4 text i next (Number a ∷ Number b ∷ [])) where
-    pub input-line : getD text i 0 ≡ 73 → addLine k (lineOf (l .bytes) true) m ≡ addArc Input k a b m
-    unfolding addRow isAlone isOne isTwo alike classOf named inDigits
-    input-line e = row-added k (l .bytes) m ∙ rw (l .row, e)
-
-    pub output-line : getD text i 0 ≡ 79 → addLine k (lineOf (l .bytes) true) m ≡ addArc Output k b a m
-    unfolding addRow isAlone isOne isTwo alike classOf named inDigits
-    output-line e = row-added k (l .bytes) m ∙ rw (l .row, e)
-
-    pub inhibitor-line : getD text i 0 ≡ 72 → addLine k (lineOf (l .bytes) true) m ≡ addArc Inhibitor k a b m
-    unfolding addRow isAlone isOne isTwo alike classOf named inDigits
-    inhibitor-line e = row-added k (l .bytes) m ∙ rw (l .row, e)
+  pub arc-line : {a b : ℕ} (l : PlainLine 4 text i next (Number a ∷ Number b ∷ [])) → ArcLetter (getD text i 0) → addLine k (lineOf (l .bytes) true) m ≡ addLetter (getD text i 0) k a b m
+  unfolding addRow addLetter isAlone isOne isTwo alike classOf named inDigits
+  arc-line l (inl e) = row-added k (l .bytes) m ∙ rw (l .row, e)
+  arc-line l (inr (inl e)) = row-added k (l .bytes) m ∙ rw (l .row, e)
+  arc-line l (inr (inr (inl e))) = row-added k (l .bytes) m ∙ rw (l .row, e)
+  arc-line l (inr (inr (inr e))) = row-added k (l .bytes) m ∙ rw (l .row, e)
 
 -- ---- a line that is added
 

@@ -11,7 +11,7 @@ use Rattle.spec.specs.Lists.{any, sum, asCount, lowest}
 use Rattle.lists.specs.Arrays.{blank}
 use Rattle.columns.specs.Columns.{column, column-length, column-at}
 use Rattle.spec.specs.Text.{linesOf, byLines}
-use Rattle.spec.specs.Net.{Net as NetD, joined, takes, makes, inhibits, addLine, emptyNet, whole, netOf, readNet}
+use Rattle.spec.specs.Net.{Net as NetD, joined, takes, makes, inhibits, reads, addLine, emptyNet, whole, netOf, readNet}
 use Rattle.lines.specs.Agree.{Agrees, giving, refusing}
 use Rattle.lines.proofs.Answers.{isGiven, refuses≢gives, same-given}
 use Rattle.lines.proofs.ByLines.{Running, turn, stop, done}
@@ -36,7 +36,7 @@ use lib.Seq.{ext-getD}
 use Rattle.spec.specs.Answer.{Answer, gives, refuses, _>>_}
 use Rattle.spec.specs.Lists.{any, sum, asCount}
 use Rattle.columns.specs.Columns.{column, column-at}
-use Rattle.spec.specs.Net.{Net as NetD, joined, takes, makes, inhibits}
+use Rattle.spec.specs.Net.{Net as NetD, joined, takes, makes, inhibits, reads}
 use Rattle.net.specs.NetArrays.{Arrays, arraysAt, Cells, Draft}
 use Rattle.net_reader.specs.Reads.{Copies}
 use Rattle.net.proofs.Answers.{goes-given, few}
@@ -89,21 +89,22 @@ module _ (r : Stepped) (arcs : List ℕ) where
 
 -- ---- a whole text
 
-blanks : (at : ℕ) → at + 1024 ≤ 3072 → Cells (column at 1024 (replicate 3072 0)) (λ t p. 0)
+blanks : (at : ℕ) → at + 1024 ≤ 4096 → Cells (column at 1024 (replicate 4096 0)) (λ t p. 0)
 blanks at h = record {
-  long = column-length at 1024 (replicate 3072 0) (omega (arith, length-replicate {A = ℕ} 3072 0));
-  cell = λ t p ht hp. column-at at 1024 (replicate 3072 0) (32 * t + p) (omega arith) ∙ blank 3072 (at + (32 * t + p));
+  long = column-length at 1024 (replicate 4096 0) (omega (arith, length-replicate {A = ℕ} 4096 0));
+  cell = λ t p ht hp. column-at at 1024 (replicate 4096 0) (32 * t + p) (omega arith) ∙ blank 4096 (at + (32 * t + p));
 }
 
 -- arrays of zeros hold the empty net
 pub zeros : {tokens arcs : List ℕ} → Blank tokens arcs → Draft noSize (arraysAt tokens arcs) emptyNet
-unfolding emptyNet takes makes inhibits joined any asCount sum
+unfolding emptyNet takes makes inhibits reads joined any asCount sum
 zeros b = rw (b .tokens, b .arcs) (record {
   holds = record {
     counts = record { places = refl; transitions = refl; fewPlaces = omega arith; fewTransitions = omega arith; long = length-replicate {A = ℕ} 32 0; tokens = λ p. blank 32 p; most = omega arith };
     inputs = blanks 0 (omega arith);
     outputs = blanks 1024 (omega arith);
     inhibitors = blanks 2048 (omega arith);
+    reads = blanks 3072 (omega arith);
   };
   total = refl;
 })
@@ -134,11 +135,11 @@ read-found net p t tokens arcs r = go (readNet net) refl
 
 -- the net by value
 module _ (net : List ℕ) (p t : ℕ) (tokens arcs : List ℕ) (r : ReadsInto net (Accepted p t) tokens arcs) where
-  pub read-value : {is os hs : List ℕ} → Copies arcs 0 is → Copies arcs 1024 os → Copies arcs 2048 hs → Reads net (record { answer = Accepted p t; net = netWith (record { places = p; transitions = t; total = 0 }) (arrays tokens is os hs) })
+  pub read-value : {is os hs rs : List ℕ} → Copies arcs 0 is → Copies arcs 1024 os → Copies arcs 2048 hs → Copies arcs 3072 rs → Reads net (record { answer = Accepted p t; net = netWith (record { places = p; transitions = t; total = 0 }) (arrays tokens is os hs rs) })
   unfolding returned
-  read-value a b c = record {
+  read-value a b c e = record {
     answer = r .answer;
-    net = λ m f. let h = valued net p t tokens arcs r m f in rw (← copied 0 arcs (h .inputs .long) a, ← copied 1024 arcs (h .outputs .long) b, ← copied 2048 arcs (h .inhibitors .long) c) h;
+    net = λ m f. let h = valued net p t tokens arcs r m f in rw (← copied 0 arcs (h .inputs .long) a, ← copied 1024 arcs (h .outputs .long) b, ← copied 2048 arcs (h .inhibitors .long) c, ← copied 3072 arcs (h .reads .long) e) h;
     none = λ n s f. absurd (refuses≢gives (sym (ap (returned netValues) f) ∙ sym (r .answer)));
   }
 

@@ -1,10 +1,12 @@
 -- What the functions of the reader promise.
 use Prim.Native.Nat.{ℕ, _+_, _*_}
+use Prim.Native.Char.{code}
 use mathlib.Core.Path.{_≡_}
+use mathlib.Core.Logic.{_⊎_}
 use mathlib.Core.Bool.{Bool, not, _||_, cond}
 use mathlib.Core.List.{List}
 use lib.ListN.{getD, replicate}
-use lib.Dec.{ltb}
+use lib.Dec.{eqb, ltb}
 use Rattle.lists.specs.Mapped.{Mapped}
 use Rattle.spec.specs.Answer.{Answer, gives, refuses, _>>=_, returned}
 use Rattle.lines.specs.Agree.{Agrees}
@@ -16,8 +18,8 @@ use Rattle.line_forms.specs.Rows.{valueOf, isAlone, isOne, isTwo}
 use Rattle.line_forms.specs.declared.Row.{Row}
 use Rattle.spec.specs.Values.{netValues}
 use Rattle.net.specs.declared.Net.{Net}
-use Rattle.spec.specs.declared.Class.the-variants.{LetterP, LetterT, LetterI, LetterO, LetterH}
-use Rattle.spec.specs.declared.ArcKind.the-variants.{Input, Output, Inhibitor}
+use Rattle.spec.specs.declared.Class.the-variants.{LetterP, LetterT, LetterI, LetterO, LetterH, LetterR}
+use Rattle.spec.specs.declared.ArcKind.the-variants.{Input, Output, Inhibitor, Read}
 use Rattle.net.specs.declared.Size.{Size}
 use Rattle.net.specs.declared.Stepped.{Stepped}
 use Rattle.net_reader.specs.declared.Took.{Took}
@@ -39,7 +41,25 @@ addRow k r n =
     (cond (isTwo LetterI r) (addArc Input k (valueOf (r .first)) (valueOf (r .second)) n)
     (cond (isTwo LetterO r) (addArc Output k (valueOf (r .second)) (valueOf (r .first)) n)
     (cond (isTwo LetterH r) (addArc Inhibitor k (valueOf (r .first)) (valueOf (r .second)) n)
-    (refuses 11 k)))))
+    (cond (isTwo LetterR r) (addArc Read k (valueOf (r .first)) (valueOf (r .second)) n)
+    (refuses 11 k))))))
+
+-- the byte is a letter of arcs
+abbrev pub ArcLetter : ℕ → Type 0
+ArcLetter b = (b ≡ code "I") ⊎ (b ≡ code "O") ⊎ (b ≡ code "H") ⊎ (b ≡ code "R")
+
+-- what line k adds with a letter of arcs and two numbers
+unfoldable pub addLetter : ℕ → ℕ → ℕ → ℕ → NetD → Answer NetD
+addLetter b k v w n =
+    cond (eqb b (code "I")) (addArc Input k v w n)
+    (cond (eqb b (code "O")) (addArc Output k w v n)
+    (cond (eqb b (code "H")) (addArc Inhibitor k v w n)
+    (addArc Read k v w n)))
+
+-- it is added, whatever the tokens are
+abbrev pub AddsLetter : ℕ → ℕ → ℕ → ℕ → Size → List ℕ → Stepped → List ℕ → Type 0
+AddsLetter b k v w s arcs r arcs′ =
+    (tokens : List ℕ) → Steps s (arraysAt tokens arcs) (addLetter b k v w) r (arraysAt tokens arcs′)
 
 -- the line that starts at a position is added as the definitions add line k, and the next one starts at `next`
 pub record Takes (text : List ℕ) (at k : ℕ) (s : Size) (a : Arrays) (r : Took) (a′ : Arrays) : Type 0 where
@@ -69,7 +89,8 @@ Finishes r arcs v =
 abbrev pub noNet : Net
 noNet =
     netWith noSize
-    (arrays (replicate tokenCount 0) (replicate kindCount 0) (replicate kindCount 0) (replicate kindCount 0))
+    (arrays (replicate tokenCount 0)
+    (replicate kindCount 0) (replicate kindCount 0) (replicate kindCount 0) (replicate kindCount 0))
 
 -- the answer is the paper's, and the net is the one that the text declares, or none where it is refused
 pub record Reads (text : List ℕ) (r : NetRead) : Type 0 where

@@ -6,11 +6,10 @@ ghost use lib.ListN.{length};
 ghost use Rattle.columns.specs.Columns.{column};
 ghost use Rattle.spec.specs.Net.{addLine};
 ghost use Rattle.lines.specs.Lines.{lineOf};
-ghost use Rattle.plain_lines.specs.Plain.{Opens};
-ghost use Rattle.net.specs.NetArrays.{kindCount, inhibitorsAt, inputsIn, outputsIn};
+ghost use Rattle.net.specs.NetArrays.{kindCount, readsAt, inputsIn, outputsIn};
 ghost use Rattle.net.specs.NetArrays.{goesOf, arraysAt, Fits, Few, Steps};
-ghost use Rattle.net_reader.specs.Reads.{addRow, Blank, anyCell, lacksOf, Takes, ReadsLines, Finishes, noNet};
-ghost use Rattle.net_reader.specs.Reads.{ReadsInto, Reads, Answers, Copies};
+ghost use Rattle.net_reader.specs.Reads.{addRow, ArcLetter, AddsLetter, Blank, anyCell, lacksOf, Takes};
+ghost use Rattle.net_reader.specs.Reads.{ReadsLines, Finishes, noNet, ReadsInto, Reads, Answers, Copies};
 use fields::row_of;
 use line_forms::Row;
 use line_forms::is_alone;
@@ -26,6 +25,7 @@ use net::Net;
 use net::NetAnswer;
 use net::NetRefusal;
 use net::OUTPUTS;
+use net::READS;
 use net::Size;
 use net::Stepped;
 use net::TOKENS;
@@ -65,6 +65,9 @@ fn add_row(k: usize, r: Row, s: Size, tokens: &mut [u16; TOKENS], arcs: &mut [u8
     if is_two(Class::LetterH, r) {
         return add_arc(INHIBITORS, k, a, b, s, arcs);
     }
+    if is_two(Class::LetterR, r) {
+        return add_arc(READS, k, a, b, s, arcs);
+    }
     refused(NetRefusal::Malformed(k), s)
 }
 
@@ -93,9 +96,9 @@ pub struct Took {
     pub next: usize,
 }
 
-// Whether the letter is one of the three kinds of arcs.
+// Whether the letter is one of the four kinds of arcs.
 fn arc_letter(b: u8) -> bool
-    ensures { λ r. ⌜ (r ≡ true → Opens b) ⌝ }
+    ensures { λ r. ⌜ (r ≡ true → ArcLetter b) ⌝ }
 {
     if b == b'I' {
         return true;
@@ -103,7 +106,34 @@ fn arc_letter(b: u8) -> bool
     if b == b'O' {
         return true;
     }
-    b == b'H'
+    if b == b'H' {
+        return true;
+    }
+    b == b'R'
+}
+
+// One more arc of the letter's kind, with the two numbers as they stand on the line.
+fn add_letter(
+    letter: u8,
+    k: usize,
+    first: usize,
+    second: usize,
+    s: Size,
+    arcs: &mut [u8; ARCS],
+) -> Stepped
+    requires { ⌜ Fits s ⌝ }
+    ensures { λ q. ⌜ AddsLetter letter k first second s (now (arcs .entry)) q (now (arcs .exit)) ⌝ }
+{
+    if letter == b'I' {
+        return add_arc(INPUTS, k, first, second, s, arcs);
+    }
+    if letter == b'O' {
+        return add_arc(OUTPUTS, k, second, first, s, arcs);
+    }
+    if letter == b'H' {
+        return add_arc(INHIBITORS, k, first, second, s, arcs);
+    }
+    add_arc(READS, k, first, second, s, arcs)
 }
 
 // The line that starts at a position is added. A plain line is read in one walk; any other goes to the readers of lines
@@ -124,18 +154,8 @@ fn add_at(
     if arc_letter(letter) {
         let f = two_at(4, text, at);
         if at < f.next {
-            if letter == b'I' {
-                let step = add_arc(INPUTS, k, f.a, f.b, s, arcs);
-                return Took { step, next: f.next };
-            }
-            if letter == b'O' {
-                let step = add_arc(OUTPUTS, k, f.b, f.a, s, arcs);
-                return Took { step, next: f.next };
-            }
-            if letter == b'H' {
-                let step = add_arc(INHIBITORS, k, f.a, f.b, s, arcs);
-                return Took { step, next: f.next };
-            }
+            let step = add_letter(letter, k, f.a, f.b, s, arcs);
+            return Took { step, next: f.next };
         }
     }
     if letter == b'P' {
@@ -189,7 +209,7 @@ fn add_lines(text: &[u8], tokens: &mut [u16; TOKENS], arcs: &mut [u8; ARCS]) -> 
 
 // Whether some place is joined to the transition, by the kind of arc that stands from `at` on.
 fn any_cell(arcs: &[u8; ARCS], at: usize, t: usize, places: usize) -> bool
-    requires { ⌜ (at ≤ inhibitorsAt) × (t < 32) × (places ≤ 32) ⌝ }
+    requires { ⌜ (at ≤ readsAt) × (t < 32) × (places ≤ 32) ⌝ }
     ensures { λ r. ⌜ r ≡ anyCell (column at kindCount (now (arcs .entry))) t places ⌝ }
 {
     let mut p: usize = 0;
@@ -252,7 +272,7 @@ pub fn net_answer(net: &[u8]) -> NetAnswer
 
 // The arcs of one kind.
 fn arcs_of(arcs: &[u8; ARCS], at: usize) -> [u8; KIND]
-    requires { ⌜ (at ≤ inhibitorsAt) ⌝ }
+    requires { ⌜ (at ≤ readsAt) ⌝ }
     ensures { λ r. ⌜ Copies (now (arcs .entry)) at r ⌝ }
 {
     let mut r = [0u8; KIND];
@@ -275,6 +295,7 @@ fn no_net() -> Net
         inputs: [0u8; KIND],
         outputs: [0u8; KIND],
         inhibitors: [0u8; KIND],
+        reads: [0u8; KIND],
     }
 }
 
@@ -301,6 +322,7 @@ pub fn read_net(net: &[u8]) -> NetRead
                 inputs: arcs_of(&arcs, INPUTS),
                 outputs: arcs_of(&arcs, OUTPUTS),
                 inhibitors: arcs_of(&arcs, INHIBITORS),
+                reads: arcs_of(&arcs, READS),
             },
         };
     }

@@ -1,7 +1,7 @@
 -- What is read, judged and played on arrays is what the definitions say of the step and the marking that they hold.
-use Prim.Native.Nat.{ℕ, _+_, _-_, _≤_, _<_}
-use mathlib.Core.Path.{_≡_, refl, sym, ap, ap₂, _∙_}
-use mathlib.Core.Bool.{Bool, true, false, _&&_, and-false}
+use Prim.Native.Nat.{ℕ, _+_, _-_, _≤_, _<_, max}
+use mathlib.Core.Path.{_≡_, sym, ap, ap₂, _∙_}
+use mathlib.Core.Bool.{Bool, true, false, not, _&&_, _||_, and-false}
 use mathlib.Core.Logic.{inl, inr}
 use mathlib.Core.List.{List}
 use native.Mathlib.Decide.{decLt}
@@ -11,19 +11,20 @@ use lib.ListN.{length, getD, take, replicate, length-map, List·getD-eq-default}
 use lib.Seq.{getD-take, length-take-le}
 use borrow.Author.Tests.{ltb-false, lt-ltb, le-ltb}
 use Rattle.spec.specs.Answer.{gives, refuses, _>>_, refuse_at_when_}
-use Rattle.spec.specs.Lists.{In, any, sumOf, upTo, asCount}
-use Rattle.spec.specs.Net.{Net as NetD, places, takes, makes, inhibits}
-use Rattle.spec.specs.Step.{taken, made, short, inhibited, play}
+use Rattle.spec.specs.Lists.{In, any, upTo, asCount}
+use Rattle.spec.specs.Net.{Net as NetD, places, takes, makes, inhibits, reads}
+use Rattle.spec.specs.Step.{taken, made, needed, short, inhibited, play}
 use Rattle.lists.specs.Laws
 use Rattle.lists.specs.Laws.{at-in, sumOf-same, in-upTo, length-upTo, getD-table}
 use Rattle.lists.specs.Arrays.{blank}
 use Rattle.lists.specs.Along.{any-agree, some-counted}
+use Rattle.lists.specs.Among.{any-or}
 use Rattle.net.specs.NetArrays.{Holds}
 use Rattle.net.specs.declared.Net.{Net}
 use Rattle.number_lines.specs.Numbers.{Few, Begins}
 use Rattle.bit_sets.specs.Bits.{bit, bit-most}
 use Rattle.arc_sets.specs.Sets.{arcAt, Says, HoldsArcs}
-use Rattle.steps.specs.StepArrays.{HoldsStep, over, Summed, Joined, HoldsMarking, falls, Blocks, Playable, MovedBy}
+use Rattle.steps.specs.StepArrays.{HoldsStep, over, Summed, Joined, HoldsMarking, falls, isFilled, SomePlace, Playable, MovedBy}
 use Rattle.steps.specs.Judged.{judgeStep}
 
 -- ---- a step
@@ -72,16 +73,68 @@ initial-held h e = rw e record {
   tokens = h .counts .tokens;
 }
 
+-- fewer than the greater of two is fewer than one of them
+below-either : (v k : ℕ) (d : Bool) → ltb v (max k (asCount d)) ≡ (ltb v k || (isFilled false v && d))
+unfolding isFilled asCount
+below-either v k true = elim (decLt v k) [
+  | yes h ↦ rw (lt-ltb v (max k 1) (omega arith), lt-ltb v k h)
+  | no h ↦ elim (decLt 0 v) [
+    | yes u ↦ rw (le-ltb v (max k 1) (omega arith), le-ltb v k (omega arith), lt-ltb 0 v u)
+    | no u ↦ rw (lt-ltb v (max k 1) (omega arith), le-ltb v k (omega arith), le-ltb 0 v (omega arith))
+  ]
+]
+below-either v k false = elim (decLt v k) [
+  | yes h ↦ rw (lt-ltb v (max k 0) (omega arith), lt-ltb v k h)
+  | no h ↦ rw (le-ltb v (max k 0) (omega arith), le-ltb v k (omega arith), and-false (not (ltb 0 v)))
+]
+
 -- two tests that agree at each place
 any-places : {n k : ℕ} (f g : ℕ → Bool) → n ≡ k → ((p : ℕ) → p < n → f p ≡ g p) → any f (upTo n) ≡ any g (upTo k)
 any-places {n} f g e h = any-agree f g (upTo n) (λ p m. h p (in-upTo n m)) ∙ ap (λ (j : ℕ). any g (upTo j)) e
 
 module _ {N : NetD} {sets : List ℕ} {m : ℕ} (A : HoldsArcs N sets m) {xs ts : List ℕ} {count : ℕ} (S : HoldsStep xs count ts) (K : (t : ℕ) → In t ts → t < N .transitions)
     {marking mk : List ℕ} (H : HoldsMarking m marking mk) where
-  -- 24
-  pub short-held : {tk : List ℕ} → Summed (arcAt sets 0) (take count xs) 0 (replicate 32 0) tk → falls marking tk m ≡ short N mk ts
-  unfolding falls short taken
-  short-held {tk} U = any-places _ _ (A .places) (λ p l. ap₂ ltb (H .tokens p) (taken-at p l))
+  -- some place of the sets from a on is as asked
+  pub some-held : (a : ℕ) (w : ℕ → ℕ → Bool) (b : Bool) {set : ℕ} {r : Bool} → Says N m sets a (λ t p. asCount (w p t)) → Joined (arcAt sets a) (take count xs) set → SomePlace marking set b r
+      → r ≡ any (λ p. isFilled b (getD mk p 0) && any (w p) ts) (upTo (places N))
+  some-held a w b {set} {r} C G B = elim (Laws.true-or-false r) [
+    | inl e ↦ e ∙ sym (found (B .found e))
+    | inr e ↦ e ∙ sym (Laws.none-any test (upTo (places N)) (λ p i. none (B .none e) p (Laws.in-upTo (places N) i)))
+  ]
+    where
+      test : ℕ → Bool
+      test p = isFilled b (getD mk p 0) && any (w p) ts
+
+      by-sum : (p : ℕ) → p < m → ltb 0 (over (arcAt sets a) (take count xs) p) ≡ any (w p) ts
+      by-sum p l = ap (ltb 0) (over-held A S K a C p l) ∙ some-counted (w p) ts
+
+      found : (p : ℕ) × (bit set p ≡ 1) × (isFilled b (getD marking p 0) ≡ true) → any test (upTo (places N)) ≡ true
+      found x = elim (decLt (x .0) m) [
+        | yes l ↦ Laws.any-in test (x .0) (upTo (places N)) (Laws.upTo-in (places N) (omega (arith, A .places)))
+            (rw (← H .tokens (x .0), x .2, ← by-sum (x .0) l) (lt-ltb 0 (over (arcAt sets a) (take count xs) (x .0)) (G .some (x .0) (x .1))))
+        | no l ↦ absurd (omega (arith, G .some (x .0) (x .1), over-beyond A S K a (x .0) (omega arith)))
+      ]
+
+      none : ((p : ℕ) → bit set p ≡ 1 → isFilled b (getD marking p 0) ≡ false) → (p : ℕ) → p < places N → test p ≡ false
+      none c p l = elim (decLt 0 (bit set p)) [
+        | yes q ↦ rw (← H .tokens p, c p (omega (arith, bit-most set p)))
+        | no q ↦ rw (← by-sum p (omega (arith, A .places)), le-ltb 0 (over (arcAt sets a) (take count xs) p) (omega (arith, G .none p (omega arith)))) (and-false (isFilled b (getD mk p 0)))
+      ]
+
+  -- 24: what is taken, and then what is read
+  abbrev taken-short : ℕ → Bool
+  taken-short p = ltb (getD mk p 0) (taken N ts p)
+
+  abbrev read-short : ℕ → Bool
+  read-short p = isFilled false (getD mk p 0) && any (reads N p) ts
+
+  short-parts : short N mk ts ≡ (any taken-short (upTo (places N)) || any read-short (upTo (places N)))
+  unfolding short needed
+  short-parts = any-agree _ _ (upTo (places N)) (λ p i. below-either (getD mk p 0) (taken N ts p) (any (reads N p) ts)) ∙ any-or taken-short read-short (upTo (places N))
+
+  falls-held : {tk : List ℕ} → Summed (arcAt sets 0) (take count xs) 0 (replicate 32 0) tk → falls marking tk m ≡ any taken-short (upTo (places N))
+  unfolding falls taken
+  falls-held {tk} U = any-places _ _ (A .places) (λ p l. ap₂ ltb (H .tokens p) (taken-at p l))
     where
       taken-at : (p : ℕ) → p < m → getD tk p 0 ≡ over (takes N) ts p
       taken-at p l = omega (arith, U .here p (omega (arith, A .few)), ap (λ (z : ℕ). getD tk z 0) front, ap {B = ℕ} (λ (z : ℕ). getD (replicate 32 0) z 0) front, blank 32 p, over-held A S K 0 (A .inputs) p l)
@@ -89,41 +142,26 @@ module _ {N : NetD} {sets : List ℕ} {m : ℕ} (A : HoldsArcs N sets m) {xs ts 
           front : 0 + p ≡ p
           front = omega arith
 
+  module _ {tk : List ℕ} (U : Summed (arcAt sets 0) (take count xs) 0 (replicate 32 0) tk) where
+    pub short-taken : falls marking tk m ≡ true → short N mk ts ≡ true
+    short-taken e = short-parts ∙ rw (← falls-held U, e)
+
+    pub short-read : {set : ℕ} {r : Bool} → falls marking tk m ≡ false → Joined (arcAt sets 96) (take count xs) set → SomePlace marking set false r → r ≡ short N mk ts
+    short-read e G B = some-held 96 (reads N) false (A .reads) G B ∙ sym (short-parts ∙ rw (← falls-held U, e))
+
   -- 25
-  pub inhibited-held : {set : ℕ} {r : Bool} → Joined (arcAt sets 64) (take count xs) set → Blocks marking set r → r ≡ inhibited N mk ts
-  unfolding inhibited
-  inhibited-held {set} {r} G B = elim (Laws.true-or-false r) [
-    | inl e ↦ e ∙ sym (found (B .held e))
-    | inr e ↦ e ∙ sym (Laws.none-any _ (upTo (places N)) (λ p i. none (B .clear e) p (Laws.in-upTo (places N) i)))
-  ]
-    where
-      guards : (p : ℕ) → p < m → over (arcAt sets 64) (take count xs) p ≡ sumOf (λ t. asCount (inhibits N p t)) ts
-      guards p l = over-held A S K 64 (A .inhibitors) p l
-
-      test : ℕ → Bool
-      test p = ltb 0 (getD mk p 0) && any (inhibits N p) ts
-
-      found : (p : ℕ) × (bit set p ≡ 1) × (0 < getD marking p 0) → any test (upTo (places N)) ≡ true
-      found x = elim (decLt (x .0) m) [
-        | yes l ↦ Laws.any-in test (x .0) (upTo (places N)) (Laws.upTo-in (places N) (omega (arith, A .places)))
-            (rw (lt-ltb 0 (getD mk (x .0) 0) (omega (arith, H .tokens (x .0), x .2)), ← some-counted (inhibits N (x .0)) ts) (lt-ltb 0 (sumOf (λ t. asCount (inhibits N (x .0) t)) ts) (omega (arith, guards (x .0) l, G .some (x .0) (x .1)))))
-        | no l ↦ absurd (omega (arith, G .some (x .0) (x .1), over-beyond A S K 64 (x .0) (omega arith)))
-      ]
-
-      none : ((p : ℕ) → bit set p ≡ 1 → getD marking p 0 ≡ 0) → (p : ℕ) → p < places N → test p ≡ false
-      none c p l = elim (decLt 0 (bit set p)) [
-        | yes b ↦ rw (le-ltb 0 (getD mk p 0) (omega (arith, H .tokens p, c p (omega (arith, bit-most set p))))) refl
-        | no b ↦ rw (← some-counted (inhibits N p) ts, le-ltb 0 (sumOf (λ t. asCount (inhibits N p t)) ts) (omega (arith, guards p (omega (arith, A .places)), G .none p (omega arith)))) (and-false (ltb 0 (getD mk p 0)))
-      ]
+  pub inhibited-held : {set : ℕ} {r : Bool} → Joined (arcAt sets 64) (take count xs) set → SomePlace marking set true r → r ≡ inhibited N mk ts
+  unfolding inhibited isFilled
+  inhibited-held G B = some-held 64 (inhibits N) true (A .inhibitors) G B
 
   -- what is not short can be played
   pub playable : ((p : ℕ) → p < m → getD mk p 0 ≤ 512) → short N mk ts ≡ false → Playable sets (take count xs) marking
-  unfolding short taken
+  unfolding short needed taken
   playable low e = record {
     long = H .long;
     within = λ i p h. A .within i p (omega (arith, A .few));
     enough = λ p. elim (decLt p m) [
-      | yes l ↦ omega (arith, over-held A S K 0 (A .inputs) p l, H .tokens p, ltb-false (getD mk p 0) (over (takes N) ts p) (Laws.any-none (λ p. ltb (getD mk p 0) (over (takes N) ts p)) (upTo (places N)) e p (Laws.upTo-in (places N) (omega (arith, A .places)))))
+      | yes l ↦ omega (arith, over-held A S K 0 (A .inputs) p l, H .tokens p, ltb-false (getD mk p 0) (needed N ts p) (Laws.any-none (λ p. ltb (getD mk p 0) (needed N ts p)) (upTo (places N)) e p (Laws.upTo-in (places N) (omega (arith, A .places)))))
       | no l ↦ omega (arith, over-beyond A S K 0 p (omega arith))
     ];
     fits = λ p h. elim (decLt p m) [

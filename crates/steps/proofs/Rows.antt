@@ -137,7 +137,7 @@ module _ {sets ts old mid : List ℕ} (R : Playable sets ts old) (P : Paid (arcA
       front p = omega arith
 
 -- what is summed from nothing
-pub blank-summable : (at : ℕ) {sets : List ℕ} → at ≤ 64 → Within 32 sets → Summable at 0 sets (replicate 32 0)
+pub blank-summable : (at : ℕ) {sets : List ℕ} → at ≤ 96 → Within 32 sets → Summable at 0 sets (replicate 32 0)
 blank-summable at h w = record { kind = h; places = 32; few = omega arith; within = w; long = omega (arith, length-replicate {A = ℕ} 32 0); low = λ p k. omega (arith, blank 32 (0 + p)) }
 
 -- a set that is joined has no place beyond

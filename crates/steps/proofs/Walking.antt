@@ -1,16 +1,18 @@
 -- The places of a set, added to an array or taken from it one after the other.
 use Prim.Native.Nat.{ℕ, _+_, _-_, _*_, _%_, _^_, _≤_, _<_}
 use mathlib.Core.Path.{_≡_, refl, _∙_}
+use mathlib.Core.Bool.{Bool, true, false, Bool·beq}
 use mathlib.Core.List.{List}
 use native.Mathlib.Decide.{ℕ-discrete, decLt}
 use native.Mathlib.Omega.{arith}
 use lib.Bits.{bitAnd, bitXor}
+use lib.Dec.{ltb}
 use lib.Count.{trailingZeros}
 use lib.ListN.{length, getD, set, length-set}
 use lib.Seq.{getD-set-same, getD-set-other}
 use Rattle.bit_sets.specs.Bits.{bit}
 use Rattle.arc_sets.specs.Walk.{Left, lowest, left-within, lowest-word, skipped, left-rest, rest-less}
-use Rattle.steps.specs.StepArrays.{Addable, AddedTo, AddedSet, Payable, TakenSet, Within32}
+use Rattle.steps.specs.StepArrays.{isFilled, Addable, AddedTo, AddedSet, Payable, TakenSet, Within32}
 
 -- a word without bit i
 abbrev pub rest : ℕ → ℕ → ℕ
@@ -134,17 +136,28 @@ taking {word} {bits} {d} {i} {old} {new} e R L A t z = record {
 
 -- ---- looking
 
--- no place so far has a token
-pub record Empty (word n : ℕ) (xs : List ℕ) : Type 0 where
-  pub clear : (i : ℕ) → i < n → bit word i ≡ 1 → getD xs i 0 ≡ 0
+-- two tests compared, as the code asks for tokens or for none
+pub filled-is : (b : Bool) (v : ℕ) → isFilled b v ≡ Bool·beq (ltb 0 v) b
+unfolding isFilled
+filled-is b v = go b (ltb 0 v) refl
+  where
+    go : (b t : Bool) → ltb 0 v ≡ t → isFilled b v ≡ Bool·beq t b
+    go true true e = e
+    go true false e = e
+    go false true e = rw e
+    go false false e = rw e
 
-pub empty-next : {word bits d i : ℕ} {xs : List ℕ} → Left word bits d → Empty word d xs → i ≡ trailingZeros 64 bits → (bits ≡ 0 → ⊥) → getD xs i 0 ≤ 0 → Left word (rest bits i) (i + 1) × Empty word (i + 1) xs
-empty-next {word} {bits} {d} {i} {xs} L E t z h = (
+-- no place so far passes a test
+pub record NoneTo (q : ℕ → Bool) (word n : ℕ) (xs : List ℕ) : Type 0 where
+  pub fails : (i : ℕ) → i < n → bit word i ≡ 1 → q (getD xs i 0) ≡ false
+
+pub none-next : {q : ℕ → Bool} {word bits d i : ℕ} {xs : List ℕ} → Left word bits d → NoneTo q word d xs → i ≡ trailingZeros 64 bits → (bits ≡ 0 → ⊥) → q (getD xs i 0) ≡ false → Left word (rest bits i) (i + 1) × NoneTo q word (i + 1) xs
+none-next {q} {word} {bits} {d} {i} {xs} L E t z h = (
   left-rest L t (w .left) (w .low),
   record {
-    clear = λ j l b. elim (ℕ-discrete j i) [
-      | yes e ↦ rw e (omega arith)
-      | no n ↦ elim (decLt j d) [ yes k ↦ E .clear j k b | no k ↦ absurd (omega (arith, w .passed j (omega arith) (omega arith), b)) ]
+    fails = λ j l b. elim (ℕ-discrete j i) [
+      | yes e ↦ rw e h
+      | no n ↦ elim (decLt j d) [ yes k ↦ E .fails j k b | no k ↦ absurd (omega (arith, w .passed j (omega arith) (omega arith), b)) ]
     ];
   },
 )
@@ -156,5 +169,5 @@ empty-next {word} {bits} {d} {i} {xs} L E t z h = (
 pub looks : (word i : ℕ) → Within32 word → bit word i ≡ 1 → i < 32
 looks word i R b = elim (decLt i 32) [ yes h ↦ h | no h ↦ absurd (omega (arith, R i (omega arith), b)) ]
 
-pub cleared : {word d : ℕ} {xs : List ℕ} → ((j : ℕ) → d ≤ j → bit word j ≡ 0) → Empty word d xs → (j : ℕ) → bit word j ≡ 1 → getD xs j 0 ≡ 0
-cleared {word} {d} z E j b = elim (decLt j d) [ yes k ↦ E .clear j k b | no k ↦ absurd (omega (arith, z j (omega arith), b)) ]
+pub none-all : {q : ℕ → Bool} {word d : ℕ} {xs : List ℕ} → ((j : ℕ) → d ≤ j → bit word j ≡ 0) → NoneTo q word d xs → (j : ℕ) → bit word j ≡ 1 → q (getD xs j 0) ≡ false
+none-all {d = d} z E j b = elim (decLt j d) [ yes k ↦ E .fails j k b | no k ↦ absurd (omega (arith, z j (omega arith), b)) ]

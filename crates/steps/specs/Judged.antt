@@ -2,7 +2,7 @@
 -- (24, 25).
 use Prim.Native.Nat.{ℕ, _+_, _<_}
 use mathlib.Core.Path.{_≡_}
-use mathlib.Core.Bool.{not}
+use mathlib.Core.Bool.{Bool, not}
 use mathlib.Core.List.{List}
 use lib.Dec.{ltb, leb}
 use lib.ListN.{length}
@@ -66,6 +66,13 @@ lineAt N k l events m = do
   countStep k events (length ts)
   judgeStep N k m ts
   gives ts
+
+-- the test of 24 is that of the definitions, for every net and marking that are held
+abbrev pub IsShort : (xs : List ℕ) (count : ℕ) (sets marking : List ℕ) (m : ℕ) → Bool → Type 0
+IsShort xs count sets marking m r =
+    (N : Net) (ts mk : List ℕ) → HoldsArcs N sets m → HoldsStep xs count ts
+    → ((t : ℕ) → In t ts → t < N .transitions) → HoldsMarking m marking mk
+    → r ≡ short N mk ts
 
 -- a step is judged as the definitions say, for every net and marking that are held
 abbrev pub Judges : (xs : List ℕ) (count : ℕ) (sets marking : List ℕ) (m k : ℕ) → StepAnswer → Type 0

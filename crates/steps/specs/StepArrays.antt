@@ -1,13 +1,13 @@
 -- What ties the arrays of a step and of a marking to those of the definitions.
 use Prim.Native.Nat.{ℕ, _+_, _-_, _≤_, _<_}
 use mathlib.Core.Path.{_≡_}
-use mathlib.Core.Bool.{Bool, true, false}
+use mathlib.Core.Bool.{Bool, true, false, not}
 use mathlib.Core.List.{List}
 use lib.ListN.{length, getD, take}
 use lib.Dec.{ltb}
 use Rattle.spec.specs.Lists.{any, sumOf, upTo}
 use Rattle.bit_sets.specs.Bits.{bit}
-use Rattle.arc_sets.specs.Sets.{madeAt, guardsAt, arcAt, Within}
+use Rattle.arc_sets.specs.Sets.{madeAt, readAt, arcAt, Within}
 
 -- the events that the array of a step has room for, and the places of the array of a marking
 abbrev pub stepLong : ℕ
@@ -54,7 +54,7 @@ pub record AddedSet (from set : ℕ) (old new : List ℕ) : Type 0 where
 
 -- what summing a step's sets relies on
 pub record Summable (at from : ℕ) (sets xs : List ℕ) : Type 0 where
-  pub kind : at ≤ guardsAt
+  pub kind : at ≤ readAt
   pub places : ℕ
   pub few : places ≤ 32
   pub within : Within places sets
@@ -104,10 +104,15 @@ pub record HoldsMarking (n : ℕ) (xs m : List ℕ) : Type 0 where
 unfoldable pub falls : List ℕ → List ℕ → ℕ → Bool
 falls xs taken places = any (λ p. ltb (getD xs p 0) (getD taken p 0)) (upTo places)
 
--- whether some place of a set has a token
-pub record Blocks (xs : List ℕ) (set : ℕ) (r : Bool) : Type 0 where
-  pub clear : r ≡ false → (p : ℕ) → bit set p ≡ 1 → getD xs p 0 ≡ 0
-  pub held : r ≡ true → (p : ℕ) × (bit set p ≡ 1) × (0 < getD xs p 0)
+-- there are tokens, or there is none, as is asked
+unfoldable pub isFilled : Bool → ℕ → Bool
+isFilled true v = ltb 0 v
+isFilled false v = not (ltb 0 v)
+
+-- whether some place of a set is so
+pub record SomePlace (xs : List ℕ) (set : ℕ) (filled r : Bool) : Type 0 where
+  pub none : r ≡ false → (p : ℕ) → bit set p ≡ 1 → isFilled filled (getD xs p 0) ≡ false
+  pub found : r ≡ true → (p : ℕ) × (bit set p ≡ 1) × (isFilled filled (getD xs p 0) ≡ true)
 
 -- what playing a step relies on: enough tokens are there, and those made fit
 pub record Playable (sets ts xs : List ℕ) : Type 0 where

@@ -3,12 +3,13 @@ ghost use mathlib.Core.Path.{_≡_};
 ghost use Prim.Native.Nat.{_+_, _≤_};
 ghost use lib.ListN.{length, getD, take};
 ghost use Rattle.lists.specs.Stretch.{MappedFrom};
-ghost use Rattle.arc_sets.specs.Sets.{guardsAt, Within, arcAt};
+ghost use Rattle.arc_sets.specs.Sets.{readAt, Within, arcAt};
 ghost use Rattle.steps.specs.StepArrays.{markingLong, IsStep, Addable, AddedSet, TakenSet, Summable, Summed};
-ghost use Rattle.steps.specs.StepArrays.{Payable, Paid, Within32, falls, Joined, Blocks, Playable, MovedBy};
-ghost use Rattle.steps.specs.Judged.{Judges};
+ghost use Rattle.steps.specs.StepArrays.{Payable, Paid, Within32, falls, Joined, SomePlace, Playable, MovedBy};
+ghost use Rattle.steps.specs.Judged.{IsShort, Judges};
 use arc_sets::GUARDS;
 use arc_sets::MADE;
+use arc_sets::READ;
 use arc_sets::SETS;
 use arc_sets::lowest;
 use machine_numbers::wide;
@@ -106,7 +107,7 @@ fn take_all(step: &[u8; STEP], count: usize, sets: &[u64; SETS], marking: &mut [
 // ---- a step at a marking
 
 // Whether some place has fewer tokens than are taken from it.
-fn short(marking: &[u32; MARKING], taken: &[u32; MARKING], places: usize) -> bool
+fn falls(marking: &[u32; MARKING], taken: &[u32; MARKING], places: usize) -> bool
     requires { ⌜ places ≤ 32 ⌝ }
     ensures { λ r. ⌜ r ≡ falls (now (marking .entry)) (now (taken .entry)) places ⌝ }
 {
@@ -120,34 +121,54 @@ fn short(marking: &[u32; MARKING], taken: &[u32; MARKING], places: usize) -> boo
     false
 }
 
-// The places that inhibit one of the step's events.
-fn guards_of(step: &[u8; STEP], count: usize, sets: &[u64; SETS]) -> u64
-    requires { ⌜ IsStep (now step) count ⌝ }
-    ensures { λ r. ⌜ Joined (arcAt (now (sets .entry)) guardsAt) (take count (now (step .entry))) r ⌝ }
+// The places that one of the step's events is joined to, by the sets that start at `at`.
+fn joined(step: &[u8; STEP], count: usize, sets: &[u64; SETS], at: usize) -> u64
+    requires { ⌜ IsStep (now step) count × (at ≤ readAt) ⌝ }
+    ensures { λ r. ⌜ Joined (arcAt (now (sets .entry)) at) (take count (now (step .entry))) r ⌝ }
 {
     let mut set: u64 = 0;
     let mut i: usize = 0;
     while i < count {
-        set = set | sets[GUARDS + wide(step[i])];
+        set = set | sets[at + wide(step[i])];
         i += 1;
     }
     set
 }
 
-// Whether some place of a set is not empty.
-fn inhibited(marking: &[u32; MARKING], guards: u64) -> bool
-    requires { ⌜ Within32 guards ⌝ }
-    ensures { λ r. ⌜ Blocks (now (marking .entry)) guards r ⌝ }
+// Whether some place of a set has a token, or is empty, as is asked.
+fn some_place(marking: &[u32; MARKING], set: u64, filled: bool) -> bool
+    requires { ⌜ Within32 set ⌝ }
+    ensures { λ r. ⌜ SomePlace (now (marking .entry)) set filled r ⌝ }
 {
-    let mut bits = guards;
+    let mut bits = set;
     while bits != 0 {
         let p = lowest(bits);
-        if 0 < marking[p] {
+        if (0 < marking[p]) == filled {
             return true;
         }
         bits = bits & (bits ^ (1 << p));
     }
     false
+}
+
+// Whether some place has fewer tokens than the step needs there: those that its events take, and one where one of them
+// reads it (24).
+fn short(
+    step: &[u8; STEP],
+    count: usize,
+    sets: &[u64; SETS],
+    marking: &[u32; MARKING],
+    places: usize,
+) -> bool
+    requires { ⌜ IsStep (now step) count × (places ≤ 32) × Within 32 (now sets) ⌝ }
+    ensures { λ r. ⌜ IsShort (now (step .entry)) count (now (sets .entry)) (now (marking .entry)) places r ⌝ }
+{
+    let mut taken = [0u32; MARKING];
+    add_all(step, count, sets, 0, &mut taken, 0);
+    if falls(marking, &taken, places) {
+        return true;
+    }
+    some_place(marking, joined(step, count, sets, READ), false)
 }
 
 // A step of line `line`, of known transitions, judged at a marking: 24 and 25.
@@ -162,12 +183,10 @@ pub fn judge(
     requires { ⌜ IsStep (now step) count × (places ≤ 32) × Within 32 (now sets) ⌝ }
     ensures { λ r. ⌜ Judges (now (step .entry)) count (now (sets .entry)) (now (marking .entry)) places line r ⌝ }
 {
-    let mut taken = [0u32; MARKING];
-    add_all(step, count, sets, 0, &mut taken, 0);
-    if short(marking, &taken, places) {
+    if short(step, count, sets, marking, places) {
         return StepAnswer::Refused(StepRefusal::TooFewTokens(line));
     }
-    if inhibited(marking, guards_of(step, count, sets)) {
+    if some_place(marking, joined(step, count, sets, GUARDS), true) {
         return StepAnswer::Refused(StepRefusal::Inhibited(line));
     }
     StepAnswer::Goes

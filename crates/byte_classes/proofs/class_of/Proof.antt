@@ -53,6 +53,9 @@ plain-requires-14 c κs = tt
 plain-requires-15 : tie.Need-plain-requires-15
 plain-requires-15 c κs = tt
 
+plain-requires-16 : tie.Need-plain-requires-16
+plain-requires-16 c κs = tt
+
 returns : tie.Need-returns
 unfolding named inDigits classOf digitOf classAndDigit
 returns c = c .plain .ensures ∙ sym (ap classAndDigit (c .before .match .keys1))
@@ -111,11 +114,15 @@ returns-14 c = c .plain14 .ensures ∙ sym (ap classAndDigit (c .before .match .
 
 returns-15 : tie.Need-returns-15
 unfolding named inDigits classOf digitOf classAndDigit
-returns-15 c = digit (c .before .before .before .args .b) (omega arith) (omega arith)
+returns-15 c = c .plain15 .ensures ∙ sym (ap classAndDigit (c .before .match .keys15))
 
 returns-16 : tie.Need-returns-16
 unfolding named inDigits classOf digitOf classAndDigit
-returns-16 c = c .plain15 .ensures
+returns-16 c = digit (c .before .before .before .args .b) (omega arith) (omega arith)
+
+returns-17 : tie.Need-returns-17
+unfolding named inDigits classOf digitOf classAndDigit
+returns-17 c = c .plain16 .ensures
     ∙ foreign (c .before .before .before .args .b)
     (λ p q. ⊎-elim (λ w. not-below (w .taken) p) (λ w. not-below (w .1 .left) q) (c .before .if1 .came)) (c .before .before .match .rest)
 
@@ -138,6 +145,7 @@ class-of-spec =
     plain-requires-13
     plain-requires-14
     plain-requires-15
+    plain-requires-16
     returns
     returns-2
     returns-3
@@ -153,4 +161,5 @@ class-of-spec =
     returns-13
     returns-14
     returns-15
-    returns-16)
+    returns-16
+    returns-17)

@@ -2,7 +2,7 @@
 -- `addRow` adds there.
 use mathlib.Core.Path.{refl, sym, _∙_}
 use borrow.Author.Needs.{needs}
-use Rattle.spec.specs.declared.ArcKind.the-variants.{Input, Output, Inhibitor}
+use Rattle.spec.specs.declared.ArcKind.the-variants.{Input, Output, Inhibitor, Read}
 use Rattle.lines.specs.Agree.{refusing}
 use Rattle.net_reader.specs.Reads.{addRow}
 use Rattle.net_reader.proofs.add_row.Statement.{statement}
@@ -69,13 +69,24 @@ unfolding addRow
 returns-5 c m d = let i4 = c .before .before in let i3 = i4 .before .before in let i2 = i3 .before .before in let i1 = i2 .before .before in let i0 = i1 .before .before in let b = i0 .before .before in
     rw (sym (i0 .before .is-one .ensures) ∙ i0 .if1 .left, sym (i1 .before .is-alone .ensures) ∙ i1 .if2 .left, sym (i2 .before .is-two .ensures) ∙ i2 .if3 .left, sym (i3 .before .is-two2 .ensures) ∙ i3 .if4 .left, sym (i4 .before .is-two3 .ensures) ∙ i4 .if5 .taken, ← b .before .number-in .ensures, ← b .number-in2 .ensures) (c .add-arc3 .ensures Inhibitor _ refl m d)
 
-refused-requires : tie.Need-refused-requires
-refused-requires c κs = search needs
+is-two-requires-4 : tie.Need-is-two-requires-4
+is-two-requires-4 c κs = search needs
+
+add-arc-requires-4 : tie.Need-add-arc-requires-4
+add-arc-requires-4 c κs = search needs
 
 returns-6 : tie.Need-returns-6
 unfolding addRow
-returns-6 c m d = let i4 = c .before in let i3 = i4 .before .before in let i2 = i3 .before .before in let i1 = i2 .before .before in let i0 = i1 .before .before in let b = i0 .before .before in
-    rw (c .refused .ensures, sym (i0 .before .is-one .ensures) ∙ i0 .if1 .left, sym (i1 .before .is-alone .ensures) ∙ i1 .if2 .left, sym (i2 .before .is-two .ensures) ∙ i2 .if3 .left, sym (i3 .before .is-two2 .ensures) ∙ i3 .if4 .left, sym (i4 .before .is-two3 .ensures) ∙ i4 .if5 .left) (refusing 11 _ refl refl)
+returns-6 c m d = let i5 = c .before .before in let i4 = i5 .before .before in let i3 = i4 .before .before in let i2 = i3 .before .before in let i1 = i2 .before .before in let i0 = i1 .before .before in let b = i0 .before .before in
+    rw (sym (i0 .before .is-one .ensures) ∙ i0 .if1 .left, sym (i1 .before .is-alone .ensures) ∙ i1 .if2 .left, sym (i2 .before .is-two .ensures) ∙ i2 .if3 .left, sym (i3 .before .is-two2 .ensures) ∙ i3 .if4 .left, sym (i4 .before .is-two3 .ensures) ∙ i4 .if5 .left, sym (i5 .before .is-two4 .ensures) ∙ i5 .if6 .taken, ← b .before .number-in .ensures, ← b .number-in2 .ensures) (c .add-arc4 .ensures Read _ refl m d)
+
+refused-requires : tie.Need-refused-requires
+refused-requires c κs = search needs
+
+returns-7 : tie.Need-returns-7
+unfolding addRow
+returns-7 c m d = let i5 = c .before in let i4 = i5 .before .before in let i3 = i4 .before .before in let i2 = i3 .before .before in let i1 = i2 .before .before in let i0 = i1 .before .before in let b = i0 .before .before in
+    rw (c .refused .ensures, sym (i0 .before .is-one .ensures) ∙ i0 .if1 .left, sym (i1 .before .is-alone .ensures) ∙ i1 .if2 .left, sym (i2 .before .is-two .ensures) ∙ i2 .if3 .left, sym (i3 .before .is-two2 .ensures) ∙ i3 .if4 .left, sym (i4 .before .is-two3 .ensures) ∙ i4 .if5 .left, sym (i5 .before .is-two4 .ensures) ∙ i5 .if6 .left) (refusing 11 _ refl refl)
 
 pub add-row-spec : {M : Type 1} → statement M
-add-row-spec = tie.close (tie.spec number-in-requires number-in-requires-2 is-one-requires add-place-requires returns is-alone-requires add-transition-requires returns-2 is-two-requires add-arc-requires returns-3 is-two-requires-2 add-arc-requires-2 returns-4 is-two-requires-3 add-arc-requires-3 returns-5 refused-requires returns-6)
+add-row-spec = tie.close (tie.spec number-in-requires number-in-requires-2 is-one-requires add-place-requires returns is-alone-requires add-transition-requires returns-2 is-two-requires add-arc-requires returns-3 is-two-requires-2 add-arc-requires-2 returns-4 is-two-requires-3 add-arc-requires-3 returns-5 is-two-requires-4 add-arc-requires-4 returns-6 refused-requires returns-7)

@@ -1,64 +1,33 @@
--- `steps::short` meets its contract. The loop's invariant: a place from p on falls short just if one of all places
--- does. One that does settles it, and past the last place none is left.
-use Prim.Native.Nat.{ℕ, _-_, _≤_}
-use mathlib.Core.Path.{_≡_, sym, _∙_}
-use mathlib.Core.Bool.{Bool}
-use mathlib.Core.List.{List}
+-- `steps::short` meets its contract: some place falls short of what is needed there just if it falls short of what is
+-- taken, or is read and empty.
+use mathlib.Core.Path.{refl, sym, _∙_}
 use native.Mathlib.Omega.{arith}
-use lib.Dec.{ltb}
-use lib.ListN.{getD}
-use borrow.Author.Tests.{lt-ltb, le-ltb}
-use Rattle.spec.specs.Lists.{any, from}
-use Rattle.lists.specs.Search.{any-start, any-hit, any-on, any-end}
-use Rattle.steps.specs.StepArrays.{falls}
+use Rattle.steps.proofs.Rows.{blank-summable, joined-within}
+use Rattle.steps.proofs.Held.{short-taken, short-read}
 use Rattle.steps.proofs.short.Statement.{statement}
 use Rattle.steps.proofs.short.Tie as tie
 
-abbrev less : List ℕ → List ℕ → ℕ → Bool
-less xs ys p = ltb (getD xs p 0) (getD ys p 0)
+slice-aggregate-add-all : tie.Need-slice-aggregate-add-all
+slice-aggregate-add-all c = refl
 
-starts : (xs ys : List ℕ) (n : ℕ) → any (less xs ys) (from 0 (n - 0)) ≡ falls xs ys n
-unfolding falls
-starts xs ys n = any-start (less xs ys) n
+add-all-requires : tie.Need-add-all-requires
+add-all-requires c κs = let s = c .before in (s .pre .0, blank-summable 0 (omega arith) (s .pre .2))
 
-abbrev Inv-loop : tie.InvT-loop
-Inv-loop marking taken places p₀ p = (p ≤ places) × (any (less marking taken) (from p (places - p)) ≡ falls marking taken places)
+falls-requires : tie.Need-falls-requires
+falls-requires c κs = let s = c .before .before .before .before in s .pre .1
 
-abbrev μ-loop : tie.MeasureT-loop
-μ-loop marking taken places p₀ p = places - p
+returns : tie.Need-returns
+returns c = let f = c .before in let ad = f .before .before .before in λ N ts mk A S K H. sym (short-taken A S K H (ad .add-all .ensures) (sym (f .falls .ensures) ∙ c .if1 .taken))
 
-loop-holds : tie.Need-loop-holds Inv-loop μ-loop
-loop-holds c = (omega arith, starts _ _ _)
+joined-requires : tie.Need-joined-requires
+joined-requires c κs = let s = c .before .before .before .before .before .before in (s .pre .0, omega arith)
 
-mul-if1 : tie.Need-mul-if1 Inv-loop μ-loop
-mul-if1 c = omega arith
+some-place-requires : tie.Need-some-place-requires
+some-place-requires c κs = let s = c .before .before .before .before .before .before .before in joined-within (s .args .sets .now) 96 (s .pre .2) (c .joined .ensures)
 
-element-copy-out-if1 : tie.Need-element-copy-out-if1 Inv-loop μ-loop
-element-copy-out-if1 c = omega arith
-
-mul-if1-2 : tie.Need-mul-if1-2 Inv-loop μ-loop
-mul-if1-2 c = omega arith
-
-element-copy-out-if1-2 : tie.Need-element-copy-out-if1-2 Inv-loop μ-loop
-element-copy-out-if1-2 c = omega arith
-
-returns : tie.Need-returns Inv-loop μ-loop
-returns c = let l = c .before .before .before .before in let a = l .before .args in
-    sym (any-hit (less (a .marking .now) (a .taken .now)) _ _ (c .before .before .before .loop-test .taken) (lt-ltb _ _ (c .if1 .taken))) ∙ l .loop .inv .1
-
-add-p : tie.Need-add-p Inv-loop μ-loop
-add-p c = omega arith
-
-loop-less : tie.Need-loop-less Inv-loop μ-loop
-loop-less c = omega arith
-
-loop-again : tie.Need-loop-again Inv-loop μ-loop
-loop-again c = let l = c .before .before .before .before in let a = l .before .args in
-    (omega arith, any-on (less (a .marking .now) (a .taken .now)) _ _ (c .before .before .before .loop-test .taken) (le-ltb _ _ (c .if1 .left)) ∙ l .loop .inv .1)
-
-returns-2 : tie.Need-returns-2 Inv-loop μ-loop
-returns-2 c = let l = c .before in let a = l .before .args in
-    sym (any-end (less (a .marking .now) (a .taken .now)) _ _ (c .loop-test .left)) ∙ l .loop .inv .1
+returns-2 : tie.Need-returns-2
+returns-2 c = let g = c .before in let i = g .before in let f = i .before in let ad = f .before .before .before in λ N ts mk A S K H.
+    short-read A S K H (ad .add-all .ensures) (sym (f .falls .ensures) ∙ i .if1 .left) (g .joined .ensures) (c .some-place .ensures)
 
 pub short-spec : {M : Type 1} → statement M
-short-spec = tie.close (tie.spec Inv-loop μ-loop loop-holds mul-if1 element-copy-out-if1 mul-if1-2 element-copy-out-if1-2 returns add-p loop-less loop-again returns-2)
+short-spec = tie.close (tie.spec slice-aggregate-add-all add-all-requires falls-requires returns joined-requires some-place-requires returns-2)
