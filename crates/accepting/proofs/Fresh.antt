@@ -11,18 +11,18 @@ use Rattle.net_reader.specs.Reads.{Blank as NetBlank}
 use Rattle.record_reader.specs.Reads.{Blank as RecordBlank}
 use Rattle.accepting.specs.Relation.{Blank}
 
-pub fresh-net : NetBlank (replicate 32 0) (replicate 3072 0)
+pub fresh-net : NetBlank (replicate 32 0) (replicate 4096 0)
 fresh-net = record { tokens = refl; arcs = refl }
 
 pub fresh-record : 1664 ≤ length (replicate {A = ℕ} 1664 0)
 fresh-record = omega (arith, length-replicate {A = ℕ} 1664 0)
 
 -- words for the marks of a short text, and of any
-pub fresh-few : (text : List ℕ) → length text ≤ 128 → RecordBlank text (replicate 512 0)
+pub fresh-few : (text : List ℕ) → length text ≤ 512 → RecordBlank text (replicate 512 0)
 fresh-few text l = record { room = omega (arith, length-replicate {A = ℕ} 512 0); zero = blank 512 }
 
-pub fresh-all : (text : List ℕ) → RecordBlank text (replicate 2048 0)
-fresh-all text = record { room = omega (arith, length-replicate {A = ℕ} 2048 0); zero = blank 2048 }
+pub fresh-all : (text : List ℕ) → RecordBlank text (replicate 4096 0)
+fresh-all text = record { room = omega (arith, length-replicate {A = ℕ} 4096 0); zero = blank 4096 }
 
 pub fresh : Blank (replicate 512 0)
 unfolding Good

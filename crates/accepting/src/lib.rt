@@ -33,8 +33,9 @@ use row_pairs::raise_conditions;
 use row_pairs::raise_marks;
 use spec::Limits;
 
-// A short text, by its bytes, and the words for the marks of the few conditions that it has.
-const SHORT_TEXT: usize = 128;
+// A short text, by its bytes, and the words for the marks of the few conditions that it has: eight for each, whose line
+// has eight bytes or more.
+const SHORT_TEXT: usize = 512;
 
 const SHORT_MARKS: usize = 512;
 

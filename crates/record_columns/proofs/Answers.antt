@@ -4,8 +4,7 @@ use mathlib.Core.Bool.{true, false}
 use mathlib.Core.List.{List, [], _∷_}
 use types.Run.{OneOf, miss}
 use denote.Enum.Declared.{tagOf}
-use Prim.Native.Nat.{ℕ, _+_, _≤_}
-use native.Mathlib.Omega.{arith}
+use Prim.Native.Nat.{ℕ}
 use Rattle.spec.specs.Answer.{Answer, gives}
 use Rattle.spec.specs.Record.{RunRecord}
 use Rattle.lines.specs.Agree.{refusedAs, giving, refusing}
@@ -36,14 +35,14 @@ refused-case (Refused x) u = refl
 module _ {s : Counts} {b words b′ words′ : List ℕ} {f : RunRecord → Answer RunRecord} {r : RecordRead} where
   pub line-refused : (why : RecordRefusal) → r ≡ record { answer = Refused why; counts = s }
       → ((R : RunRecord) → Holds s b words R → f R ≡ refusedAs (recordRefusal why)) → Enters s b words f r b′ words′
-  line-refused why e h = rw e (record { answers = λ R q. refusing _ _ (h R q) refl; grown = omega arith })
+  line-refused why e h = rw e (record { answers = λ R q. refusing _ _ (h R q) refl })
 
-  pub line-entered : (s′ : Counts) → r ≡ record { answer = Read; counts = s′ } → s′ .conditions ≤ s .conditions + 1
+  pub line-entered : (s′ : Counts) → r ≡ record { answer = Read; counts = s′ }
       → (g : RunRecord → RunRecord) → ((R : RunRecord) → Holds s b words R → (f R ≡ gives (g R)) × Holds s′ b′ words′ (g R))
       → Enters s b words f r b′ words′
-  line-entered s′ e l g h = rw e (record { answers = λ R q. giving (g R) (h R q .0) refl (h R q .1); grown = l })
+  line-entered s′ e g h = rw e (record { answers = λ R q. giving (g R) (h R q .0) refl (h R q .1) })
 
   -- a step that answers the same enters the same
   pub entered-same : (g : RunRecord → Answer RunRecord) → ((R : RunRecord) → f R ≡ g R) → Enters s b words g r b′ words′
       → Enters s b words f r b′ words′
-  entered-same g e h = record { answers = λ R q. rw (e R) (h .answers R q); grown = h .grown }
+  entered-same g e h = record { answers = λ R q. rw (e R) (h .answers R q) }

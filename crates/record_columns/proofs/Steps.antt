@@ -10,13 +10,13 @@ use lib.ListN.{length}
 use borrow.Author.Tests.{lt-ltb, le-ltb, ltb-true, ne-eqb}
 use Rattle.spec.specs.Answer.{Answer, gives, refuses, _>>_, refuse_at_when_}
 use Rattle.spec.specs.Net.{Net, places}
-use Rattle.spec.specs.Record.{RunRecord, Condition, Mark, marked}
+use Rattle.spec.specs.Record.{RunRecord, Condition, Mark, slotOf, marked}
 use Rattle.spec.specs.Process.{isBelow}
 use Rattle.spec.specs.Checking.{isEmpty, withEvent, withCondition, withMark, enterEvent, enterCondition, enterMark}
 use Rattle.spec.specs.declared.Limits.{Limits}
 use Rattle.lists.specs.Laws.{and-true, not-is-false}
 use Rattle.reach.specs.Rows.{cellOf}
-use Rattle.record_columns.specs.Layout.{eventCode, HoldsRecord, HoldsMarks}
+use Rattle.record_columns.specs.Layout.{eventCode, markSlots, markRow, HoldsRecord, HoldsMarks}
 use Rattle.record_columns.proofs.Marks.{marked-value}
 
 -- ---- three refusals of a line in a row
@@ -60,13 +60,13 @@ module _ {n m q : ℕ} {b : List ℕ} {R : RunRecord} (h : HoldsRecord n m q b R
   unfolding enterCondition judged
   condition-is N c d = rw (h .events, h .conditions, h .marks, ← d, empty-is (R .marks))
 
-  pub mark-is : (w : Mark) → enterMark lim k w R ≡ judged k 32 (leb (lim .marks) q) 33 (not (ltb (w .condition) m && ltb (w .event) n)) 34 (marked R (w .condition) (w .event)) (withMark w R)
+  pub mark-is : (w : Mark) → enterMark lim k w R ≡ judged k 32 (leb (lim .marks) q) 33 (not (ltb (w .condition) m && ltb (w .event) n)) 34 (marked R (slotOf (w .kind)) (w .condition) (w .event)) (withMark w R)
   unfolding enterMark judged
   mark-is w = rw (h .events, h .conditions, h .marks)
 
 -- whether there is a mark is read in the words
-pub mark-read : {words : List ℕ} {R : RunRecord} → HoldsMarks words R → (c e : ℕ) → marked R c e ≡ ltb 0 (cellOf words c e)
-mark-read {R} f c e = marked-value R c e ∙ ap (ltb 0) (sym (f .cell c e))
+pub mark-read : {words : List ℕ} {R : RunRecord} → HoldsMarks words R → (s c e : ℕ) → s < markSlots → marked R s c e ≡ ltb 0 (cellOf words (markRow c s) e)
+mark-read {R} f s c e l = marked-value R s c e ∙ ap (ltb 0) (sym (f .cell s c e l))
 
 -- ---- numbers that are declared
 

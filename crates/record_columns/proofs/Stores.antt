@@ -7,11 +7,11 @@ use native.Mathlib.Decide.{ℕ-discrete}
 use native.Mathlib.Omega.{arith}
 use lib.ListN.{length, getD, set, length-set, length-append, List·getD-append}
 use lib.Seq.{getD-set-same, getD-set-other, getD-append-seam}
-use Rattle.spec.specs.Record.{RunRecord, Condition, Mark, noCondition, conditionAt, isAt}
+use Rattle.spec.specs.Record.{RunRecord, Condition, Mark, noCondition, conditionAt, slotOf, isAt}
 use Rattle.spec.specs.Checking.{withEvent, withCondition, withMark}
 use Rattle.reach.specs.Rows.{cellOf, Raised}
-use Rattle.record_columns.specs.Layout.{eventCode, kindCode, markSays, markValue, HoldsRecord, HoldsMarks}
-use Rattle.record_columns.proofs.Marks.{value-append, value-one, says-here, says-away, at-both, at-own}
+use Rattle.record_columns.specs.Layout.{eventCode, markSlots, markRow, kindCode, markSays, markValue, HoldsRecord, HoldsMarks}
+use Rattle.record_columns.proofs.Marks.{value-append, value-one, says-here, says-away, at-all, at-own, slot-few}
 
 -- a column of bytes, the i-th at pos i, that holds what f says of the elements of a list, with one more in both
 column-more : {A : Type 0} (pos : ℕ → ℕ) (f : A → ℕ) (d : A) (b b′ : List ℕ) (xs : List A) (x : A) (n : ℕ) → n ≡ length xs
@@ -121,18 +121,29 @@ module _ {words : List ℕ} {R : RunRecord} (h : HoldsMarks words R) where
   unfolding withCondition
   condition-marks c = record { sub = h .sub; cell = h .cell }
 
-  pub mark-raised : {words′ : List ℕ} (w : Mark) → Raised words (w .condition) (w .event) (kindCode (w .kind)) words′ → HoldsMarks words′ (withMark w R)
+  -- a mark that is raised in the row of its slot; other slots and conditions have other rows
+  pub mark-raised : {words′ : List ℕ} (w : Mark) → Raised words (markRow (w .condition) (slotOf (w .kind))) (w .event) (kindCode (w .kind)) words′ → HoldsMarks words′ (withMark w R)
   unfolding withMark
   mark-raised {words′} w r = record {
-    sub = λ c. r .sub c (h .sub c);
-    cell = λ c e. go c e (isAt c e w) refl;
+    sub = λ i. r .sub i (h .sub i);
+    cell = λ s c e l. go s c e l (isAt s c e w) refl;
   }
     where
-      said : (c e : ℕ) → markValue (R .marks ++ w ∷ []) c e ≡ max (markValue (R .marks) c e) (markSays w c e)
-      said c e = value-append (R .marks) (w ∷ []) c e ∙ ap (max (markValue (R .marks) c e)) (value-one w c e)
+      said : (s c e : ℕ) → markValue (R .marks ++ w ∷ []) s c e ≡ max (markValue (R .marks) s c e) (markSays w s c e)
+      said s c e = value-append (R .marks) (w ∷ []) s c e ∙ ap (max (markValue (R .marks) s c e)) (value-one w s c e)
 
-      go : (c e : ℕ) (b : Bool) → isAt c e w ≡ b → cellOf words′ c e ≡ markValue (R .marks ++ w ∷ []) c e
-      go c e true q =
-          let p = at-both w c e q in
-          rw (← p .0, ← p .1) (r .here ∙ omega (arith, h .cell (w .condition) (w .event), said (w .condition) (w .event), says-here w (w .condition) (w .event) (at-own w _ _ refl refl)))
-      go c e false q = r .other c e (λ z. true≢false (sym (at-own w c e (z .0) (z .1)) ∙ q)) ∙ omega (arith, h .cell c e, said c e, says-away w c e q)
+      go : (s c e : ℕ) → s < markSlots → (b : Bool) → isAt s c e w ≡ b → cellOf words′ (markRow c s) e ≡ markValue (R .marks ++ w ∷ []) s c e
+      go s c e l true q =
+          let p = at-all w s c e q in
+          let o = slotOf (w .kind) in
+          rw (← p .0, ← p .1, ← p .2)
+          (r .here
+          ∙ omega (
+            arith,
+            h .cell o (w .condition) (w .event) (slot-few (w .kind)),
+            said o (w .condition) (w .event),
+            says-here w o (w .condition) (w .event) (at-own w _ _ _ refl refl refl),
+          ))
+      go s c e l false q =
+          r .other (markRow c s) e (λ z. true≢false (sym (at-own w s c e (omega (arith, z .0, slot-few (w .kind))) (omega (arith, z .0, slot-few (w .kind))) (z .1)) ∙ q))
+          ∙ omega (arith, h .cell s c e l, said s c e, says-away w s c e q)

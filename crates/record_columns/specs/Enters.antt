@@ -1,5 +1,5 @@
 -- What the functions that enter one thing rely on and promise.
-use Prim.Native.Nat.{ℕ, _+_, _*_, _≤_}
+use Prim.Native.Nat.{ℕ, _*_, _≤_}
 use mathlib.Core.Path.{_≡_}
 use mathlib.Core.Bool.{Bool, true, false}
 use mathlib.Core.List.{List}
@@ -12,8 +12,9 @@ use Rattle.line_forms.specs.Rows.{eventOf}
 use Rattle.line_forms.specs.declared.Slot.{Slot}
 use Rattle.spec.specs.declared.MarkKind.{MarkKind}
 use Rattle.lines.specs.Agree.{Agrees, refusedAs}
-use Rattle.reach.specs.Rows.{rowWords, Sub, rowOf}
-use Rattle.record_columns.specs.Layout.{eventsMost, conditionsMost, recordBytes, HoldsRecord, HoldsMarks}
+use Rattle.reach.specs.Rows.{Sub, rowOf}
+use Rattle.record_columns.specs.Layout.{eventsMost, conditionsMost, conditionWords, recordBytes}
+use Rattle.record_columns.specs.Layout.{HoldsRecord, HoldsMarks}
 use Rattle.record_columns.specs.declared.Bounds.{Bounds}
 use Rattle.record_columns.specs.declared.Counts.{Counts}
 use Rattle.record_columns.specs.declared.RecordRead.{RecordRead}
@@ -72,8 +73,8 @@ pub record Fits (s : Counts) (b : List ℕ) : Type 0 where
   pub long : recordBytes ≤ length b
 
 pub record Spans (s : Counts) (words : List ℕ) : Type 0 where
-  pub room : rowWords * s .conditions ≤ length words
-  pub sub : (c : ℕ) → Sub (rowOf words c)
+  pub room : conditionWords * s .conditions ≤ length words
+  pub sub : (i : ℕ) → Sub (rowOf words i)
 
 -- so many events, conditions and marks
 abbrev pub countsOf : ℕ → ℕ → ℕ → Counts
@@ -86,12 +87,11 @@ conditionIn p x y = record { place = p; producer = eventOf x; consumer = eventOf
 abbrev pub markOf : MarkKind → ℕ → ℕ → Mark
 markOf x c e = record { kind = x; condition = c; event = e }
 
--- what a step of the definitions answers of every record that the bytes and words hold; it enters at most one condition
+-- what a step of the definitions answers of every record that the bytes and words hold
 pub record Enters (s : Counts) (b words : List ℕ) (f : RunRecord → Answer RunRecord) (r : RecordRead)
     (b′ words′ : List ℕ) : Type 0 where
   pub answers : (R : RunRecord) → Holds s b words R
       → Agrees noValues (answerOf (r .answer)) (Holds (r .counts) b′ words′) (f R)
-  pub grown : r .counts .conditions ≤ s .conditions + 1
 
 -- an event of transition t is entered as line k enters it beside a net of the bounds, whatever the marks are
 abbrev pub EntersEvent : Bounds → ℕ → ℕ → Counts → List ℕ → RecordRead → List ℕ → Type 0

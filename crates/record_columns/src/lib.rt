@@ -1,11 +1,13 @@
 // Where a record stands in bytes and words, and how an event, a condition or a mark is entered there, or refused.
 ghost use mathlib.Core.Path.{_≡_};
 ghost use mathlib.Core.Bool.{true};
-ghost use Prim.Native.Nat.{_≤_};
+ghost use Prim.Native.Nat.{_<_, _≤_};
 ghost use Rattle.spec.specs.Process.{isBelow};
+ghost use Rattle.spec.specs.Record.{slotOf};
 ghost use Rattle.line_forms.specs.Rows.{eventOf};
 ghost use Rattle.reach.specs.Rows.{way};
-ghost use Rattle.record_columns.specs.Layout.{eventsMost, eventCode, kindCode};
+ghost use Rattle.record_columns.specs.Layout.{eventsMost, conditionsMost, eventCode};
+ghost use Rattle.record_columns.specs.Layout.{markSlots, markRow, kindCode};
 ghost use Rattle.record_columns.specs.Enters.{countsOf, conditionIn, markOf};
 ghost use Rattle.record_columns.specs.Enters.{Room, Fits, Spans, EntersEvent, EntersCondition, EntersMark};
 use line_forms::Slot;
@@ -14,26 +16,33 @@ use reach::related;
 use spec::Limits;
 use spec::MarkKind;
 
-// How many events and conditions a record has room for; its bytes, and the words of its marks, four for each condition;
-// and the byte of a producer or consumer that is none.
+// How many events and conditions a record has room for; its bytes, and the words of its marks, eight for each
+// condition; and the byte of a producer or consumer that is none.
 pub const EVENTS: usize = 128;
 
 pub const CONDITIONS: usize = 512;
 
 pub const RECORD: usize = 1664;
 
-pub const MARK_WORDS: usize = 2048;
+pub const MARK_WORDS: usize = 4096;
 
 pub const NO_EVENT: u8 = 128;
 
 // Where the bytes of a record stand. Before PLACES stand the transitions of the events; then from each number on the
-// places of the conditions, their producers, their consumers. The marks stand in words beside them, as `reach` has its
-// rows: in the row of a condition an event has 1 under B, 2 under A, and 0 where there is no mark.
+// places of the conditions, their producers, their consumers.
 pub const PLACES: usize = 128;
 
 pub const PRODUCERS: usize = 640;
 
 pub const CONSUMERS: usize = 1152;
+
+// The marks stand in words beside them, as `reach` has its rows: two for each condition, since R stands beside B or A
+// (02, 2026-01). In the first an event has 1 under B, 2 under A; in the second 1 under R; and 0 where there is no mark.
+pub const SLOTS: usize = 2;
+
+pub const GUARD_SLOT: usize = 0;
+
+pub const READ_SLOT: usize = 1;
 
 // What a record may have, and the places and transitions that its net has.
 pub struct Bounds {
@@ -100,13 +109,33 @@ fn event_code(f: Slot) -> usize
 }
 
 // Whether a mark is A.
-fn is_after(x: MarkKind) -> bool
+pub fn is_after(x: MarkKind) -> bool
     ensures { λ r. ⌜ way r ≡ kindCode x ⌝ }
 {
     match x {
         MarkKind::Before => false,
         MarkKind::After => true,
+        MarkKind::Read => false,
     }
+}
+
+// The slot of a mark.
+pub fn slot_of(x: MarkKind) -> usize
+    ensures { λ r. ⌜ r ≡ slotOf x ⌝ }
+{
+    match x {
+        MarkKind::Before => GUARD_SLOT,
+        MarkKind::After => GUARD_SLOT,
+        MarkKind::Read => READ_SLOT,
+    }
+}
+
+// The row of a slot of condition c.
+pub fn mark_row(c: usize, slot: usize) -> usize
+    requires { ⌜ (c < conditionsMost) × (slot < markSlots) ⌝ }
+    ensures { λ r. ⌜ r ≡ markRow c slot ⌝ }
+{
+    SLOTS * c + slot
 }
 
 // The record so far has these counts.
@@ -194,7 +223,7 @@ pub fn enter_mark(
     s: Counts,
     marks: &mut [u64],
 ) -> RecordRead
-    requires { ⌜ Room b × (s .events ≤ eventsMost) × Spans s (now marks) ⌝ }
+    requires { ⌜ Room b × (s .events ≤ eventsMost) × (s .conditions ≤ conditionsMost) × Spans s (now marks) ⌝ }
     ensures { λ r. ⌜ EntersMark b k (markOf x c e) s (now (marks .entry)) r (now (marks .exit)) ⌝ }
 {
     let lim = b.limits;
@@ -207,9 +236,10 @@ pub fn enter_mark(
     if s.events <= e {
         return refused(RecordRefusal::Undeclared(k), s);
     }
-    if related(marks, c, e) {
+    let row = mark_row(c, slot_of(x));
+    if related(marks, row, e) {
         return refused(RecordRefusal::MarkedAlready(k), s);
     }
-    raise(marks, c, e, is_after(x));
+    raise(marks, row, e, is_after(x));
     entered(s.events, s.conditions, s.marks + 1)
 }

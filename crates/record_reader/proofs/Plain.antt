@@ -15,7 +15,7 @@ use Rattle.line_forms.specs.Rows.{aNumberOrDash, rowOf, isOne, isTwo, isThree}
 use Rattle.line_forms.proofs.Ties.{one-line, two-line, three-line, event-at, number-at}
 use Rattle.spec.specs.Classes.{alike}
 use Rattle.spec.specs.declared.Limits.{Limits}
-use Rattle.spec.specs.declared.MarkKind.the-variants.{Before, After}
+use Rattle.spec.specs.declared.MarkKind.the-variants.{Before, After, Read}
 use Rattle.line_forms.specs.declared.Slot.{Slot}
 use Rattle.line_forms.specs.declared.Slot.the-variants.{Number}
 use Rattle.lines.specs.Lines.{lineOf, LineAt}
@@ -37,7 +37,7 @@ module _ (lim : Limits) (k : ℕ) (b : List ℕ) (N : Net) (R : RunRecord) where
   unfolding enterLine conditionOf markIn enterRow rowOf alike classOf named inDigits
   row-entered =
       let l = lineOf b true in
-      rw (one-line "E" refl l, three-line "C" refl l, two-line "B" refl l, two-line "A" refl l, number-at l 0, number-at l 1, event-at l 1, event-at l 2)
+      rw (one-line "E" refl l, three-line "C" refl l, two-line "B" refl l, two-line "A" refl l, two-line "R" refl l, number-at l 0, number-at l 1, event-at l 1, event-at l 2)
 
   -- by its row if it is ended; one that is not has no form
   pub ended-entered : {e : Bool} → e ≡ true → enterLine lim N k (lineOf b e) R ≡ enterRow lim N k (rowOf mostDigits b) R
@@ -65,9 +65,14 @@ opens-after : Opens 65
 unfolding isA alike classOf named inDigits
 opens-after = record { comma = refl; end = refl }
 
+opens-read : Opens 82
+unfolding isA alike classOf named inDigits
+opens-read = record { comma = refl; end = refl }
+
 pub opens-mark : {x : ℕ} → MarkLetter x → Opens x
 opens-mark (inl e) = subst Opens (sym e) opens-before
-opens-mark (inr e) = subst Opens (sym e) opens-after
+opens-mark (inr (inl e)) = subst Opens (sym e) opens-after
+opens-mark (inr (inr e)) = subst Opens (sym e) opens-read
 
 module _ (lim : Limits) (k : ℕ) {text : List ℕ} {i next : ℕ} (N : Net) (R : RunRecord) where
   pub event-line : {t : ℕ} (l : PlainLine 4 text i next (Number t ∷ [])) → getD text i 0 ≡ 69 → enterLine lim N k (lineOf (l .bytes) true) R ≡ enterEvent lim N k t R
@@ -88,9 +93,14 @@ module _ (lim : Limits) (k : ℕ) {text : List ℕ} {i next : ℕ} (N : Net) (R 
     unfolding enterRow isOne isTwo isThree alike classOf named inDigits
     after-line e = row-entered lim k (l .bytes) N R ∙ rw (l .row, e)
 
+    pub read-line : getD text i 0 ≡ 82 → enterLine lim N k (lineOf (l .bytes) true) R ≡ enterMark lim k (markOf Read a b) R
+    unfolding enterRow isOne isTwo isThree alike classOf named inDigits
+    read-line e = row-entered lim k (l .bytes) N R ∙ rw (l .row, e)
+
     pub mark-line : MarkLetter (getD text i 0) → enterLine lim N k (lineOf (l .bytes) true) R ≡ enterMark lim k (markOf (kindBy (getD text i 0)) a b) R
     mark-line (inl e) = before-line e ∙ rw e refl
-    mark-line (inr e) = after-line e ∙ rw e refl
+    mark-line (inr (inl e)) = after-line e ∙ rw e refl
+    mark-line (inr (inr e)) = read-line e ∙ rw e refl
 
 -- ---- a line that is entered
 

@@ -1,17 +1,19 @@
 -- The lines of a record text, one after the other.
 use Prim.Native.Nat.{ℕ, _+_, _*_, _≤_}
-use mathlib.Core.Path.{_≡_, refl, _∙_}
-use mathlib.Core.Bool.{true, false}
+use mathlib.Core.Path.{_≡_, refl, sym, ap, _∙_}
+use mathlib.Core.Bool.{true, false, true≢false}
 use mathlib.Core.List.{List, []}
 use native.Mathlib.Omega.{arith}
 use lib.ListN.{length, getD, replicate, length-replicate}
 use Rattle.spec.specs.Net.{Net, places}
 use Rattle.spec.specs.Record.{RunRecord}
 use Rattle.spec.specs.Checking.{enterLine, emptyRecord}
+use Rattle.lines.specs.Agree.{Agrees, giving, refusing}
+use Rattle.lines.proofs.Answers.{isGiven}
 use Rattle.lines.proofs.ByLines.{Running, begun, turn, stop, done}
 use Rattle.reach.proofs.Zero.{zero-sub, zero-cell}
-use Rattle.record_columns.specs.Layout.{markValue}
-use Rattle.record_columns.specs.Enters.{goesOf, Holds, Fits, Spans}
+use Rattle.record_columns.specs.Layout.{conditionWords, markRow, markValue}
+use Rattle.record_columns.specs.Enters.{answerOf, goesOf, noValues, Holds, Fits, Spans}
 use Rattle.record_reader.specs.Reads.{Declares, Takes, ReadsRecord}
 use Rattle.record_columns.specs.declared.Bounds.{Bounds}
 use Rattle.record_columns.specs.declared.Counts.{Counts}
@@ -19,6 +21,7 @@ use Rattle.record_reader.specs.declared.Took.{Took}
 use Rattle.record_columns.specs.declared.RecordAnswer.the-variants.{Read}
 use Rattle.record_columns.proofs.RecordAnswer
 use Rattle.record_columns.proofs.Answers.{goes-given}
+use Rattle.record_reader.proofs.Widths.{width, line-grows}
 
 -- ---- the lines so far
 
@@ -44,7 +47,7 @@ entered-none b text rec words long z N d = begun (enterLine (b .limits) N) text 
     producer = λ c l. absurd (omega arith);
     consumer = λ c l. absurd (omega arith);
   };
-  marks = record { sub = zero-sub words z; cell = zero-cell words z };
+  marks = record { sub = zero-sub words z; cell = λ s c e l. zero-cell words z (markRow c s) e };
 })
 
 -- a net with so many places and transitions
@@ -62,7 +65,7 @@ module _ (b : Bounds) {text : List ℕ} {k at : ℕ} {s : Counts} {rec words : L
   pub fits : Fits s rec
   fits = let h = held .1 .columns in record { events = h .fewEvents; conditions = h .fewConditions; long = h .long }
 
-  pub spans : 4 * s .conditions ≤ length words → Spans s words
+  pub spans : conditionWords * s .conditions ≤ length words → Spans s words
   spans r = record { room = r; sub = held .1 .marks .sub }
 
   module _ {r : Took} {rec′ words′ : List ℕ} (t : Takes b text at k s rec words r rec′ words′) where
@@ -72,8 +75,17 @@ module _ (b : Bounds) {text : List ℕ} {k at : ℕ} {s : Counts} {rec words : L
     pub entered-no : goesOf (r .step .answer) ≡ false → ReadsRecord b text (r .step) rec′ words′
     entered-no h N d = stop (g N d) (t .found) (t .enters N d .answers (g N d .state) (g N d .holds)) (goes-given (r .step .answer) ∙ h)
 
-    pub grown : r .step .counts .conditions ≤ s .conditions + 1
-    grown = t .enters (netOf (b .places) (b .transitions)) (declared b) .grown
+    -- a line that is entered ends within the text and before the next, and has eight bytes for each condition more
+    pub grown : goesOf (r .step .answer) ≡ true → conditionWords * r .step .counts .conditions ≤ conditionWords * s .conditions + width (t .found .line)
+    grown h = go (t .enters N (declared b) .answers (held .0) (held .1))
+      where
+        N : Net
+        N = netOf (b .places) (b .transitions)
+
+        go : Agrees noValues (answerOf (r .step .answer)) (Holds (r .step .counts) rec′ words′) (enterLine (b .limits) N k (t .found .line) (held .0))
+            → conditionWords * r .step .counts .conditions ≤ conditionWords * s .conditions + width (t .found .line)
+        go (giving S q y o) = omega (arith, line-grows (b .limits) N k (t .found .line) (held .0) S q, o .columns .conditions, held .1 .columns .conditions)
+        go (refusing n p q y) = absurd (true≢false (sym h ∙ sym (goes-given (r .step .answer)) ∙ ap isGiven y))
 
   pub entered-all : length text ≤ at → ReadsRecord b text (record { answer = Read; counts = s }) rec words
   entered-all u N d = done (g N d) u refl (g N d .holds)

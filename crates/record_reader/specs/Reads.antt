@@ -13,9 +13,9 @@ use Rattle.spec.specs.Record.{RunRecord}
 use Rattle.spec.specs.Checking.{enterEvent, enterCondition, enterMark, enterLine, emptyRecord}
 use Rattle.line_forms.specs.Rows.{valueOf, isOne, isTwo, isThree}
 use Rattle.line_forms.specs.declared.Row.{Row}
-use Rattle.spec.specs.declared.Class.the-variants.{LetterE, LetterC, LetterB, LetterA}
+use Rattle.spec.specs.declared.Class.the-variants.{LetterE, LetterC, LetterB, LetterA, LetterR}
 use Rattle.spec.specs.declared.MarkKind.{MarkKind}
-use Rattle.spec.specs.declared.MarkKind.the-variants.{Before, After}
+use Rattle.spec.specs.declared.MarkKind.the-variants.{Before, After, Read}
 use Rattle.spec.specs.declared.Limits.{Limits}
 use Rattle.lines.specs.Agree.{Agrees}
 use Rattle.lines.specs.Lines.{LineTo}
@@ -23,13 +23,13 @@ use Rattle.record_columns.specs.declared.Bounds.{Bounds}
 use Rattle.record_columns.specs.declared.Counts.{Counts}
 use Rattle.record_columns.specs.declared.RecordRead.{RecordRead}
 use Rattle.record_reader.specs.declared.Took.{Took}
-use Rattle.reach.specs.Rows.{rowWords}
-use Rattle.record_columns.specs.Layout.{markWords}
+use Rattle.record_columns.specs.Layout.{markWords, conditionWords}
 use Rattle.record_columns.specs.Enters.{answerOf, goesOf, noValues, Holds, conditionIn, markOf, Enters}
 
--- words that hold no mark yet, with four for each condition that a text can have: no more than there are bytes
+-- words that hold no mark yet, with eight for each condition that a text can have: no more than there are bytes, since
+-- the line of a condition has eight bytes or more
 pub record Blank (text words : List ℕ) : Type 0 where
-  pub room : min markWords (rowWords * length text) ≤ length words
+  pub room : min markWords (length text) ≤ length words
   pub zero : (i : ℕ) → getD words i 0 ≡ 0
 
 -- the net has so many places and transitions
@@ -44,7 +44,8 @@ enterRow lim n k w r =
     (cond (isThree LetterC w) (enterCondition lim n k (conditionIn (valueOf (w .first)) (w .second) (w .third)) r)
     (cond (isTwo LetterB w) (enterMark lim k (markOf Before (valueOf (w .first)) (valueOf (w .second))) r)
     (cond (isTwo LetterA w) (enterMark lim k (markOf After (valueOf (w .first)) (valueOf (w .second))) r)
-    (refuses 31 k))))
+    (cond (isTwo LetterR w) (enterMark lim k (markOf Read (valueOf (w .first)) (valueOf (w .second))) r)
+    (refuses 31 k)))))
 
 -- line k is entered as the definitions enter it beside any net of the bounds, by its row or by itself
 abbrev pub EntersRow : Bounds → ℕ → Row → Counts → List ℕ → List ℕ → RecordRead → List ℕ → List ℕ → Type 0
@@ -61,12 +62,12 @@ pub record Takes (b : Bounds) (text : List ℕ) (at k : ℕ) (s : Counts) (old w
   pub found : LineTo text at (r .next)
   pub enters : EntersLine b k (found .line) s old words (r .step) new words′
 
--- the letters B and A, and their kinds
+-- the letters B, A and R, and their kinds
 abbrev pub MarkLetter : ℕ → Type 0
-MarkLetter b = (b ≡ 66) ⊎ (b ≡ 65)
+MarkLetter b = (b ≡ 66) ⊎ ((b ≡ 65) ⊎ (b ≡ 82))
 
 abbrev pub kindBy : ℕ → MarkKind
-kindBy b = cond (eqb b 65) After Before
+kindBy b = cond (eqb b 65) After (cond (eqb b 82) Read Before)
 
 -- the answer is the paper's, and where it is a record the bytes and words hold it
 abbrev pub ReadsRecord : Bounds → List ℕ → RecordRead → List ℕ → List ℕ → Type 0
@@ -77,4 +78,4 @@ ReadsRecord b text r rec words =
 
 -- where it is a record, there are words for the marks of each of its conditions
 abbrev pub MarksFit : RecordRead → List ℕ → Type 0
-MarksFit r words = goesOf (r .answer) ≡ true → rowWords * r .counts .conditions ≤ length words
+MarksFit r words = goesOf (r .answer) ≡ true → conditionWords * r .counts .conditions ≤ length words

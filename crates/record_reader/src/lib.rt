@@ -61,6 +61,9 @@ fn enter_row(
     if is_two(Class::LetterA, w) {
         return enter_mark(b, MarkKind::After, k, x, y, s, marks);
     }
+    if is_two(Class::LetterR, w) {
+        return enter_mark(b, MarkKind::Read, k, x, y, s, marks);
+    }
     refused(RecordRefusal::Malformed(k), s)
 }
 
@@ -90,25 +93,24 @@ pub struct Took {
     pub next: usize,
 }
 
-// Whether the letter is one of the two kinds of marks.
+// Whether the letter is one of the three kinds of marks.
 fn mark_letter(b: u8) -> bool
     ensures { λ r. ⌜ (r ≡ true → MarkLetter b) ⌝ }
 {
-    if b == b'B' {
-        return true;
-    }
-    b == b'A'
+    (b == b'B') | (b == b'A') | (b == b'R')
 }
 
-// The kind of mark that a letter of the two stands for.
+// The kind of mark that a letter of the three stands for.
 fn kind_of(b: u8) -> MarkKind
     ensures { λ r. ⌜ r ≡ kindBy b ⌝ }
 {
     if b == b'A' {
-        MarkKind::After
-    } else {
-        MarkKind::Before
+        return MarkKind::After;
     }
+    if b == b'R' {
+        return MarkKind::Read;
+    }
+    MarkKind::Before
 }
 
 // The line that starts at a position is entered by the readers of lines and fields, whatever it is.

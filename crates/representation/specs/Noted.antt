@@ -7,7 +7,7 @@ use Rattle.spec.specs.Record.{RunRecord, bench}
 use Rattle.spec.specs.Process.{Process}
 use Rattle.runs.specs.ReadRecord.{Fits}
 use Rattle.net.specs.declared.Net.{Net}
-use Rattle.record_columns.specs.Layout.{HoldsMarks}
+use Rattle.record_columns.specs.Layout.{conditionWords, HoldsMarks}
 use Rattle.record_columns.specs.declared.Counts.{Counts}
 use Rattle.representation.specs.Held.{Held}
 
@@ -17,6 +17,6 @@ pub record Noted (s : Counts) (rec words : List ℕ) : Type 0 where
   pub run : RunRecord
   pub held : Held arrays s rec net run
   pub marks : HoldsMarks words run
-  pub room : 4 * s .conditions ≤ length words
+  pub room : conditionWords * s .conditions ≤ length words
   pub process : Process net run
   pub fits : Fits bench run

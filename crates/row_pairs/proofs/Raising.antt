@@ -17,8 +17,10 @@ use Rattle.bit_sets.specs.Sets.{has, First, has-most}
 use Rattle.bit_sets.specs.declared.Set.{Set}
 use Rattle.reach.specs.Rows.{Sub, rowOf, cellOf, valueOf, Good, Put, Raised as RaisedOne}
 use Rattle.reach.specs.declared.Row.{Row}
+use Rattle.spec.specs.Record.{guardSlot, readSlot}
+use Rattle.record_columns.specs.Layout.{markRow}
 use Rattle.record_columns.specs.declared.Counts.{Counts}
-use Rattle.row_pairs.specs.Relation.{pairIn, beforesIn, aftersIn, after, before, conditionPairIn, markPairIn, overall, relationIn, Raised, Filled}
+use Rattle.row_pairs.specs.Relation.{pairIn, beforesIn, aftersIn, sidesIn, after, before, reader, conditionPairIn, guardPairIn, readPairIn, markPairIn, overall, relationIn, Raised, Filled}
 
 -- ---- one entry
 
@@ -152,42 +154,85 @@ befores-end {f} {a} {rest} h z = raised-as (λ i j k. ap (λ (x : ℕ). cond (eq
 
 -- ---- the pairs of the marks at a condition
 
-module _ (rec words : List ℕ) (c : ℕ) {r : Row} (hr : r ≡ rowOf words c) (g : Sub (rowOf words c)) where
-  -- what the sets of the condition's row have
-  after-has : (e : ℕ) → has (r .strict) e ≡ after (cellOf words c e)
-  unfolding cellOf valueOf Sub
-  after-has e = rw hr (omega (arith, g e, has-most (rowOf words c .path) e))
-
-  before-has : (e : ℕ) → min (has (r .path) e) (1 - has (r .strict) e) ≡ before (cellOf words c e)
-  unfolding cellOf valueOf Sub
-  before-has e = rw hr (omega (arith, g e, has-most (rowOf words c .path) e))
-
-  cell-none : (e : ℕ) → has (r .path) e ≡ 0 → cellOf words c e ≡ 0
-  unfolding cellOf valueOf Sub
-  cell-none e z = omega (arith, g e, rw hr at z)
-
-  pub row-none : (t : List ℕ) → ((e : ℕ) → has (r .path) e ≡ 0) → Raised t (markPairIn rec words c) t
-  unfolding markPairIn aftersIn beforesIn
-  row-none t z = record { long = refl; good = λ x. x; cell = λ i j k l. rw (cell-none j (z j), cell-none i (z i)) (omega (arith, nothing (eqb (getD rec (1152 + c) 0) i), nothing (eqb (getD rec (640 + c) 0) j))) }
+module _ (f : ℕ) (a : ℕ → ℕ) (g : ℕ) (b : ℕ → ℕ) where
+  -- no event on either side
+  sides-none : (t : List ℕ) → ((e : ℕ) → a e ≡ 0) → ((e : ℕ) → b e ≡ 0) → Raised t (sidesIn f a g b) t
+  unfolding sidesIn aftersIn beforesIn
+  sides-none t x y = record { long = refl; good = λ z. z; cell = λ i j k l. rw (x j, y i) (omega (arith, nothing (eqb f i), nothing (eqb g j))) }
     where
-      nothing : (b : Bool) → _≡_ {A = ℕ} (cond b 0 0) 0
+      nothing : (t : Bool) → _≡_ {A = ℕ} (cond t 0 0) 0
       nothing true = refl
       nothing false = refl
 
-  pub row-raised : {t t′ t″ : List ℕ} {p q : ℕ} (b : Set) → q ≡ getD rec (1152 + c) 0 → p ≡ getD rec (640 + c) 0 → ((e : ℕ) → has b e ≡ min (has (r .path) e) (1 - has (r .strict) e))
-      → Raised t (aftersIn q (has (r .strict))) t′ → Raised t′ (beforesIn p (has b)) t″ → Raised t (markPairIn rec words c) t″
-  unfolding markPairIn aftersIn beforesIn
-  row-raised {p} {q} b hq hp hb x y = record {
-    long = y .long ∙ x .long;
-    good = λ z. y .good (x .good z);
+  -- one side after the other
+  sides-raised : {t t′ t″ : List ℕ} {p q : ℕ} {x y : ℕ → ℕ} → p ≡ f → q ≡ g → ((e : ℕ) → x e ≡ a e) → ((e : ℕ) → y e ≡ b e)
+      → Raised t (aftersIn p x) t′ → Raised t′ (beforesIn q y) t″ → Raised t (sidesIn f a g b) t″
+  unfolding sidesIn aftersIn beforesIn
+  sides-raised hp hq hx hy r s = record {
+    long = s .long ∙ r .long;
+    good = λ z. s .good (r .good z);
     cell = λ i j k l. omega (
       arith,
-      x .cell i j k l,
-      y .cell i j k l,
-      ap₂ (λ (u v : ℕ). cond (eqb u i) (2 * v) 0) hq (after-has j),
-      ap₂ (λ (u v : ℕ). cond (eqb u j) v 0) hp (hb i ∙ before-has i),
+      r .cell i j k l,
+      s .cell i j k l,
+      ap₂ (λ (u v : ℕ). cond (eqb u i) (2 * v) 0) hp (hx j),
+      ap₂ (λ (u v : ℕ). cond (eqb u j) v 0) hq (hy i),
     );
   }
+
+module _ (words : List ℕ) (k : ℕ) {n : ℕ} {r : Row} (hn : n ≡ k) (hr : r ≡ rowOf words n) (g : (i : ℕ) → Sub (rowOf words i)) where
+  -- what the sets of row k have
+  after-has : (e : ℕ) → has (r .strict) e ≡ after (cellOf words k e)
+  unfolding cellOf valueOf Sub
+  after-has e = rw (hr, hn) (omega (arith, g k e, has-most (rowOf words k .path) e))
+
+  before-has : (e : ℕ) → min (has (r .path) e) (1 - has (r .strict) e) ≡ before (cellOf words k e)
+  unfolding cellOf valueOf Sub
+  before-has e = rw (hr, hn) (omega (arith, g k e, has-most (rowOf words k .path) e))
+
+  reader-has : (e : ℕ) → has (r .path) e ≡ reader (cellOf words k e)
+  unfolding cellOf valueOf Sub
+  reader-has e = rw (hr, hn) (omega (arith, g k e, has-most (rowOf words k .path) e))
+
+  cell-none : (e : ℕ) → has (r .path) e ≡ 0 → cellOf words k e ≡ 0
+  cell-none e z = omega (arith, z, reader-has e)
+
+module _ (rec words : List ℕ) (c : ℕ) {n : ℕ} {r : Row} (hr : r ≡ rowOf words n) (g : (i : ℕ) → Sub (rowOf words i)) where
+  -- of the marks B and A
+  module _ (hn : n ≡ markRow c guardSlot) where
+    pub guards-none : (t : List ℕ) → ((e : ℕ) → has (r .path) e ≡ 0) → Raised t (guardPairIn rec words c) t
+    unfolding guardPairIn
+    guards-none t z =
+        let o : (e : ℕ) → cellOf words (markRow c guardSlot) e ≡ 0 = λ e. cell-none words (markRow c guardSlot) hn hr g e (z e) in
+        sides-none _ _ _ _ t (λ e. omega (arith, o e)) (λ e. omega (arith, o e))
+
+    pub guards-raised : {t t′ t″ : List ℕ} {p q : ℕ} (b : Set) → q ≡ getD rec (1152 + c) 0 → p ≡ getD rec (640 + c) 0
+        → ((e : ℕ) → has b e ≡ min (has (r .path) e) (1 - has (r .strict) e))
+        → Raised t (aftersIn q (has (r .strict))) t′ → Raised t′ (beforesIn p (has b)) t″ → Raised t (guardPairIn rec words c) t″
+    unfolding guardPairIn
+    guards-raised b hq hp hb = sides-raised _ _ _ _ hq hp (after-has words (markRow c guardSlot) hn hr g) (λ e. hb e ∙ before-has words (markRow c guardSlot) hn hr g e)
+
+  -- and of the marks R
+  module _ (hn : n ≡ markRow c readSlot) where
+    pub reads-none : (t : List ℕ) → ((e : ℕ) → has (r .path) e ≡ 0) → Raised t (readPairIn rec words c) t
+    unfolding readPairIn
+    reads-none t z =
+        let o : (e : ℕ) → cellOf words (markRow c readSlot) e ≡ 0 = λ e. cell-none words (markRow c readSlot) hn hr g e (z e) in
+        sides-none _ _ _ _ t (λ e. omega (arith, o e)) (λ e. omega (arith, o e))
+
+    pub reads-raised : {t t′ t″ : List ℕ} {p q : ℕ} → p ≡ getD rec (640 + c) 0 → q ≡ getD rec (1152 + c) 0
+        → Raised t (aftersIn p (has (r .path))) t′ → Raised t′ (beforesIn q (has (r .path))) t″ → Raised t (readPairIn rec words c) t″
+    unfolding readPairIn
+    reads-raised hp hq = sides-raised _ _ _ _ hp hq (reader-has words (markRow c readSlot) hn hr g) (reader-has words (markRow c readSlot) hn hr g)
+
+-- the two rows of a condition, one after the other
+pub marks-raised : {t t′ t″ : List ℕ} (rec words : List ℕ) (c : ℕ) → Raised t (guardPairIn rec words c) t′ → Raised t′ (readPairIn rec words c) t″ → Raised t (markPairIn rec words c) t″
+unfolding markPairIn
+marks-raised rec words c x y = record {
+  long = y .long ∙ x .long;
+  good = λ z. y .good (x .good z);
+  cell = λ i j k l. omega (arith, x .cell i j k l, y .cell i j k l);
+}
 
 -- the marks' pairs in rows that had none, then the conditions'
 pub filled : {t₁ t₂ : List ℕ} (s : Counts) (rec words : List ℕ) → ((i j : ℕ) → i < 128 → j < 128 → cellOf t₁ i j ≡ overall (markPairIn rec words) (s .conditions) i j) → Raised t₁ (overall (conditionPairIn rec) (s .conditions)) t₂ → Filled t₁ (relationIn s rec words) t₂

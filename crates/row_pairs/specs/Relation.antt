@@ -8,7 +8,8 @@ use lib.ListN.{length, getD}
 use lib.Dec.{eqb}
 use Rattle.order.specs.Below.{maxBelow}
 use Rattle.reach.specs.Rows.{cellOf, Good}
-use Rattle.record_columns.specs.Layout.{eventsMost, producersAt, consumersAt}
+use Rattle.spec.specs.Record.{guardSlot, readSlot}
+use Rattle.record_columns.specs.Layout.{eventsMost, producersAt, consumersAt, markRow}
 use Rattle.record_columns.specs.declared.Counts.{Counts}
 
 -- v for e and f, else 0
@@ -26,18 +27,36 @@ beforesIn f b i j = cond (eqb f j) (b i) 0
 unfoldable pub aftersIn : ℕ → (ℕ → ℕ) → ℕ → ℕ → ℕ
 aftersIn f a i j = cond (eqb f i) (2 * a j) 0
 
--- what a mark's number says: A is 2, and B is 1
+-- both
+unfoldable pub sidesIn : ℕ → (ℕ → ℕ) → ℕ → (ℕ → ℕ) → ℕ → ℕ → ℕ
+sidesIn f a g b i j = max (aftersIn f a i j) (beforesIn g b i j)
+
+-- what a mark's number says: A is 2 and B is 1, in the one slot, and R is 1 in the other
 abbrev pub after : ℕ → ℕ
 after v = v - 1
 
 abbrev pub before : ℕ → ℕ
 before v = min v (2 - v)
 
--- the marks at condition c: under B the event to the producer is weak, under A the consumer to the event is strict
+abbrev pub reader : ℕ → ℕ
+reader v = min v 1
+
+-- the marks B and A at condition c: under B the event to the producer is weak, under A the consumer to the event is
+-- strict
+unfoldable pub guardPairIn : List ℕ → List ℕ → ℕ → ℕ → ℕ → ℕ
+guardPairIn rec words c =
+    sidesIn (getD rec (consumersAt + c) 0) (λ e. after (cellOf words (markRow c guardSlot) e))
+    (getD rec (producersAt + c) 0) (λ e. before (cellOf words (markRow c guardSlot) e))
+
+-- the marks R at condition c: the producer to the event is strict, the event to the consumer is weak (2026-01)
+unfoldable pub readPairIn : List ℕ → List ℕ → ℕ → ℕ → ℕ → ℕ
+readPairIn rec words c =
+    sidesIn (getD rec (producersAt + c) 0) (λ e. reader (cellOf words (markRow c readSlot) e))
+    (getD rec (consumersAt + c) 0) (λ e. reader (cellOf words (markRow c readSlot) e))
+
+-- all marks at condition c
 unfoldable pub markPairIn : List ℕ → List ℕ → ℕ → ℕ → ℕ → ℕ
-markPairIn rec words c i j =
-    max (aftersIn (getD rec (consumersAt + c) 0) (λ e. after (cellOf words c e)) i j)
-    (beforesIn (getD rec (producersAt + c) 0) (λ e. before (cellOf words c e)) i j)
+markPairIn rec words c i j = max (guardPairIn rec words c i j) (readPairIn rec words c i j)
 
 -- the greatest that the first n say
 unfoldable pub overall : (ℕ → ℕ → ℕ → ℕ) → ℕ → ℕ → ℕ → ℕ

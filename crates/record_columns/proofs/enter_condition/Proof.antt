@@ -110,7 +110,7 @@ returns-4 c N words d =
     let y = u .before in
     let x = y .before in
     let l = x .before .before in
-    line-entered _ (c .entered .ensures) (omega arith) (withCondition _) (λ R h. (
+    line-entered _ (c .entered .ensures) (withCondition _) (λ R h. (
       condition-is (h .columns) _ _ N _ d
           ∙ through _ _ _ _ _ _ _ _ (ap not (eq-eqb _ _ (l .before .before .before .if1 .left))) (lt-leb _ _ (l .if2 .left))
           (rw (← x .event-below .ensures, ← y .event-below2 .ensures) (u .if3 .left)),

@@ -59,7 +59,7 @@ returns-4 c N words d =
     let t = c .before in
     let l = t .before .before in
     let s = l .before .before .before .before .before .before .before .before in
-    line-entered _ (c .entered .ensures) (omega arith) (withEvent _) (λ R h. (
+    line-entered _ (c .entered .ensures) (withEvent _) (λ R h. (
       event-is (h .columns) _ _ N _ d
           ∙ through _ _ _ _ _ _ _ _ (l .before .before .before .if1 .left) (lt-leb _ _ (l .if2 .left)) (lt-leb _ _ (t .if3 .left)),
       record { columns = event-stored (h .columns) _ (omega (arith, l .if2 .left, s .pre .0 .events)); marks = event-marks (h .marks) _ },

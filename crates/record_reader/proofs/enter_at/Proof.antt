@@ -24,7 +24,7 @@ kind-of-requires : tie.Need-kind-of-requires
 kind-of-requires c κs = tt
 
 enter-mark-requires : tie.Need-enter-mark-requires
-enter-mark-requires c κs = let p = c .before .before .before .before .before .before .before .before .before .before .before .pre in (p .1, p .2 .events, p .3)
+enter-mark-requires c κs = let p = c .before .before .before .before .before .before .before .before .before .before .before .pre in (p .1, p .2 .events, p .2 .conditions, p .3)
 
 same-length : tie.Need-same-length
 same-length c = omega arith

@@ -56,7 +56,7 @@ is-two-requires : tie.Need-is-two-requires
 is-two-requires c κs = tt
 
 enter-mark-requires : tie.Need-enter-mark-requires
-enter-mark-requires c κs = let p = c .before .before .before .before .before .before .before .before .before .before .before .pre in (p .0, p .1 .events, p .2)
+enter-mark-requires c κs = let p = c .before .before .before .before .before .before .before .before .before .before .before .pre in (p .0, p .1 .events, p .1 .conditions, p .2)
 
 same-length-3 : tie.Need-same-length-3
 same-length-3 c = omega arith
@@ -81,7 +81,7 @@ is-two-requires-2 : tie.Need-is-two-requires-2
 is-two-requires-2 c κs = tt
 
 enter-mark-requires-2 : tie.Need-enter-mark-requires-2
-enter-mark-requires-2 c κs = let p = c .before .before .before .before .before .before .before .before .before .before .before .before .before .pre in (p .0, p .1 .events, p .2)
+enter-mark-requires-2 c κs = let p = c .before .before .before .before .before .before .before .before .before .before .before .before .before .pre in (p .0, p .1 .events, p .1 .conditions, p .2)
 
 same-length-4 : tie.Need-same-length-4
 same-length-4 c = omega arith
@@ -104,13 +104,43 @@ returns-4 c N d =
     ))
     (c .before .before .enter-mark2 .ensures _)
 
-refused-requires : tie.Need-refused-requires
-refused-requires c κs = tt
+is-two-requires-3 : tie.Need-is-two-requires-3
+is-two-requires-3 c κs = tt
+
+enter-mark-requires-3 : tie.Need-enter-mark-requires-3
+enter-mark-requires-3 c κs = let p = c .before .before .before .before .before .before .before .before .before .before .before .before .before .before .before .pre in (p .0, p .1 .events, p .1 .conditions, p .2)
+
+same-length-5 : tie.Need-same-length-5
+same-length-5 c = omega arith
 
 returns-5 : tie.Need-returns-5
 unfolding enterRow
 returns-5 c N d =
-    let i3 = c .before in
+    let i4 = c .before .before .before .before in
+    let i3 = i4 .before .before in
+    let i2 = i3 .before .before in
+    let i1 = i2 .before .before in
+    let i0 = i1 .before .before in
+    let n = i0 .before .before in
+    entered-same _ (λ R. rw (
+      sym (i0 .before .is-one .ensures) ∙ i0 .if1 .left,
+      sym (i1 .before .is-three .ensures) ∙ i1 .if2 .left,
+      sym (i2 .before .is-two .ensures) ∙ i2 .if3 .left,
+      sym (i3 .before .is-two2 .ensures) ∙ i3 .if4 .left,
+      sym (i4 .before .is-two3 .ensures) ∙ i4 .if5 .taken,
+      ← n .before .number-in .ensures,
+      ← n .number-in2 .ensures,
+    ))
+    (c .before .before .enter-mark3 .ensures _)
+
+refused-requires : tie.Need-refused-requires
+refused-requires c κs = tt
+
+returns-6 : tie.Need-returns-6
+unfolding enterRow
+returns-6 c N d =
+    let i4 = c .before in
+    let i3 = i4 .before .before in
     let i2 = i3 .before .before in
     let i1 = i2 .before .before in
     let i0 = i1 .before .before in
@@ -119,7 +149,8 @@ returns-5 c N d =
       sym (i1 .before .is-three .ensures) ∙ i1 .if2 .left,
       sym (i2 .before .is-two .ensures) ∙ i2 .if3 .left,
       sym (i3 .before .is-two2 .ensures) ∙ i3 .if4 .left,
+      sym (i4 .before .is-two3 .ensures) ∙ i4 .if5 .left,
     ))
 
 pub enter-row-spec : {M : Type 1} → statement M
-enter-row-spec = tie.close (tie.spec number-in-requires number-in-requires-2 is-one-requires enter-event-requires same-length returns is-three-requires enter-condition-requires same-length-2 returns-2 is-two-requires enter-mark-requires same-length-3 returns-3 is-two-requires-2 enter-mark-requires-2 same-length-4 returns-4 refused-requires returns-5)
+enter-row-spec = tie.close (tie.spec number-in-requires number-in-requires-2 is-one-requires enter-event-requires same-length returns is-three-requires enter-condition-requires same-length-2 returns-2 is-two-requires enter-mark-requires same-length-3 returns-3 is-two-requires-2 enter-mark-requires-2 same-length-4 returns-4 is-two-requires-3 enter-mark-requires-3 same-length-5 returns-5 refused-requires returns-6)

@@ -1,4 +1,5 @@
--- `record_reader::kind_of` meets its contract: `A` stands for after, and of the two letters the other for before.
+-- `record_reader::kind_of` meets its contract: `A` stands for after and `R` for a reading, and of the three letters the
+-- other for before.
 use borrow.Author.Tests.{eq-eqb, ne-eqb}
 use Rattle.record_reader.proofs.kind_of.Statement.{statement}
 use Rattle.record_reader.proofs.kind_of.Tie as tie
@@ -7,7 +8,10 @@ returns : tie.Need-returns
 returns c = rw (eq-eqb _ _ (c .if1 .taken))
 
 returns-2 : tie.Need-returns-2
-returns-2 c = rw (ne-eqb _ _ (c .if1 .left))
+returns-2 c = rw (ne-eqb _ _ (c .before .if1 .left), eq-eqb _ _ (c .if2 .taken))
+
+returns-3 : tie.Need-returns-3
+returns-3 c = rw (ne-eqb _ _ (c .before .if1 .left), ne-eqb _ _ (c .if2 .left))
 
 pub kind-of-spec : {M : Type 1} → statement M
-kind-of-spec = tie.close (tie.spec returns returns-2)
+kind-of-spec = tie.close (tie.spec returns returns-2 returns-3)

@@ -1,19 +1,21 @@
 -- `record_reader::read_record` meets its contract. The loop's invariant: the lines so far leave a record that the bytes
--- and words hold, and what is left of the text goes on from it; a line that is refused is the answer. A line has a byte
--- and at most one condition, so that there are words for each condition that was entered.
-use Prim.Native.Nat.{_+_, _-_, _≤_}
+-- and words hold, and what is left of the text goes on from it; a line that is refused is the answer. There are eight bytes
+-- before it for each condition that was entered, so that there are words for its marks.
+use Prim.Native.Nat.{_+_, _-_, _*_, _≤_}
 use mathlib.Core.Path.{_≡_, refl, sym, _∙_}
 use mathlib.Core.Bool.{true≢false}
 use native.Mathlib.Omega.{arith}
 use borrow.Author.Needs.{needs}
 use lib.ListN.{length}
 use Rattle.record_reader.proofs.Reading.{Reading, entered-none, fits, spans, entered-on, entered-no, grown, entered-all}
+use Rattle.record_reader.proofs.Widths.{line-ends}
+use Rattle.record_columns.specs.Layout.{conditionWords}
 use Rattle.record_columns.proofs.Answers.{read-case, refused-case}
 use Rattle.record_reader.proofs.read_record.Statement.{statement}
 use Rattle.record_reader.proofs.read_record.Tie as tie
 
 abbrev Inv-loop : tie.InvT-loop
-Inv-loop b text rec₀ marks₀ s₀ k₀ at₀ rec marks s k at = (at ≤ length text + 1) × (k ≤ at + 1) × (s .conditions ≤ at) × (s .conditions ≤ length text) × (length rec ≡ length rec₀) × (length marks ≡ length marks₀) × Reading b text k at s rec marks
+Inv-loop b text rec₀ marks₀ s₀ k₀ at₀ rec marks s k at = (at ≤ length text + 1) × (k ≤ at + 1) × (conditionWords * s .conditions ≤ at) × (conditionWords * s .conditions ≤ length text) × (length rec ≡ length rec₀) × (length marks ≡ length marks₀) × Reading b text k at s rec marks
 
 abbrev μ-loop : tie.MeasureT-loop
 μ-loop b text rec₀ marks₀ s₀ k₀ at₀ rec marks s k at = length text + 1 - at
@@ -49,15 +51,16 @@ loop-less : tie.Need-loop-less Inv-loop μ-loop
 loop-less c = let t = c .before .before .before .before .before .before .before .before .enter-at .ensures in omega (arith, t .found .on, t .found .within)
 
 loop-again : tie.Need-loop-again Inv-loop μ-loop
-loop-again c = let m = c .before in let e = m .before .before .before .before .before .before .before in let t = e .enter-at .ensures in let g = e .before .before .before .before .loop .inv .6 in (
-  omega (arith, t .found .within),
-  omega (arith, t .found .on),
-  omega (arith, t .found .on, grown _ g t),
-  omega (arith, grown _ g t),
-  omega arith,
-  omega arith,
-  entered-on _ g t (read-case (e .enter-at .result .step .answer) (m .match .keys2)),
-)
+loop-again c = let m = c .before in let e = m .before .before .before .before .before .before .before in let t = e .enter-at .ensures in let g = e .before .before .before .before .loop .inv .6 in
+    let yes = read-case (e .enter-at .result .step .answer) (m .match .keys2) in let w = line-ends (t .found) (omega arith) in (
+      omega (arith, t .found .within),
+      omega (arith, t .found .on),
+      omega (arith, w .0, grown _ g t yes),
+      omega (arith, w .1, grown _ g t yes),
+      omega arith,
+      omega arith,
+      entered-on _ g t yes,
+    )
 
 entered-requires : tie.Need-entered-requires Inv-loop μ-loop
 entered-requires c κs = tt
