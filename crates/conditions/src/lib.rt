@@ -22,7 +22,8 @@ use run_counts::COUNTS;
 use steps::STEP;
 
 // How far a run has come, beside the arrays that hold it: the line of the log that is next, its events and its
-// conditions, and how often an event made a condition in a place that inhibits it; and how large its net is.
+// conditions, how often an event made a condition in a place that inhibits it, and how many places its events read,
+// which is how many marks R it has (02, 2026-01); and how large its net is.
 pub struct Extent {
     pub places: usize,
     pub transitions: usize,
@@ -30,6 +31,7 @@ pub struct Extent {
     pub events: usize,
     pub conditions: usize,
     pub own: usize,
+    pub reads: usize,
 }
 
 // Where the first condition of each place that may be free stands among the counts by place.

@@ -1,7 +1,6 @@
 -- The lines of conditions and marks, as they are written.
 use Prim.Native.Nat.{ℕ, _+_, _≤_}
 use mathlib.Core.Path.{_≡_, refl, ap, _∙_}
-use mathlib.Core.Bool.{Bool, true, false}
 use mathlib.Core.List.{List, [], _∷_, _++_}
 use native.Mathlib.Omega.{arith}
 use lib.ListN.{length, length-append}
@@ -9,10 +8,12 @@ use borrow.Author.Tests.{eq-eqb, ne-eqb}
 use Rattle.spec.specs.Text.{lineWith, fieldBytes, fieldsBytes}
 use Rattle.spec.specs.Record.{eventField, eventLine, conditionLine, markLineOf}
 use Rattle.spec.specs.declared.Field.the-variants.{Number}
+use Rattle.spec.specs.declared.MarkKind.{MarkKind}
+use Rattle.spec.specs.declared.MarkKind.the-variants.{Before, After, Read}
 use Rattle.conditions.specs.Conditions.{decoded}
 use Rattle.writing.specs.Written.{Wrote}
 use Rattle.writing.proofs.Laws.{fields-front}
-use Rattle.line_writer.specs.Lines.{codedLine, kindIf, letterIf}
+use Rattle.line_writer.specs.Lines.{codedLine, letterOf}
 
 pub wrote-as : {old new xs ys : List ℕ} {at r : ℕ} → Wrote old at xs r new → xs ≡ ys → Wrote old at ys r new
 wrote-as a e = rw (← e) a
@@ -31,11 +32,12 @@ pub coded-pieces : (p g f : ℕ)
 unfolding codedLine conditionLine lineWith
 coded-pieces p g f = ap (λ (l : List ℕ). 67 ∷ l) (fields-front _ _ _ ∙ ap (λ (l : List ℕ). fieldsBytes (Number p ∷ []) ++ l) (fields-front _ _ _))
 
-pub mark-pieces : (after : Bool) (c e : ℕ)
-    → markLineOf (kindIf after) c e ≡ (letterIf after ∷ []) ++ (fieldsBytes (Number c ∷ []) ++ (fieldsBytes (Number e ∷ []) ++ 10 ∷ []))
+pub mark-pieces : (x : MarkKind) (c e : ℕ)
+    → markLineOf x c e ≡ (letterOf x ∷ []) ++ (fieldsBytes (Number c ∷ []) ++ (fieldsBytes (Number e ∷ []) ++ 10 ∷ []))
 unfolding markLineOf lineWith
-mark-pieces true c e = ap (λ (l : List ℕ). 65 ∷ l) (fields-front _ _ _)
-mark-pieces false c e = ap (λ (l : List ℕ). 66 ∷ l) (fields-front _ _ _)
+mark-pieces Before c e = ap (λ (l : List ℕ). 66 ∷ l) (fields-front _ _ _)
+mark-pieces After c e = ap (λ (l : List ℕ). 65 ∷ l) (fields-front _ _ _)
+mark-pieces Read c e = ap (λ (l : List ℕ). 82 ∷ l) (fields-front _ _ _)
 
 -- how long they are
 pub event-size : (t : ℕ) → length (eventLine t) ≡ length (fieldsBytes (Number t ∷ [])) + 2
@@ -49,11 +51,11 @@ coded-size p g f =
     let F = fieldsBytes (eventField (decoded f) ∷ []) in
     omega (arith, ap length (coded-pieces p g f), length-append P (G ++ (F ++ 10 ∷ [])), length-append G (F ++ 10 ∷ []), length-append F (10 ∷ []))
 
-pub mark-size : (after : Bool) (c e : ℕ) → length (markLineOf (kindIf after) c e) ≡ length (fieldsBytes (Number c ∷ [])) + length (fieldsBytes (Number e ∷ [])) + 2
-mark-size after c e =
+pub mark-size : (x : MarkKind) (c e : ℕ) → length (markLineOf x c e) ≡ length (fieldsBytes (Number c ∷ [])) + length (fieldsBytes (Number e ∷ [])) + 2
+mark-size x c e =
     let C = fieldsBytes (Number c ∷ []) in
     let E = fieldsBytes (Number e ∷ []) in
-    omega (arith, ap length (mark-pieces after c e), length-append C (E ++ 10 ∷ []), length-append E (10 ∷ []))
+    omega (arith, ap length (mark-pieces x c e), length-append C (E ++ 10 ∷ []), length-append E (10 ∷ []))
 
 -- a producer or consumer, by its byte
 pub end-none : (v : ℕ) → v ≡ 128 → fieldsBytes (eventField (decoded v) ∷ []) ≡ (44 ∷ []) ++ 45 ∷ []

@@ -1,15 +1,15 @@
 // The lines of a record, each written by its numbers.
 ghost use mathlib.Core.Path.{_≡_};
 ghost use mathlib.Core.List.{_∷_, []};
-ghost use Prim.Native.Nat.{_+_, _≤_, _<_};
+ghost use Prim.Native.Nat.{_+_, _≤_};
 ghost use lib.ListN.{length};
 ghost use Rattle.spec.specs.Text.{fieldsBytes};
 ghost use Rattle.spec.specs.Record.{eventField, eventLine, markLineOf};
 ghost use Rattle.writing.specs.Written.{Wrote};
 ghost use Rattle.conditions.specs.Conditions.{decoded};
-ghost use Rattle.line_writer.specs.Lines.{codedLine, kindIf, letterIf, earlierAt};
-use record_columns::EVENTS;
+ghost use Rattle.line_writer.specs.Lines.{codedLine, letterOf};
 use record_columns::NO_EVENT;
+use spec::MarkKind;
 use writing::put_byte;
 use writing::put_next;
 
@@ -47,29 +47,22 @@ pub fn put_condition(out: &mut [u8], at: usize, place: u8, producer: u8, consume
     put_byte(out, end, 10)
 }
 
-// Whether a condition's consumer is an event of an earlier step than event e.
-pub fn earlier(consumer: u8, steps: &[u8; EVENTS], e: usize) -> bool
-    requires { ⌜ (e < 128) × (consumer ≤ 128) ⌝ }
-    ensures { λ r. ⌜ r ≡ earlierAt (now (steps .entry)) e consumer ⌝ }
+fn letter(x: MarkKind) -> u8
+    ensures { λ r. ⌜ r ≡ letterOf x ⌝ }
 {
-    if consumer == NO_EVENT {
-        return false;
+    match x {
+        MarkKind::Before => b'B',
+        MarkKind::After => b'A',
+        MarkKind::Read => b'R',
     }
-    steps[consumer as usize] < steps[e]
 }
 
-fn letter(after: bool) -> u8
-    ensures { λ r. ⌜ r ≡ letterIf after ⌝ }
+// The line of a mark of a kind at condition c and event e.
+pub fn put_mark(out: &mut [u8], at: usize, x: MarkKind, c: usize, e: usize) -> usize
+    requires { ⌜ at + length (markLineOf x c e) ≤ length (now out) ⌝ }
+    ensures { λ r. ⌜ Wrote (now (out .entry)) at (markLineOf x c e) r (now (out .exit)) ⌝ }
 {
-    if after { b'A' } else { b'B' }
-}
-
-// The line of a mark, `A` or `B`, at condition c and event e.
-pub fn put_mark(out: &mut [u8], at: usize, after: bool, c: usize, e: usize) -> usize
-    requires { ⌜ at + length (markLineOf (kindIf after) c e) ≤ length (now out) ⌝ }
-    ensures { λ r. ⌜ Wrote (now (out .entry)) at (markLineOf (kindIf after) c e) r (now (out .exit)) ⌝ }
-{
-    let first = put_byte(out, at, letter(after));
+    let first = put_byte(out, at, letter(x));
     let second = put_next(out, first, c);
     let end = put_next(out, second, e);
     put_byte(out, end, 10)

@@ -34,7 +34,7 @@ module _ {sets xs : List ℕ} {size m k : ℕ} {x : Run} (N : Net) (ts : List �
   enabled : EnabledAt N (r .marking) ts
   enabled = enabled-tests N (r .marking) ts .0 (judged-tests N k (r .marking) ts E)
 
-  conditions-after : length (after .conditions) ≡ x .history .conditions + sumOf (sizeOf sets) (take size xs)
+  conditions-after : length (after .conditions) ≡ x .history .conditions + sumOf (sizeOf sets 32) (take size xs)
   unfolding playStep
   conditions-after =
       let n = length (r .events) in
@@ -50,7 +50,7 @@ module _ {sets xs : List ℕ} {size m k : ℕ} {x : Run} (N : Net) (ts : List �
         made-total sets n (take size xs),
       )
 
-  module _ {v : ℕ} (q : v ≡ sumOf (sizeOf sets) (take size xs)) where
+  module _ {v : ℕ} (q : v ≡ sumOf (sizeOf sets 32) (take size xs)) where
     pub answers-26 : 512 < x .history .conditions + v → buildStep N k ts r ≡ refuses 26 k
     unfolding buildStep _>>_ refuse_at_when_
     answers-26 c = rw (lt-ltb 512 (length (after .conditions)) (omega (arith, conditions-after)))
@@ -63,14 +63,14 @@ module _ {sets xs : List ℕ} {size m k : ℕ} {x : Run} (N : Net) (ts : List �
       tally-after = tally-grown N A S K k r (H .tally) W
 
       module _ {w : ℕ} (p : w ≡ sumOf (timesAt (t .held) (t .watched)) (upTo m)) where
-        pub answers-27 : 4096 + t .own < w → buildStep N k ts r ≡ refuses 27 k
+        pub answers-27 : 4096 + t .own < w + t .reads → buildStep N k ts r ≡ refuses 27 k
         unfolding buildStep _>>_ refuse_at_when_
         answers-27 d = rw (
           le-ltb 512 (length (after .conditions)) (omega (arith, conditions-after)),
           lt-ltb 4096 (length (marksDue N after)) (omega (arith, marks-tallied N after (A .places) good-after tally-after)),
         )
 
-        pub answers-run : w ≤ 4096 + t .own → buildStep N k ts r ≡ gives after
+        pub answers-run : w + t .reads ≤ 4096 + t .own → buildStep N k ts r ≡ gives after
         unfolding buildStep _>>_ refuse_at_when_
         answers-run d = rw (
           le-ltb 512 (length (after .conditions)) (omega (arith, conditions-after)),

@@ -38,7 +38,7 @@ unfolding conditionsOf conditionsIn
 conditions-length h = length-table (conditionIn (h .places) (h .producers) (h .consumers)) (h .conditions)
 
 -- what a step makes, by event
-pub made-total : (sets : List ℕ) (e : ℕ) (ts : List ℕ) → length (flows (arcAt sets 32) 64 e ts) ≡ sumOf (sizeOf sets) ts
+pub made-total : (sets : List ℕ) (e : ℕ) (ts : List ℕ) → length (flows (arcAt sets 32) 64 e ts) ≡ sumOf (sizeOf sets 32) ts
 unfolding sizeOf
 made-total sets e ts = flows-length (arcAt sets 32) 64 e ts ∙ Laws.sumOf-swap (λ p t. arcAt sets 32 t p) (upTo 64) ts
 
@@ -102,14 +102,15 @@ module _ {xs : List ℕ} {count : ℕ} {sets : List ℕ} {x : Extent} {rec steps
       step-most : (a p : ℕ) → over (arcAt sets a) (take count xs) p ≤ 128
       step-most a p = omega (arith, over-most sets a (take count xs) p, length-take-le count xs (omega (arith, P .step .long, P .step .few)), P .step .few)
 
-      pub tally-grows : {v : ℕ} → v ≡ sumOf (bothOf sets) (take count xs) → Tallies sets (x .places) (take count xs) (tallyAt (x .own) counts) (tallyAt (x .own + v) new)
-      tally-grows e = tally-after sets U Y (P .reached .arcs .few) (P .wide) (x .own) e
+      pub tally-grows : {v w : ℕ} → v ≡ sumOf (bothOf sets) (take count xs) → w ≡ sumOf (sizeOf sets 96) (take count xs)
+          → Tallies sets (x .places) (take count xs) (tallyAt (x .own) (x .reads) counts) (tallyAt (x .own + v) (x .reads + w) new)
+      tally-grows e f = tally-after sets U Y (P .reached .arcs .few) (P .wide) (x .own) (x .reads) e f
 
       pub held-most : AtMost 1000000 (x .places) (column 0 32 new)
-      held-most p h = omega (arith, tally-grows refl .held p h, tally-small (P .reached) .held p h, step-most 32 p)
+      held-most p h = omega (arith, tally-grows refl refl .held p h, tally-small (P .reached) .held p h, step-most 32 p)
 
       pub watched-most : AtMost 1000000 (x .places) (column 32 32 new)
-      watched-most p h = omega (arith, tally-grows refl .watched p h, tally-small (P .reached) .watched p h, step-most 64 p)
+      watched-most p h = omega (arith, tally-grows refl refl .watched p h, tally-small (P .reached) .watched p h, step-most 64 p)
 
       pub grown-wide : length new ≡ length counts
       grown-wide = Y .long ∙ U .long
@@ -119,7 +120,7 @@ module _ {xs : List ℕ} {count : ℕ} {sets : List ℕ} {x : Extent} {rec steps
       cursors-grown = cursors-after sets U Y (P .wide)
 
       -- a step that is counted within the limits can be played
-      pub growable : {v : ℕ} → v ≡ sumOf (sizeOf sets) (take count xs) → x .conditions + v ≤ 512
+      pub growable : {v : ℕ} → v ≡ sumOf (sizeOf sets 32) (take count xs) → x .conditions + v ≤ 512
           → Growable count (length (flows (arcAt sets 32) 64 (x .events) (take count xs))) x rec steps new
       growable e h = let H = P .reached .holds in record {
         line = omega (arith, H .early, P .some, P .events);
@@ -131,6 +132,6 @@ module _ {xs : List ℕ} {count : ℕ} {sets : List ℕ} {x : Extent} {rec steps
       }
 
 -- playing moves the cursors alone among the counts by place
-pub counts-kept : {N : Net} {k own : ℕ} {r : RunD} {h : History} (counts counts′ : List ℕ) → ((at k : ℕ) → at + k ≤ 64 → column at k counts′ ≡ column at k counts)
-    → HoldsRun N k (record { tally = tallyAt own counts; history = h }) r → HoldsRun N k (record { tally = tallyAt own counts′; history = h }) r
+pub counts-kept : {N : Net} {k own reads : ℕ} {r : RunD} {h : History} (counts counts′ : List ℕ) → ((at k : ℕ) → at + k ≤ 64 → column at k counts′ ≡ column at k counts)
+    → HoldsRun N k (record { tally = tallyAt own reads counts; history = h }) r → HoldsRun N k (record { tally = tallyAt own reads counts′; history = h }) r
 counts-kept counts counts′ e H = rw (e 0 32 (omega arith), e 32 32 (omega arith)) H

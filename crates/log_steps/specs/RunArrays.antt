@@ -30,7 +30,10 @@ pub record Run : Type 0 where
 
 -- by lent arrays
 abbrev pub runAt : Extent → (rec steps counts : List ℕ) → Run
-runAt x rec steps counts = record { tally = tallyAt (x .own) counts; history = historyOf x rec steps counts }
+runAt x rec steps counts = record {
+  tally = tallyAt (x .own) (x .reads) counts;
+  history = historyOf x rec steps counts;
+}
 
 -- the run before line k, but for its marking
 pub record HoldsRun (N : Net) (k : ℕ) (x : Run) (r : RunD) : Type 0 where

@@ -4,15 +4,16 @@ ghost use Rattle.log_steps.specs.declared.LogAnswer.the-variants.{Refuse
 ghost use Rattle.log_steps.specs.RunArrays.{Buildable, BuiltOn};
 use arc_sets::GUARDS;
 use arc_sets::MADE;
+use arc_sets::READ;
 use arc_sets::SETS;
 use conditions::Extent;
 use history::grow;
 use record_columns::EVENTS;
 use run_counts::COUNTS;
 use run_counts::WATCHED;
-use run_counts::made_all;
 use run_counts::own_all;
 use run_counts::products;
+use run_counts::sizes_all;
 use steps::STEP;
 use steps::StepRefusal;
 use steps::add_all;
@@ -49,7 +50,8 @@ pub fn refused(why: LogRefusal, run: Extent) -> Played
     }
 }
 
-// The next step, which is enabled, is built: 26 and 27.
+// The next step, which is enabled, is built: 26 and 27. The marks are B and A, by place and without those at what an
+// event made itself, and R, one for each place that an event reads (02, 2026-01).
 pub fn build_step(
     step: &[u8; STEP],
     count: usize,
@@ -66,13 +68,14 @@ pub fn build_step(
 {
     let places = x.places;
     let line = x.line;
-    if MOST_CONDITIONS < x.conditions + made_all(step, count, sets) {
+    if MOST_CONDITIONS < x.conditions + sizes_all(step, count, sets, MADE) {
         return refused(LogRefusal::OverConditions(line), x);
     }
     add_all(step, count, sets, MADE, counts, 0);
     add_all(step, count, sets, GUARDS, counts, WATCHED);
     let own = x.own + own_all(step, count, sets);
-    if MOST_MARKS + own < products(counts, places) {
+    let reads = x.reads + sizes_all(step, count, sets, READ);
+    if MOST_MARKS + own < products(counts, places) + reads {
         return refused(LogRefusal::OverMarks(line), x);
     }
     let conditions = grow(step, count, sets, x, rec, steps, counts);
@@ -85,6 +88,7 @@ pub fn build_step(
             events: x.events + count,
             conditions,
             own,
+            reads,
         },
     }
 }

@@ -13,7 +13,7 @@ use Rattle.steps.specs.StepArrays.{HoldsMarking}
 use Rattle.runs.specs.Built.{good-start, start-count, blank as blankCondition}
 use Rattle.lists.specs.Stretch.{MappedFrom}
 use Rattle.columns.specs.Columns.{column, column-length, column-at}
-use Rattle.run_counts.specs.Tally.{heldIn, ownAll, tallyAt, Tallied}
+use Rattle.run_counts.specs.Tally.{inPlace, ownAll, readsAll, tallyAt, Tallied}
 use Rattle.history.specs.HistoryColumns.{History, Starts}
 use Rattle.log_steps.specs.RunArrays.{HoldsRun}
 use Rattle.logs.specs.LogRun.{Beginnable}
@@ -26,17 +26,18 @@ module _ {m : ℕ} {tokens : List ℕ} (N : Net) (h : HoldsMarking m tokens (N .
       long = length-take-le m tokens (omega (arith, h .few, h .long))
 
   module _ (counts : List ℕ) (l : length counts ≡ 96) (hd : column 0 32 counts ≡ tokens) (wt : (p : ℕ) → p < 32 → getD (column 32 32 counts) p 0 ≡ 0) where
-    tallied : Tallied N (start N) (tallyAt 0 counts)
+    tallied : Tallied N (start N) (tallyAt 0 0 counts)
     unfolding start
     tallied = record {
       longHeld = column-length 0 32 counts (omega arith);
       longWatched = column-length 32 32 counts (omega arith);
-      held = λ p k. ap (λ (z : List ℕ). getD z p 0) hd ∙ h .tokens p ∙ sym (start-count (heldIn p) p (λ q. unfold heldIn blankCondition in refl) (N .tokens));
+      held = λ p k. ap (λ (z : List ℕ). getD z p 0) hd ∙ h .tokens p ∙ sym (start-count (inPlace p) p (λ q. unfold inPlace blankCondition in refl) (N .tokens));
       watched = λ p k. wt p (omega (arith, h .few, h .places)) ∙ unfold count in refl;
       own = unfold ownAll sumOf in refl;
+      reads = unfold readsAll sumOf in refl;
     }
 
-    pub begins : {g : History} → Starts (take m tokens) g → HoldsRun N 1 (record { tally = tallyAt 0 counts; history = g }) (start N)
+    pub begins : {g : History} → Starts (take m tokens) g → HoldsRun N 1 (record { tally = tallyAt 0 0 counts; history = g }) (start N)
     begins S = record {
       good = good-start N;
       tally = tallied;

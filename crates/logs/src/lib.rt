@@ -93,5 +93,6 @@ pub fn begin(
         events: 0,
         conditions: start(tokens, places, rec),
         own: 0,
+        reads: 0,
     }
 }

@@ -5,16 +5,12 @@ use mathlib.Core.List.{List, [], _∷_, _++_, map, map-append, append-nil}
 use native.Mathlib.Nat.{le-trans, le-of-eq}
 use native.Mathlib.Numerals.{add-one}
 use native.Mathlib.Omega.{arith}
-use native.Mathlib.Nat.{zero-add}
 use lib.ListN.{length, getD, length-append}
 use Rattle.spec.specs.Lists.{from, upTo, flat}
-use Rattle.spec.specs.Record.{eventLine}
 use Rattle.lists.specs.Laws
-use Rattle.columns.specs.Columns.{column, column-at}
-use Rattle.line_writer.specs.Lines.{codedLine}
 use Rattle.writing.specs.Written.{Wrote}
 use Rattle.writing.proofs.Laws.{none, after, wrote-length}
-use Rattle.record_writer.specs.Bytes.{joinedTo, eventBytes, conditionBytes}
+use Rattle.record_writer.specs.Bytes.{joinedTo}
 
 module _ (f : ℕ → List ℕ) where
   joined-none : joinedTo f 0 ≡ []
@@ -53,13 +49,3 @@ module _ (f : ℕ → List ℕ) where
 
   pub wrote-all : {old new : List ℕ} {at r i n : ℕ} → i ≡ n → Wrote old at (joinedTo f i) r new → Wrote old at (joinedTo f n) r new
   wrote-all e a = rw (← e) a
-
--- ---- the lines, by the bytes of a record
-
-pub event-at : (rec : List ℕ) (e : ℕ) → e < 128 → eventBytes (column 0 128 rec) e ≡ eventLine (getD rec e 0)
-unfolding eventBytes
-event-at rec e h = ap eventLine (column-at 0 128 rec e h ∙ ap (λ (i : ℕ). getD rec i 0) (zero-add e))
-
-pub condition-at : (rec : List ℕ) (c : ℕ) → c < 512 → conditionBytes (column 128 512 rec) (column 640 512 rec) (column 1152 512 rec) c ≡ codedLine (getD rec (128 + c) 0) (getD rec (640 + c) 0) (getD rec (1152 + c) 0)
-unfolding conditionBytes
-condition-at rec c h = rw (column-at 128 512 rec c h, column-at 640 512 rec c h, column-at 1152 512 rec c h)

@@ -7,48 +7,49 @@ use native.Mathlib.Nat.{add-zero, max-zero}
 use native.Mathlib.Omega.{arith}
 use lib.ListN.{length, length-append}
 use Rattle.spec.specs.Lists.{upTo, flat}
-use Rattle.spec.specs.Record.{Mark, markLine, markLineOf, isAt}
+use Rattle.spec.specs.Record.{Mark, markLine, markLineOf, slotOf, isAt}
 use Rattle.lists.specs.Laws
 use Rattle.lists.specs.Parts.{parts-none, parts-more, parts-within}
 use Rattle.writing.specs.Written.{Wrote}
 use Rattle.writing.proofs.Laws.{none, after, wrote-length}
-use Rattle.reach.specs.Rows.{cellOf, way, Raised}
-use Rattle.line_writer.specs.Lines.{kindIf}
-use Rattle.record_columns.specs.Layout.{kindCode, markValue}
-use Rattle.record_columns.proofs.Marks.{value-append, value-one, says-here, says-away, at-both, at-own}
+use Rattle.reach.specs.Rows.{cellOf, Raised}
+use Rattle.record_columns.specs.Layout.{markRow, kindCode, markValue}
+use Rattle.record_columns.proofs.Marks.{slot-few, value-append, value-one, says-here, says-away, at-all, at-own}
 use Rattle.record_writer.specs.Notes.{NotesMarks, Puts, Room, textOf}
 use Rattle.record_writer.specs.declared.Ends.{Ends}
 
 -- ---- one mark
 
-pub noting : (w : Mark) {b b′ : List ℕ} → Raised b (w .condition) (w .event) (kindCode (w .kind)) b′ → NotesMarks (w ∷ []) b b′
-noting w {b} {b′} r = record { long = r .long; sub = λ h c. r .sub c (h c); cell = λ l c e. go c e (isAt c e w) refl }
+pub noting : (w : Mark) {b b′ : List ℕ} → Raised b (markRow (w .condition) (slotOf (w .kind))) (w .event) (kindCode (w .kind)) b′ → NotesMarks (w ∷ []) b b′
+noting w {b} {b′} r = record { long = r .long; sub = λ h i. r .sub i (h i); cell = λ l s c e k. go s c e k (isAt s c e w) refl }
   where
-    go : (c e : ℕ) (t : Bool) → isAt c e w ≡ t → cellOf b′ c e ≡ max (cellOf b c e) (markValue (w ∷ []) c e)
-    go c e true q =
-        let p = at-both w c e q in
-        rw (← p .0, ← p .1) (r .here ∙ omega (arith, value-one w (w .condition) (w .event), says-here w (w .condition) (w .event) (at-own w _ _ refl refl)))
-    go c e false q = r .other c e (λ z. true≢false (sym (at-own w c e (z .0) (z .1)) ∙ q)) ∙ omega (arith, value-one w c e, says-away w c e q)
+    go : (s c e : ℕ) → s < 2 → (t : Bool) → isAt s c e w ≡ t → cellOf b′ (markRow c s) e ≡ max (cellOf b (markRow c s) e) (markValue (w ∷ []) s c e)
+    go s c e k true q =
+        let p = at-all w s c e q in
+        rw (← p .0, ← p .1, ← p .2) (r .here ∙ omega (
+          arith,
+          value-one w (slotOf (w .kind)) (w .condition) (w .event),
+          says-here w (slotOf (w .kind)) (w .condition) (w .event) (at-own w _ _ _ refl refl refl),
+        ))
+    go s c e k false q =
+        let u : slotOf (w .kind) < 2 = slot-few (w .kind) in
+        r .other (markRow c s) e (λ z. true≢false (sym (at-own w s c e (omega (arith, u, z .0)) (omega (arith, u, z .0)) (z .1)) ∙ q))
+        ∙ omega (arith, value-one w s c e, says-away w s c e q)
 
--- the way of a mark's number
-pub after-code : (b : Bool) → way b ≡ kindCode (kindIf b)
-after-code true = refl
-after-code false = refl
-
-pub unnoted : (ws : List Mark) (b : List ℕ) → length b < 2048 → NotesMarks ws b b
+pub unnoted : (ws : List Mark) (b : List ℕ) → length b < 4096 → NotesMarks ws b b
 unnoted ws b s = record { long = refl; sub = λ h. h; cell = λ l. absurd (omega arith) }
 
 -- ---- marks behind marks
 
 notes-none : (b : List ℕ) → NotesMarks [] b b
 unfolding markValue
-notes-none b = record { long = refl; sub = λ h. h; cell = λ l c e. sym (max-zero (cellOf b c e)) }
+notes-none b = record { long = refl; sub = λ h. h; cell = λ l s c e k. sym (max-zero (cellOf b (markRow c s) e)) }
 
 notes-after : {old mid new : List ℕ} {us vs : List Mark} → NotesMarks us old mid → NotesMarks vs mid new → NotesMarks (us ++ vs) old new
 notes-after {us = us} {vs} a b = record {
   long = b .long ∙ a .long;
   sub = λ h. b .sub (a .sub h);
-  cell = λ l c e. omega (arith, a .cell l c e, b .cell (omega (arith, a .long)) c e, value-append us vs c e);
+  cell = λ l s c e k. omega (arith, a .cell l s c e k, b .cell (omega (arith, a .long)) s c e k, value-append us vs s c e);
 }
 
 text-after : (us vs : List Mark) → textOf us ++ textOf vs ≡ textOf (us ++ vs)

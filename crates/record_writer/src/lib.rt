@@ -3,25 +3,34 @@ ghost use mathlib.Core.Path.{_≡_};
 ghost use Prim.Native.Nat.{ℕ, _+_, _≤_, _<_};
 ghost use mathlib.Core.List.{_∷_, []};
 ghost use lib.ListN.{length, getD};
+ghost use lib.Dec.{eqb};
 ghost use Rattle.writing.specs.Written.{Wrote};
-ghost use Rattle.net.specs.NetArrays.{rowSize, inhibitorsIn};
+ghost use Rattle.bit_sets.specs.Bits.{bit};
+ghost use Rattle.arc_sets.specs.Sets.{Within};
 ghost use Rattle.reach.specs.Rows.{Sub, rowOf};
 ghost use Rattle.record_columns.specs.Layout.{eventsMost, conditionsMost, recordBytes};
 ghost use Rattle.record_columns.specs.Enters.{markOf};
 ghost use Rattle.line_writer.specs.Lines.{kindIf};
-ghost use Rattle.record_writer.specs.Bytes.{eventLines, conditionLines, runIn, runBytes, Writable};
-ghost use Rattle.record_writer.specs.Sets.{setsSize, wordBits, EmptyRow, JoinsRow, Placeable, Placed};
-ghost use Rattle.record_writer.specs.Sets.{WatchedBy, Watches, Ready};
-ghost use Rattle.record_writer.specs.Notes.{NotesMarks, Puts, Room, noteIf, partNotes, rowNotes, Consumer};
-ghost use Rattle.record_writer.specs.Notes.{PartConsumers, RowConsumers, runNotes, unmarked, Recorded};
-use line_writer::earlier;
+ghost use Rattle.condition_sets.specs.Sets.{wordBits};
+ghost use Rattle.record_writer.specs.Bytes.{eventLines, conditionLines, Writable};
+ghost use Rattle.record_writer.specs.Notes.{NotesMarks, Puts, Room, guardIf, noteIf, spotNotes, partNotes, rowNotes};
+ghost use Rattle.record_writer.specs.Notes.{Consumer, SpotConsumer, PartConsumers, RowConsumers};
+ghost use Rattle.record_writer.specs.Notes.{runNotes, runBytes, unmarked, Recorded};
+use arc_sets::READ;
+use arc_sets::SETS;
+use condition_sets::KNOWN;
+use condition_sets::SET;
+use condition_sets::WORD;
+use condition_sets::WORDS;
+use condition_sets::enter_places;
+use condition_sets::ready;
+use held_conditions::NEXTS;
+use held_conditions::earlier;
+use held_conditions::reads_of;
 use line_writer::put_condition;
 use line_writer::put_event;
 use line_writer::put_mark;
 use machine_numbers::wide_word;
-use net::ARCS;
-use net::INHIBITORS;
-use net::ROW;
 use reach::raise;
 use record_columns::CONSUMERS;
 use record_columns::Counts;
@@ -29,17 +38,10 @@ use record_columns::EVENTS;
 use record_columns::MARK_WORDS;
 use record_columns::PLACES;
 use record_columns::PRODUCERS;
-
-// The words of the sets of conditions, one set for each place or for each transition; the words of a set, and the
-// conditions of a word.
-const SETS: usize = 256;
-
-const SET: usize = 8;
-
-const WORD: usize = 64;
-
-// The transitions whose sets can be known.
-const KNOWN: usize = 32;
+use record_columns::is_after;
+use record_columns::mark_row;
+use record_columns::slot_of;
+use spec::MarkKind;
 
 // Where the text ends, and how many marks there are.
 pub struct Ends {
@@ -83,87 +85,43 @@ fn put_conditions(out: &mut [u8], at: usize, rec: &[u8], n: usize) -> usize
     next
 }
 
-// The first n conditions, each in the set of its place: bit c % WORD of word c / WORD of the place's words.
-fn enter_places(sets: &mut [u64; SETS], rec: &[u8], n: usize)
-    requires { ⌜ Placeable (now rec) n (now sets) ⌝ }
-    ensures { λ _. ⌜ Placed (now (rec .entry)) n (now (sets .exit)) ⌝ }
-{
-    let mut c: usize = 0;
-    while c < n {
-        let i = SET * (rec[PLACES + c] as usize) + c / WORD;
-        sets[i] = sets[i] | (1 << (c % WORD));
-        c += 1;
-    }
-}
-
-// The set of place p joins that of transition t.
-fn join(watched: &mut [u64; SETS], t: usize, sets: &[u64; SETS], p: usize)
-    requires { ⌜ (t < 32) × (p < 32) × (length (now watched) ≡ setsSize) ⌝ }
-    ensures { λ _. ⌜ JoinsRow (now (watched .entry)) t (now (sets .entry)) p (now (watched .exit)) ⌝ }
-{
-    let mut w: usize = 0;
-    while w < SET {
-        let i = SET * t + w;
-        watched[i] = watched[i] | sets[SET * p + w];
-        w += 1;
-    }
-}
-
-// The set of place p joins that of transition t if it inhibits t.
-fn watch_place(watched: &mut [u64; SETS], t: usize, sets: &[u64; SETS], arcs: &[u8; ARCS], p: usize)
-    requires { ⌜ (t < 32) × (p < rowSize) × (length (now watched) ≡ setsSize)
-        × WatchedBy (now arcs) (now sets) t p (now watched) ⌝ }
-    ensures { λ _. ⌜ Watches (now (arcs .entry)) (now (sets .entry)) t (p + 1)
-        (now (watched .entry)) (now (watched .exit)) ⌝ }
-{
-    if 0 < arcs[INHIBITORS + (ROW * t + p)] {
-        join(watched, t, sets, p);
-    }
-}
-
-// The set of transition t, which is empty yet: the conditions of the places that inhibit it.
-fn watch(watched: &mut [u64; SETS], t: usize, sets: &[u64; SETS], arcs: &[u8; ARCS])
-    requires { ⌜ (t < 32) × (length (now watched) ≡ setsSize) × EmptyRow (now watched) t ⌝ }
-    ensures { λ _. ⌜ Watches (now (arcs .entry)) (now (sets .entry)) t rowSize
-        (now (watched .entry)) (now (watched .exit)) ⌝ }
-{
-    let mut p: usize = 0;
-    while p < ROW {
-        watch_place(watched, t, sets, arcs, p);
-        p += 1;
-    }
-}
-
-// The same, unless the set is known.
-fn ready(
-    watched: &mut [u64; SETS],
-    known: &mut [u8; KNOWN],
-    t: usize,
-    sets: &[u64; SETS],
-    arcs: &[u8; ARCS],
-)
-    requires { ⌜ (t < 32) × Ready (now arcs) (now sets) (now known) (now watched) ⌝ }
-    ensures { λ _. ⌜ Ready (now (arcs .entry)) (now (sets .entry)) (now (known .exit)) (now (watched .exit))
-        × WatchedBy (now (arcs .entry)) (now (sets .entry)) t rowSize (now (watched .exit)) ⌝ }
-{
-    if known[t] == 0 {
-        watch(watched, t, sets, arcs);
-        known[t] = 1;
-    }
-}
-
 // One mark more, of condition c and event e, where there are words for marks.
-fn note_mark(marks: &mut [u64], after: bool, c: usize, e: usize)
+fn note_mark(marks: &mut [u64], x: MarkKind, c: usize, e: usize)
     requires { ⌜ (c < conditionsMost) × (e < eventsMost) × ((i : ℕ) → Sub (rowOf (now marks) i)) ⌝ }
-    ensures { λ _. ⌜ NotesMarks (markOf (kindIf after) c e ∷ []) (now (marks .entry)) (now (marks .exit)) ⌝ }
+    ensures { λ _. ⌜ NotesMarks (markOf x c e ∷ []) (now (marks .entry)) (now (marks .exit)) ⌝ }
 {
     if marks.len() < MARK_WORDS {
         return;
     }
-    raise(marks, c, e, after);
+    raise(marks, mark_row(c, slot_of(x)), e, is_after(x));
 }
 
-// Event e's mark at condition c, of a place that inhibits it, unless e produced the condition: written and noted.
+// One mark is written and noted.
+fn put_one(out: &mut [u8], marks: &mut [u64], ends: Ends, x: MarkKind, c: usize, e: usize) -> Ends
+    requires { ⌜ (e < eventsMost) × (c < conditionsMost) × Room (markOf x c e ∷ []) ends (now out) (now marks) ⌝ }
+    ensures { λ r. ⌜ Puts (markOf x c e ∷ []) ends (now (out .entry)) (now (marks .entry)) r
+        (now (out .exit)) (now (marks .exit)) ⌝ }
+{
+    let at = put_mark(out, ends.at, x, c, e);
+    note_mark(marks, x, c, e);
+    Ends {
+        at,
+        marks: ends.marks + 1,
+    }
+}
+
+// B, or A where the condition was consumed before.
+fn kind_if(after: bool) -> MarkKind
+    ensures { λ r. ⌜ r ≡ kindIf after ⌝ }
+{
+    if after {
+        MarkKind::After
+    } else {
+        MarkKind::Before
+    }
+}
+
+// Event e's mark at condition c, of a place that inhibits it, unless e produced the condition.
 fn put_due(
     out: &mut [u8],
     marks: &mut [u64],
@@ -174,30 +132,71 @@ fn put_due(
     c: usize,
 ) -> Ends
     requires { ⌜ (e < eventsMost) × (c < conditionsMost) × (recordBytes ≤ length (now rec)) × Consumer (now rec) c
-        × Room (noteIf 1 (now rec) (now steps) e c) ends (now out) (now marks) ⌝ }
-    ensures { λ r. ⌜ Puts (noteIf 1 (now (rec .entry)) (now (steps .entry)) e c) ends
+        × Room (guardIf 1 (now rec) (now steps) e c) ends (now out) (now marks) ⌝ }
+    ensures { λ r. ⌜ Puts (guardIf 1 (now (rec .entry)) (now (steps .entry)) e c) ends
         (now (out .entry)) (now (marks .entry)) r (now (out .exit)) (now (marks .exit)) ⌝ }
 {
     if rec[PRODUCERS + c] == e as u8 {
         return ends;
     }
-    let after = earlier(rec[CONSUMERS + c], steps, e);
-    let at = put_mark(out, ends.at, after, c, e);
-    note_mark(marks, after, c, e);
-    Ends {
-        at,
-        marks: ends.marks + 1,
-    }
+    let kind = kind_if(earlier(rec[CONSUMERS + c], steps, e));
+    put_one(out, marks, ends, kind, c, e)
 }
 
-// Some conditions of a set: a word of it, and the condition of the word's bit 0.
+// A condition: whether its place inhibits an event, and whether the event reads it.
+pub struct Spot {
+    pub guard: bool,
+    pub read: bool,
+    pub condition: usize,
+}
+
+// Event e's marks at a condition: B or A, and R.
+fn put_spot(
+    out: &mut [u8],
+    marks: &mut [u64],
+    rec: &[u8],
+    ends: Ends,
+    steps: &[u8; EVENTS],
+    e: usize,
+    spot: Spot,
+) -> Ends
+    requires { ⌜ (e < eventsMost) × (spot .condition < conditionsMost) × (recordBytes ≤ length (now rec))
+        × SpotConsumer spot (now rec) × Room (spotNotes spot (now rec) (now steps) e) ends (now out) (now marks) ⌝ }
+    ensures { λ r. ⌜ Puts (spotNotes spot (now (rec .entry)) (now (steps .entry)) e) ends
+        (now (out .entry)) (now (marks .entry)) r (now (out .exit)) (now (marks .exit)) ⌝ }
+{
+    let c = spot.condition;
+    if !spot.guard {
+        if spot.read {
+            return put_one(out, marks, ends, MarkKind::Read, c, e);
+        }
+        return ends;
+    }
+    let next = put_due(out, marks, rec, ends, steps, e, c);
+    if spot.read {
+        return put_one(out, marks, next, MarkKind::Read, c, e);
+    }
+    next
+}
+
+// Whether bit i of a word is set.
+fn is_set(word: u64, i: usize) -> bool
+    requires { ⌜ i < wordBits ⌝ }
+    ensures { λ r. ⌜ r ≡ eqb (bit word i) 1 ⌝ }
+{
+    (word >> i) & 1 == 1
+}
+
+// Some conditions: a word of the set of those whose places inhibit an event, one of the set of those that it reads, and
+// the condition of the words' bit 0.
 pub struct Part {
-    pub word: u64,
+    pub guards: u64,
+    pub reads: u64,
     pub first: usize,
 }
 
-// Event e's marks at the conditions of a part of a set.
-fn put_word(
+// Event e's marks at the conditions of a part.
+fn put_part(
     out: &mut [u8],
     marks: &mut [u64],
     rec: &[u8],
@@ -212,40 +211,55 @@ fn put_word(
         (now (out .entry)) (now (marks .entry)) r (now (out .exit)) (now (marks .exit)) ⌝ }
 {
     let mut next = ends;
-    let mut bits = part.word;
+    let mut bits = part.guards | part.reads;
     while bits != 0 {
         let i = wide_word(u64::trailing_zeros(bits));
-        next = put_due(out, marks, rec, next, steps, e, part.first + i);
+        let spot = Spot {
+            guard: is_set(part.guards, i),
+            read: is_set(part.reads, i),
+            condition: part.first + i,
+        };
+        next = put_spot(out, marks, rec, next, steps, e, spot);
         bits = bits & (bits ^ (1 << i));
     }
     next
 }
 
-// Event e's marks at the conditions of the row of its transition.
+// An event whose marks are next, and where they go.
+pub struct Turn {
+    pub ends: Ends,
+    pub event: usize,
+}
+
+// An event's marks at the conditions of the row of its transition, and at those that it reads.
 fn put_row(
     out: &mut [u8],
     marks: &mut [u64],
     rec: &[u8],
-    ends: Ends,
     steps: &[u8; EVENTS],
-    e: usize,
-    watched: &[u64; SETS],
+    turn: Turn,
+    watched: &[u64; WORDS],
+    reads: &[u64; SET],
 ) -> Ends
-    requires { ⌜ (e < eventsMost) × (recordBytes ≤ length (now rec)) × (getD (now rec) e 0 < 32)
-        × RowConsumers (now watched) (now rec) e
-        × Room (rowNotes (now watched) (now rec) (now steps) e) ends (now out) (now marks) ⌝ }
-    ensures { λ r. ⌜ Puts (rowNotes (now (watched .entry)) (now (rec .entry)) (now (steps .entry)) e) ends
+    requires { ⌜ (turn .event < eventsMost) × (recordBytes ≤ length (now rec)) × (getD (now rec) (turn .event) 0 < 32)
+        × RowConsumers (now watched) (now rec) (turn .event)
+        × Room (rowNotes (now watched) (now reads) (now rec) (now steps) (turn .event)) (turn .ends)
+        (now out) (now marks) ⌝ }
+    ensures { λ r. ⌜ Puts (rowNotes (now (watched .entry)) (now (reads .entry)) (now (rec .entry)) (now (steps .entry))
+        (turn .event)) (turn .ends)
         (now (out .entry)) (now (marks .entry)) r (now (out .exit)) (now (marks .exit)) ⌝ }
 {
+    let e = turn.event;
     let t = rec[e] as usize;
-    let mut next = ends;
+    let mut next = turn.ends;
     let mut w: usize = 0;
     while w < SET {
         let part = Part {
-            word: watched[SET * t + w],
+            guards: watched[SET * t + w],
+            reads: reads[w],
             first: WORD * w,
         };
-        next = put_word(out, marks, rec, next, steps, e, part);
+        next = put_part(out, marks, rec, next, steps, e, part);
         w += 1;
     }
     next
@@ -258,24 +272,30 @@ fn put_marks(
     rec: &[u8],
     at: usize,
     steps: &[u8; EVENTS],
-    arcs: &[u8; ARCS],
+    arcs: &[u64; SETS],
     s: Counts,
 ) -> Ends
-    requires { ⌜ Writable (runIn s (now rec) (now steps)) × (recordBytes ≤ length (now rec))
+    requires { ⌜ Writable s (now rec) (now steps) × Within 32 (now arcs)
         × Room (runNotes (now arcs) s (now rec) (now steps)) (unmarked at) (now out) (now marks) ⌝ }
     ensures { λ r. ⌜ Puts (runNotes (now (arcs .entry)) s (now (rec .entry)) (now (steps .entry))) (unmarked at)
         (now (out .entry)) (now (marks .entry)) r (now (out .exit)) (now (marks .exit)) ⌝ }
 {
-    let mut sets = [0u64; SETS];
-    enter_places(&mut sets, rec, s.conditions);
-    let mut watched = [0u64; SETS];
+    let mut places = [0u64; WORDS];
+    enter_places(&mut places, rec, s.conditions);
+    let mut watched = [0u64; WORDS];
     let mut known = [0u8; KNOWN];
+    let mut nexts = [0u16; NEXTS];
     let mut next = Ends { at, marks: 0 };
     let mut e: usize = 0;
     while e < s.events {
         let t = rec[e] as usize;
-        ready(&mut watched, &mut known, t, &sets, arcs);
-        next = put_row(out, marks, rec, next, steps, e, &watched);
+        ready(&mut watched, &mut known, t, &places, arcs);
+        let reads = reads_of(&mut nexts, arcs[READ + t], rec, steps, e, s.conditions);
+        let turn = Turn {
+            ends: next,
+            event: e,
+        };
+        next = put_row(out, marks, rec, steps, turn, &watched, &reads);
         e += 1;
     }
     next
@@ -288,14 +308,13 @@ pub fn put_record(
     marks: &mut [u64],
     rec: &[u8],
     steps: &[u8; EVENTS],
-    arcs: &[u8; ARCS],
+    arcs: &[u64; SETS],
     s: Counts,
 ) -> Ends
-    requires { ⌜ Writable (runIn s (now rec) (now steps))
+    requires { ⌜ Writable s (now rec) (now steps) × Within 32 (now arcs)
         × (length (runBytes (now arcs) s (now rec) (now steps)) ≤ length (now out))
-        × (length (runNotes (now arcs) s (now rec) (now steps)) ≤ 4096)
-        × (recordBytes ≤ length (now rec)) × ((c : ℕ) → Sub (rowOf (now marks) c)) ⌝ }
-    ensures { λ r. ⌜ Recorded (inhibitorsIn (now (arcs .entry))) (runIn s (now (rec .entry)) (now (steps .entry)))
+        × (length (runNotes (now arcs) s (now rec) (now steps)) ≤ 4096) × ((i : ℕ) → Sub (rowOf (now marks) i)) ⌝ }
+    ensures { λ r. ⌜ Recorded (now (arcs .entry)) s (now (rec .entry)) (now (steps .entry))
         (now (out .entry)) (now (marks .entry)) r (now (out .exit)) (now (marks .exit)) ⌝ }
 {
     let first = put_events(out, 0, rec, s.events);

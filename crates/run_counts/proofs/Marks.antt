@@ -1,12 +1,13 @@
--- How many marks are due: each condition for each event that its place inhibits, but not for the event that made it.
-use Prim.Native.Nat.{ℕ, suc, _+_, _*_, _<_}
-use mathlib.Core.Path.{_≡_, refl, sym, ap, _∙_}
+-- How many marks are due: each condition for each event that its place inhibits, but not for the event that made it; and one for each
+-- place that an event reads.
+use Prim.Native.Nat.{ℕ, _+_, _*_, _<_}
+use mathlib.Core.Path.{_≡_, sym, ap, _∙_}
 use mathlib.Core.Bool.{Bool, true, false, not, _&&_, and-true}
-use mathlib.Core.List.{List, [], _∷_}
+use mathlib.Core.List.{List}
 use native.Mathlib.Nat.{mul-comm}
 use native.Mathlib.Omega.{arith}
 use lib.Dec.{eqb}
-use lib.ListN.{length, getD, length-append}
+use lib.ListN.{length, getD}
 use Rattle.spec.specs.Lists.{In, upTo, count, sumOf, asCount}
 use Rattle.spec.specs.Net.{Net, places, makes, inhibits}
 use Rattle.spec.specs.Record.{Condition, names}
@@ -14,10 +15,9 @@ use Rattle.spec.specs.Process.{producedIn}
 use Rattle.spec.specs.Building.{Event, noEvent, Run, marksDue}
 use Rattle.lists.specs.Laws
 use Rattle.lists.specs.Grouped.{sumOf-scaled, count-by}
-use Rattle.runs.specs.Built.{Good}
-use Rattle.runs.specs.MarkWalks.{dueFor, marksOn, marksFrom, marks-walked}
-use Rattle.runs.specs.Growth.{on-length}
-use Rattle.run_counts.specs.Tally.{heldIn, watchedFrom, ownOf, ownAll}
+use Rattle.runs.specs.Built.{firedBy, Good}
+use Rattle.runs.specs.MarkCounts.{dueFor, readsOf, marks-length}
+use Rattle.run_counts.specs.Tally.{inPlace, watchedFrom, ownOf, ownAll, readsAll}
 
 -- ---- the marks of one event
 
@@ -47,29 +47,15 @@ module _ (N : Net) (e t : ℕ) where
 
 module _ (N : Net) (cs : List Condition) (placed : (c : Condition) → In c cs → c .place < places N) where
   held : ℕ → ℕ
-  held p = count (heldIn p) cs
+  held p = count (inPlace p) cs
 
   -- the conditions whose place inhibits the transition, by place
   inhibiting-by : (t : ℕ) → count (λ c. inhibits N (c .place) t) cs ≡ sumOf (λ p. held p * asCount (inhibits N p t)) (upTo (places N))
-  unfolding held heldIn
+  unfolding held inPlace
   inhibiting-by t =
       Laws.count-same _ (λ c. inhibits N (c .place) t && true) cs (λ c m. sym (and-true (inhibits N (c .place) t)))
       ∙ count-by (λ c. c .place) (λ p. inhibits N p t) (λ c. true) (places N) cs placed
       ∙ Laws.sumOf-same _ _ (upTo (places N)) (λ p m. mul-comm (asCount (inhibits N p t)) _ ∙ ap (λ z. z * asCount (inhibits N p t)) (Laws.count-same _ _ cs (λ c i. and-true (eqb (c .place) p))))
-
-  from-length : (es : List Event) (e : ℕ) (vs : List Event)
-      → ((i p : ℕ) → i < length vs → p < places N → count (producedIn (e + i) p) cs ≡ makes N (getD vs i noEvent .transition) p)
-      → length (marksFrom N es cs e vs) + ownAll N vs ≡ sumOf (λ v. count (λ c. inhibits N (c .place) (v .transition)) cs) vs
-  unfolding marksFrom ownAll sumOf
-  from-length es e [] h = refl
-  from-length es e (v ∷ vs) h = omega (
-    arith,
-    length-append (marksOn N es e v 0 cs) (marksFrom N es cs (suc e) vs),
-    on-length N es e v 0 cs,
-    due-or-own N e (v .transition) cs,
-    own-by N e (v .transition) cs placed (λ p l. ap (λ (z : ℕ). count (producedIn z p) cs) (omega arith) ∙ h 0 p (omega arith) l),
-    from-length es (suc e) vs (λ i p l m. ap (λ (z : ℕ). count (producedIn z p) cs) (omega arith) ∙ h (suc i) p (omega arith) m),
-  )
 
   -- first by event and then by place, or first by place and then by event
   by-place : (vs : List Event) → sumOf (λ v. count (λ c. inhibits N (c .place) (v .transition)) cs) vs ≡ sumOf (λ p. held p * count (watchedFrom N p) vs) (upTo (places N))
@@ -79,11 +65,41 @@ module _ (N : Net) (cs : List Condition) (placed : (c : Condition) → In c cs �
       ∙ Laws.sumOf-swap (λ v p. held p * asCount (inhibits N p (v .transition))) vs (upTo (places N))
       ∙ Laws.sumOf-same _ _ (upTo (places N)) (λ p m. sumOf-scaled (held p) (λ v. asCount (inhibits N p (v .transition))) vs ∙ ap (λ z. held p * z) (sym (Laws.count-sum (watchedFrom N p) vs)))
 
-pub marks-counted : (N : Net) (k : ℕ) (r : Run) → Good N k r
-    → length (marksDue N r) + ownAll N (r .events) ≡ sumOf (λ p. count (heldIn p) (r .conditions) * count (watchedFrom N p) (r .events)) (upTo (places N))
-unfolding held
-marks-counted N k r G =
-    let placed : (c : Condition) → In c (r .conditions) → c .place < places N = λ c m. G .sound c m .placed in
-    ap (λ ms. length ms + ownAll N (r .events)) (marks-walked N r)
-    ∙ from-length N (r .conditions) placed (r .events) 0 (r .events) (λ i p l m. ap (λ (z : ℕ). count (producedIn z p) (r .conditions)) (omega arith) ∙ G .produced i p l m)
-    ∙ by-place N (r .conditions) placed (r .events)
+-- ---- the marks of a run
+
+module _ (N : Net) (k : ℕ) (r : Run) (G : Good N k r) where
+  -- what is summed over the numbers of the events is summed over the events
+  by-number : (f : ℕ → ℕ) → sumOf (λ e. f (firedBy (r .events) e)) (upTo (length (r .events))) ≡ sumOf (λ v. f (v .transition)) (r .events)
+  by-number f = sym (
+      ap (sumOf (λ v. f (v .transition))) (Laws.tabled noEvent (r .events))
+      ∙ Laws.sumOf-map (λ v. f (v .transition)) (λ e. getD (r .events) e noEvent) (upTo (length (r .events)))
+      )
+
+  placed : (c : Condition) → In c (r .conditions) → c .place < places N
+  placed c m = G .sound c m .placed
+
+  -- the marks B and A, with those that an event would have at what it made itself
+  due-and-own : sumOf (λ e. count (dueFor N e (firedBy (r .events) e)) (r .conditions)) (upTo (length (r .events))) + ownAll N (r .events)
+      ≡ sumOf (λ v. count (λ c. inhibits N (c .place) (v .transition)) (r .conditions)) (r .events)
+  unfolding ownAll
+  due-and-own =
+      ap (λ z. sumOf (λ e. count (dueFor N e (firedBy (r .events) e)) (r .conditions)) (upTo (length (r .events))) + z) (sym (by-number (ownOf N)))
+      ∙ sym (Laws.sumOf-add (λ e. count (dueFor N e (firedBy (r .events) e)) (r .conditions)) (λ e. ownOf N (firedBy (r .events) e)) (upTo (length (r .events))))
+      ∙ Laws.sumOf-same _ _ (upTo (length (r .events))) (λ e m.
+      let t = firedBy (r .events) e in
+      ap (λ z. count (dueFor N e t) (r .conditions) + z) (sym (own-by N e t (r .conditions) placed (λ p l. G .produced e p (Laws.in-upTo (length (r .events)) m) l)))
+      ∙ sym (due-or-own N e t (r .conditions)))
+      ∙ by-number (λ t. count (λ c. inhibits N (c .place) t) (r .conditions))
+
+  -- what the places say of the marks B and A, and one mark R for each place that an event reads
+  pub marks-counted : length (marksDue N r) + ownAll N (r .events)
+      ≡ sumOf (λ p. count (inPlace p) (r .conditions) * count (watchedFrom N p) (r .events)) (upTo (places N)) + readsAll N (r .events)
+  unfolding held readsAll
+  marks-counted = omega (
+    arith,
+    marks-length N k r G,
+    Laws.sumOf-add (λ e. count (dueFor N e (firedBy (r .events) e)) (r .conditions)) (λ e. readsOf N (firedBy (r .events) e)) (upTo (length (r .events))),
+    by-number (readsOf N),
+    due-and-own,
+    by-place N (r .conditions) placed (r .events),
+  )

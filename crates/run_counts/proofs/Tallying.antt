@@ -26,9 +26,9 @@ all-none f = refl
 pub all-next : {v t : ℕ} (f : ℕ → ℕ) (ts : List ℕ) (i r : ℕ) → i < length ts → r ≡ sumOf f (take i ts) → t ≡ getD ts i 0 → v ≡ f t → r + v ≡ sumOf f (take (i + 1) ts)
 all-next f ts i r l h e q = ap₂ (λ (x y : ℕ). x + y) h (q ∙ ap f e) ∙ sym (sumOf-more 0 f ts i l)
 
-pub size-of : (sets : List ℕ) (t : ℕ) → sumOf (bit (getD sets (32 + t) 0)) (upTo 64) ≡ sizeOf sets t
+pub size-of : (sets : List ℕ) (at t : ℕ) → sumOf (bit (getD sets (at + t) 0)) (upTo 64) ≡ sizeOf sets at t
 unfolding sizeOf arcAt
-size-of sets t = refl
+size-of sets at t = refl
 
 -- a place that both sets have
 both-bits : (a b p : ℕ) → bit (bitAnd a b) p ≡ bit b p * bit a p
@@ -66,13 +66,15 @@ product-next counts p r l h e f = sumOf-next (timesAt (column 0 32 counts) (colu
 -- ---- the tally after a step
 
 module _ (sets : List ℕ) {ts old mid new : List ℕ} (A : Summed (arcAt sets 32) ts 0 old mid) (B : Summed (arcAt sets 64) ts 32 mid new) where
-  pub tally-after : {m v : ℕ} → m ≤ 32 → length old ≡ 96 → (own : ℕ) → v ≡ sumOf (bothOf sets) ts → Tallies sets m ts (tallyAt own old) (tallyAt (own + v) new)
-  tally-after few long own e = record {
+  pub tally-after : {m v w : ℕ} → m ≤ 32 → length old ≡ 96 → (own reads : ℕ) → v ≡ sumOf (bothOf sets) ts → w ≡ sumOf (sizeOf sets 96) ts
+      → Tallies sets m ts (tallyAt own reads old) (tallyAt (own + v) (reads + w) new)
+  tally-after few long own reads e f = record {
     longHeld = column-length 0 32 new (omega (arith, A .long, B .long));
     longWatched = column-length 32 32 new (omega (arith, A .long, B .long));
     held = λ p l. let h : p < 32 = omega arith in held-read new p h ∙ B .before p h ∙ ap (λ (z : ℕ). getD mid z 0) (sym (front p)) ∙ A .here p h ∙ ap (λ (z : ℕ). z + over (arcAt sets 32) ts p) (ap (λ (z : ℕ). getD old z 0) (front p) ∙ sym (held-read old p h));
     watched = λ p l. let h : p < 32 = omega arith in watched-read new p h ∙ B .here p h ∙ ap (λ (z : ℕ). z + over (arcAt sets 64) ts p) (A .beyond (32 + p) (omega arith) ∙ sym (watched-read old p h));
     own = ap (λ (z : ℕ). own + z) e;
+    reads = ap (λ (z : ℕ). reads + z) f;
   }
     where
       front : (p : ℕ) → 0 + p ≡ p

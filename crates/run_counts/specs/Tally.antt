@@ -10,12 +10,13 @@ use Rattle.spec.specs.Net.{Net, places, makes, inhibits}
 use Rattle.spec.specs.Record.{Condition}
 use Rattle.spec.specs.Building.{Event, Run}
 use Rattle.columns.specs.Columns.{column}
-use Rattle.arc_sets.specs.Sets.{madeAt, guardsAt, arcAt}
+use Rattle.arc_sets.specs.Sets.{madeAt, guardsAt, readAt, arcAt}
 use Rattle.steps.specs.StepArrays.{over}
+use Rattle.runs.specs.MarkCounts.{readsOf}
 
 -- the condition is one of place p
-unfoldable pub heldIn : ℕ → Condition → Bool
-heldIn p c = eqb (c .place) p
+unfoldable pub inPlace : ℕ → Condition → Bool
+inPlace p c = eqb (c .place) p
 
 -- place p inhibits the event
 unfoldable pub watchedFrom : Net → ℕ → Event → Bool
@@ -27,6 +28,10 @@ ownOf N t = sumOf (λ p. asCount (inhibits N p t) * makes N t p) (upTo (places N
 
 unfoldable pub ownAll : Net → List Event → ℕ
 ownAll N es = sumOf (λ v. ownOf N (v .transition)) es
+
+-- how many places the transitions of the events read: the marks R of the run (02, 2026-01)
+unfoldable pub readsAll : Net → List Event → ℕ
+readsAll N es = sumOf (λ v. readsOf N (v .transition)) es
 
 -- ---- by sets and arrays
 
@@ -47,24 +52,25 @@ heldColumn counts = column 0 countsOfKind counts
 abbrev pub watchedColumn : List ℕ → List ℕ
 watchedColumn counts = column watchedAt countsOfKind counts
 
--- how many places the outputs of transition t have
-unfoldable pub sizeOf : List ℕ → ℕ → ℕ
-sizeOf sets t = sumOf (arcAt sets madeAt t) (upTo 64)
+-- how many places transition t has in the sets that start at `at`
+unfoldable pub sizeOf : List ℕ → ℕ → ℕ → ℕ
+sizeOf sets at t = sumOf (arcAt sets at t) (upTo 64)
 
--- how many of them inhibit it
+-- how many places it makes a token in inhibit it
 unfoldable pub bothOf : List ℕ → ℕ → ℕ
 bothOf sets t = sumOf (λ p. arcAt sets guardsAt t p * arcAt sets madeAt t p) (upTo 64)
 
--- what is counted of a run: of each place its conditions and the events that it inhibits, and how often an event made a
--- condition in a place that inhibits it
+-- what is counted of a run: of each place its conditions and the events that it inhibits; how often an event made a
+-- condition in a place that inhibits it, and how many places the events read
 pub record Tally : Type 0 where
   pub held : List ℕ
   pub watched : List ℕ
   pub own : ℕ
+  pub reads : ℕ
 
 -- by columns of the counts
-abbrev pub tallyAt : ℕ → List ℕ → Tally
-tallyAt own counts = record { held = heldColumn counts; watched = watchedColumn counts; own = own }
+abbrev pub tallyAt : (own reads : ℕ) → List ℕ → Tally
+tallyAt own reads counts = record { held = heldColumn counts; watched = watchedColumn counts; own = own; reads = reads }
 
 -- the entries of two arrays at p, multiplied
 unfoldable pub timesAt : List ℕ → List ℕ → ℕ → ℕ
@@ -90,6 +96,7 @@ pub record Small (m : ℕ) (t : Tally) : Type 0 where
   pub held : AtMost 100000 m (t .held)
   pub watched : AtMost 100000 m (t .watched)
   pub own : t .own ≤ 1000000000000
+  pub reads : t .reads ≤ 1000000000000
 
 -- the tally after a step whose transitions are ts
 pub record Tallies (sets : List ℕ) (m : ℕ) (ts : List ℕ) (t t′ : Tally) : Type 0 where
@@ -98,12 +105,14 @@ pub record Tallies (sets : List ℕ) (m : ℕ) (ts : List ℕ) (t t′ : Tally) 
   pub held : (p : ℕ) → p < m → getD (t′ .held) p 0 ≡ getD (t .held) p 0 + over (arcAt sets madeAt) ts p
   pub watched : (p : ℕ) → p < m → getD (t′ .watched) p 0 ≡ getD (t .watched) p 0 + over (arcAt sets guardsAt) ts p
   pub own : t′ .own ≡ t .own + sumOf (bothOf sets) ts
+  pub reads : t′ .reads ≡ t .reads + sumOf (sizeOf sets readAt) ts
 
 -- ---- the tally of a run
 
 pub record Tallied (N : Net) (r : Run) (t : Tally) : Type 0 where
   pub longHeld : length (t .held) ≡ countsOfKind
   pub longWatched : length (t .watched) ≡ countsOfKind
-  pub held : (p : ℕ) → p < places N → getD (t .held) p 0 ≡ count (heldIn p) (r .conditions)
+  pub held : (p : ℕ) → p < places N → getD (t .held) p 0 ≡ count (inPlace p) (r .conditions)
   pub watched : (p : ℕ) → p < places N → getD (t .watched) p 0 ≡ count (watchedFrom N p) (r .events)
   pub own : t .own ≡ ownAll N (r .events)
+  pub reads : t .reads ≡ readsAll N (r .events)

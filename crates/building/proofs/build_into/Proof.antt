@@ -61,7 +61,7 @@ put-record-requires : tie.Need-put-record-requires
 put-record-requires c κs = let et = c .before .before .before .before .before .before in let pl = et .before .before .before .before in let bg = pl .before .before .before .before .before .before .before .before in let st = bg .before .before .before .before .before in let rd = st .before .before .before in let ri = rd .before .before in
     let i1 = ri .before .before .before in let s = i1 .before .before .before .before .before .before in let A = net-accepted _ (ri .read-into .ensures) (rd .places .given .1) in
     let G = net-plays A (st .arc-sets .ensures) (bg .begin .ensures) refl (pl .play-log .ensures) in let E = log-accepted (pl .play-log .result .answer) G (et .enum-told .given .1) in
-    lent-ready A (s .args .log .now) (pl .play-log .result .run) _ _ _ E _ (i1 .if1 .left) (omega (arith, pl .play-log .ensures .long, bg .begin .ensures .long, s .pre .0)) (s .pre .1)
+    lent-ready A (s .args .log .now) (st .arc-sets .ensures) (pl .play-log .result .run) _ _ _ E _ (i1 .if1 .left) (omega (arith, pl .play-log .ensures .long, bg .begin .ensures .long, s .pre .0)) (s .pre .1)
 
 written-requires : tie.Need-written-requires
 written-requires c κs = tt
@@ -87,8 +87,8 @@ returns-4 c = let pr = c .before .before .before .before .before in let et = pr 
     let G = net-plays A (st .arc-sets .ensures) (bg .begin .ensures) refl (pl .play-log .ensures) in let E = log-accepted (pl .play-log .result .answer) G (et .enum-told .given .1) in
     let R = pr .put-record .ensures in
     rw (c .written .ensures) (
-      lent-written A (s .args .log .now) (pl .play-log .result .run) _ _ _ E R (i1 .if1 .left),
-      λ l w q. lent-noted A (s .args .log .now) (pl .play-log .result .run) _ _ _ E R (omega (arith, pl .play-log .ensures .long, bg .begin .ensures .long, s .pre .0)) (s .pre .1) l,
+      lent-written A (s .args .log .now) (st .arc-sets .ensures) (pl .play-log .result .run) _ _ _ E R (i1 .if1 .left),
+      λ l w q. lent-noted A (s .args .log .now) (st .arc-sets .ensures) (pl .play-log .result .run) _ _ _ E R (omega (arith, pl .play-log .ensures .long, bg .begin .ensures .long, s .pre .0)) (s .pre .1) l,
     )
 
 pub build-into-spec : {M : Type 1} → statement M

@@ -1,13 +1,11 @@
 -- `record_writer::put_conditions` meets its contract. The loop's invariant: the lines of the conditions below c are
 -- written.
 use Prim.Native.Nat.{_-_, _≤_}
-use mathlib.Core.Path.{sym}
 use native.Mathlib.Omega.{arith}
 use Rattle.writing.specs.Written.{Wrote}
 use Rattle.writing.proofs.Laws.{wrote-length}
-use Rattle.line_writer.proofs.Lines.{wrote-as, room-as}
-use Rattle.record_writer.specs.Bytes.{conditionLines}
-use Rattle.record_writer.proofs.Joining.{wrote-none, wrote-room, wrote-next, wrote-all, condition-at}
+use Rattle.record_writer.specs.Bytes.{conditionBytes, conditionLines}
+use Rattle.record_writer.proofs.Joining.{wrote-none, wrote-room, wrote-next, wrote-all}
 use Rattle.record_writer.proofs.put_conditions.Statement.{statement}
 use Rattle.record_writer.proofs.put_conditions.Tie as tie
 
@@ -42,8 +40,7 @@ put-condition-requires : tie.Need-put-condition-requires Inv-loop μ-loop
 put-condition-requires c κs =
     let l = c .before .before .before .before .before in
     let s = l .before .before .before in
-    room-as (l .loop .next) (condition-at (s .args .rec .now) (l .loop .c) (omega arith))
-    (wrote-room _ (l .loop .c) (s .args .n) (l .loop .inv .1) (omega arith) (s .pre .2))
+    wrote-room (conditionBytes (s .args .rec .now)) (l .loop .c) (s .args .n) (l .loop .inv .1) (omega arith) (s .pre .2)
 
 add-c : tie.Need-add-c Inv-loop μ-loop
 add-c c = omega arith
@@ -56,9 +53,7 @@ loop-again c =
     let l = c .before .before .before .before .before .before .before .before in
     let s = l .before .before .before in (
       omega arith,
-      wrote-next _ (l .loop .c) (l .loop .inv .1)
-          (wrote-as (c .before .before .put-condition .ensures)
-          (sym (condition-at (s .args .rec .now) (l .loop .c) (omega arith)))),
+      wrote-next (conditionBytes (s .args .rec .now)) (l .loop .c) (l .loop .inv .1) (c .before .before .put-condition .ensures),
     )
 
 same-length : tie.Need-same-length Inv-loop μ-loop

@@ -1,12 +1,10 @@
 -- `record_writer::put_events` meets its contract. The loop's invariant: the lines of the events below e are written.
 use Prim.Native.Nat.{_-_, _≤_}
-use mathlib.Core.Path.{sym}
 use native.Mathlib.Omega.{arith}
 use Rattle.writing.specs.Written.{Wrote}
 use Rattle.writing.proofs.Laws.{wrote-length}
-use Rattle.line_writer.proofs.Lines.{wrote-as, room-as}
-use Rattle.record_writer.specs.Bytes.{eventLines}
-use Rattle.record_writer.proofs.Joining.{wrote-none, wrote-room, wrote-next, wrote-all, event-at}
+use Rattle.record_writer.specs.Bytes.{eventBytes, eventLines}
+use Rattle.record_writer.proofs.Joining.{wrote-none, wrote-room, wrote-next, wrote-all}
 use Rattle.record_writer.proofs.put_events.Statement.{statement}
 use Rattle.record_writer.proofs.put_events.Tie as tie
 
@@ -26,8 +24,7 @@ put-event-requires : tie.Need-put-event-requires Inv-loop μ-loop
 put-event-requires c κs =
     let l = c .before .before .before in
     let s = l .before .before .before in
-    room-as (l .loop .next) (event-at (s .args .rec .now) (l .loop .e) (omega arith))
-    (wrote-room _ (l .loop .e) (s .args .n) (l .loop .inv .1) (omega arith) (s .pre .2))
+    wrote-room (eventBytes (s .args .rec .now)) (l .loop .e) (s .args .n) (l .loop .inv .1) (omega arith) (s .pre .2)
 
 add-e : tie.Need-add-e Inv-loop μ-loop
 add-e c = omega arith
@@ -40,8 +37,7 @@ loop-again c =
     let l = c .before .before .before .before .before .before in
     let s = l .before .before .before in (
       omega arith,
-      wrote-next _ (l .loop .e) (l .loop .inv .1)
-          (wrote-as (c .before .before .put-event .ensures) (sym (event-at (s .args .rec .now) (l .loop .e) (omega arith)))),
+      wrote-next (eventBytes (s .args .rec .now)) (l .loop .e) (l .loop .inv .1) (c .before .before .put-event .ensures),
     )
 
 same-length : tie.Need-same-length Inv-loop μ-loop

@@ -60,7 +60,7 @@ loop-again c = let w = c .before .before in let l = w .before .before .before in
     (omega arith, omega (arith, F), product-next n (l .loop .p) _ (omega arith) (l .loop .inv .2) (w .wide-word .ensures .0) (c .wide-word2 .ensures .0))
 
 returns : tie.Need-returns Inv-loop μ-loop
-returns c = let l = c .before in let e : l .loop .p ≡ l .before .args .m = omega arith in rw (← e) (l .loop .inv .2)
+returns c = let l = c .before in let e : l .loop .p ≡ l .before .args .m = omega arith in (rw (← e) (l .loop .inv .2), omega arith)
 
 pub products-spec : {M : Type 1} → statement M
 products-spec = tie.close (tie.spec Inv-loop μ-loop loop-holds mul-wide-word element-copy-out-wide-word wide-word-requires add-wide-word mul-wide-word-2 element-copy-out-wide-word-2 wide-word-requires-2 mul-r add-r add-p loop-less loop-again returns)
