@@ -126,6 +126,7 @@ net_limits() {
 
 loop() { lines P,1 T I,0,0 O,0,0 =; } # a transition that can always occur again
 pour() { lines "P,$1" P,0 T I,0,0 O,0,1 =; } # one that can occur as often as there are tokens
+lamp() { lines P,99 P,0 P,1 P,1 P,0 T T I,0,0 O,0,1 H,1,0 R,2,0 I,3,1 O,1,4 R,2,1 =; } # its own output inhibits one, and both read
 fill() { lines P,64 P,0 P,33 P,0 P,0 T T I,0,0 O,0,1 H,3,0 H,4,0 I,2,1 O,1,3 O,1,4 =; } # one that fills what inhibits another
 
 run_limits() {
@@ -138,6 +139,23 @@ run_limits() {
   { fill; step 64 0; step 32 1; } > "$input"; gives "4,096 marks" Z,96,225,4560,1
   holds "4,096 marks are printed" test "$(grep -c '^B,' "$work/printed")" -eq 4096
   { fill; step 64 0; step 32 1; step 1 1; } > "$input"; gives "one mark too many" X,27,3
+  { lamp; step 64 0; } > "$input"; gives "4,096 marks with 64 readers" Z,64,165,2016,1
+  holds "64 R marks are printed" test "$(grep -c '^R,' "$work/printed")" -eq 64
+  { lamp; step 64 0; step 1 1; } > "$input"; gives "one R mark too many" X,27,2
+}
+
+# A token that is read and not taken.
+readers() {
+  has "a token read" examples/temperature/flush.out E,0 E,0 E,1 E,2 E,3 E,1 C,0,-,0 C,0,-,1 C,3,-,3 C,1,0,2 C,1,1,5 C,2,2,- C,4,3,4 C,3,4,- C,2,5,- R,2,2 R,7,5 Z,6,9,5,4
+  has "a token read by two" examples/temperature/together.out E,0 E,0 E,1 E,1 E,2 C,0,-,0 C,0,-,1 C,3,-,4 C,1,0,2 C,1,1,3 C,2,2,- C,2,3,- C,4,4,- R,2,2 R,2,3 Z,5,8,6,2
+  has "no token to read" examples/temperature/warm.out X,24,3
+  has "read and consumed" examples/temperature/flush.taken.out X,51,15
+  lines P,1 P,1 T I,0,0 O,0,0 R,1,0 = S,0 S,0 > "$input"; gives "a token read again and again" Z,2,4,0,2
+  lines P,1 P,1 T I,0,0 O,0,0 R,0,0 = S,0 > "$input"; gives "R behind I" X,51,6
+  lines P,1 P,1 T R,0,0 O,0,0 I,0,0 = S,0 > "$input"; gives "I behind R" X,51,6
+  lines P,1 P,1 T I,0,0 O,0,0 R,1,0 R,1,0 = S,0 > "$input"; gives "R again" X,14,7
+  lines P,1 P,1 T I,0,0 O,0,0 R,1,0 H,1,0 = S,0 > "$input"; gives "R and H at one place" X,25,1
+  lines P,1 P,0 T I,0,0 O,0,0 R,1,0 = S,0 > "$input"; gives "R at an empty place" X,24,1
 }
 
 input_limits() {
@@ -221,7 +239,7 @@ ssize_t write(int fd, const void *bytes, size_t n) { return part(SYS_write, fd, 
 EOF
   gcc -shared -fPIC -O1 "$work/parts.c" -o "$work/parts.so"
   local name
-  for name in drive/a drive/c cache/shifts; do
+  for name in drive/a drive/c cache/shifts temperature/flush; do
     whole "examples/${name%/*}/net" "examples/$name.log" > "$input"
     LD_PRELOAD=$work/parts.so timeout 60 "$program" < "$input" > "$work/printed"
     same "$name in parts" "examples/$name.out" "$work/printed"
@@ -273,6 +291,12 @@ script_answers() {
   runs 1 ./record < "$input"; prints X,25,2; says "$inhibited" "line 2 of the log (line 18 of standard input): S,2"
   runs 1 ./record examples/drive/net - < examples/drive/cut.log
   prints X,21,3; says "$malformed" "line 3 of the log (standard input): S, (cut off: no line end)"
+  runs 1 ./record examples/temperature/net examples/temperature/warm.log; prints X,24,3
+  says "refused, 24: too few tokens: a place has fewer than the step's events take from it, or none where one of them reads it" \
+    "line 3 of the log (examples/temperature/warm.log): S,1"
+  runs 1 ./record examples/temperature/taken.net examples/temperature/flush.log; prints X,51,15
+  says "refused, 51: read and consumed: one place is both read and consumed by one transition" \
+    "line 15 of the net (examples/temperature/taken.net): I,3,1"
   runs 1 ./record <<< ''; prints X,10,0
   says 'refused, 10: the input is over 65,536 bytes or has no line `=`' 'it has no line `=`'
   repeat 20000 P,0 > "$work/long"
@@ -372,22 +396,24 @@ script_builds() {
   PATH=$work/tools runs 2 ./record < "$input"; silent; mentions "not on the PATH"
 }
 
-# Every number of document 01 has its line in the table that the script reads.
+# Every number of documents 01 and 02 has its line in the table that the script reads.
 table() {
   local number
-  for number in 10 {11..15} {20..27} {30..39} {40..45} 46 50; do
+  for number in 10 {11..15} {20..27} {30..39} {40..45} 46 50 51; do
     holds "docs/REFUSALS.txt has $number once" test "$(grep -cE "^$number (none|net|log|record|arrangement|transition|place|event|asked) +[^ ]" docs/REFUSALS.txt)" -eq 1
   done
-  holds "docs/REFUSALS.txt has no other" test "$(grep -cE '^[^#]' docs/REFUSALS.txt)" -eq 32
+  holds "docs/REFUSALS.txt has no other" test "$(grep -cE '^[^#]' docs/REFUSALS.txt)" -eq 33
 }
 
 each_example
 cases
 each_cut examples/drive/net examples/drive/a.log
 each_cut examples/cache/net examples/cache/shifts.log
+each_cut examples/temperature/net examples/temperature/flush.log
 each_byte
 net_limits
 run_limits
+readers
 input_limits
 partings
 unreadable

@@ -1,5 +1,5 @@
 /* The C interface from C: the header compiles by itself, its sizes suffice, and the drive net of document 01 comes out as
- * printed there. Exits 0 if all is so; else it says what is not. */
+ * printed there, and a read arc as written out here. Exits 0 if all is so; else it says what is not. */
 #include "pti.h"
 #include <stdio.h>
 #include <string.h>
@@ -62,11 +62,25 @@ static void lines_and_program(void)
     holds("what a prints", memcmp(out, printed, sizeof(printed) - 1) == 0);
 }
 
+/* A read arc: the flush reads a token that the warm up takes in the same step. */
+static void readers(void)
+{
+    static const char warm[] = "P,1\nP,0\nP,1\nP,0\nT\nT\nI,0,0\nO,0,1\nR,2,0\nI,2,1\nO,1,3\n";
+    static const char read[] = "E,0\nE,1\nC,0,-,0\nC,2,-,1\nC,1,0,-\nC,3,1,-\nR,1,0\n";
+    expect("read and taken", pti_build(TEXT(warm), TEXT("S,0,1\n"), out, PTI_RECORD_BYTES), 0, 0, sizeof(read) - 1, 0, 0);
+    holds("an R mark", memcmp(out, read, sizeof(read) - 1) == 0);
+    expect("no token to read", pti_build(TEXT(warm), TEXT("S,1\nS,0\n"), out, PTI_RECORD_BYTES), 24, 2, 0, 0, 0);
+    expect("a reader checked", pti_check(TEXT(warm), TEXT(read), out, PTI_TABLE_BYTES), 0, 0, 2, 4, 1);
+    holds("the reader not later than the taker", out[1] == 1 && out[128] == 0);
+    expect("51", pti_read_net(TEXT("P,1\nT\nO,0,0\nR,0,0\nI,0,0\n")), 51, 5, 0, 0, 0);
+}
+
 int main(void)
 {
     build_and_check();
     replay_and_arrange();
     lines_and_program();
+    readers();
     if (!wrong)
         puts("c: the drive net comes out as printed");
     return wrong;

@@ -3,22 +3,28 @@
 # for each at which case the first difference shows, among the vectors and among the generated cases (of the fixed cases only
 # where neither sees it), and whether the brute force sees it where it stands in for the library. Not a part of the gate.
 #
-#   tests/compare/mutants.sh [NAME...]     all mutants, or those named; JOBS at a time (2)
+#   tests/compare/mutants.sh [--alone] [NAME...]     all mutants, or those named; JOBS at a time (2)
 #
-# With PTI_LIB_DIR set, the libpti.a of that folder is taken; else rt proves and builds it first.
+# With PTI_LIB_DIR set, the libpti.a of that folder is taken; else rt proves and builds it first. With --alone the simulator as
+# it stands takes the library's place, so that what the cases see can be tried where there is no library.
 set -euo pipefail
 here=$(cd "$(dirname "$0")" && pwd)
 top=$(cd "$here/../.." && pwd)
 work=$(mktemp -d)
 trap 'rm -rf "$work"' EXIT
+alone=no
+if [ "${1:-}" = --alone ]; then alone=yes; shift; fi
 wanted=("$@")
 
-if [ -z "${PTI_LIB_DIR:-}" ]; then
+features=(--features lib) subject=
+if [ "$alone" = yes ]; then
+  features=() subject="--subject $work/unchanged/libpti.so"
+elif [ -z "${PTI_LIB_DIR:-}" ]; then
   (cd "$top" && rt staticlib pti)
   PTI_LIB_DIR=$top/target/staticlib
 fi
 export PTI_LIB_DIR CARGO_TARGET_DIR=$top/target/compare
-cargo build --manifest-path "$here/Cargo.toml" --release --features lib --offline --quiet
+cargo build --manifest-path "$here/Cargo.toml" --release ${features[@]+"${features[@]}"} --offline --quiet
 compare=$CARGO_TARGET_DIR/release/compare
 
 library() { # FOLDER: the simulator of its src, behind the C interface
@@ -48,9 +54,9 @@ edit() { # FOLDER FILE OLD NEW
 judge() { # NAME
   local dir=$work/$1 so=$work/$1/libpti.so vectors fixed='not tried' generated brute
   library "$dir" || { echo "$1: DOES NOT COMPILE"; return 0; }
-  vectors=$(first "$dir" compare --first --only vectors --reference "$so")
-  generated=$(first "$dir" compare --first --only generated --cases 20000 --reference "$so")
-  if [ "$vectors$generated" = -- ]; then fixed=$(first "$dir" compare --first --only fixed --reference "$so"); fi
+  vectors=$(first "$dir" compare --first --only vectors --reference "$so" $subject)
+  generated=$(first "$dir" compare --first --only generated --cases 20000 --reference "$so" $subject)
+  if [ "$vectors$generated" = -- ]; then fixed=$(first "$dir" compare --first --only fixed --reference "$so" $subject); fi
   brute=$(first "$dir" brute --nets 4 --runs 12 --subject "$so")
   rm -rf "$dir"
   if [ "$vectors$generated$fixed" = --- ]; then
@@ -60,13 +66,13 @@ judge() { # NAME
   fi
 }
 export -f library first judge
-export compare work
+export compare work subject
 
 control() { # the simulator unchanged is not told apart from the library
   mkdir "$work/unchanged"
   cp -r "$here/src" "$work/unchanged/src"
   library "$work/unchanged"
-  [ "$(first "$work/unchanged" compare --first --cases 5000 --reference "$work/unchanged/libpti.so")" = - ] || { echo "mutants: the unchanged simulator differs"; exit 1; }
+  [ "$(first "$work/unchanged" compare --first --cases 5000 --reference "$work/unchanged/libpti.so" $subject)" = - ] || { echo "mutants: the unchanged simulator differs"; exit 1; }
 }
 
 is_wanted() { [ ${#wanted[@]} -eq 0 ] || [[ " ${wanted[*]} " == *" $1 "* ]]; }

@@ -48,16 +48,17 @@ try() { # NAME COMMAND...
 
 each_log() { # PROGRAM
   local log
-  for log in drive/{a,b,c,d,e,cut} crossed/{together,after}; do
+  for log in drive/{a,b,c,d,e,cut} crossed/{together,after} temperature/{flush,together,warm}; do
     try "${log/\//.}" "$1" "examples/${log%/*}/net" "examples/$log.log"
   done
   try net "$1" "$work/net" examples/drive/a.log
+  try temperature.taken "$1" examples/temperature/taken.net examples/temperature/flush.log
 }
 
 each_arrangement() { # PROGRAM
   local order
-  for order in park_first write_first; do
-    try "drive.b.$order" "$1" examples/drive/net examples/drive/b.log "examples/drive/b.$order.arr"
+  for order in drive/b.{park,write}_first temperature/flush.reader_{first,late}; do
+    try "${order/\//.}" "$1" "examples/${order%/*}/net" "examples/${order%.*}.log" "examples/$order.arr"
   done
 }
 

@@ -5,9 +5,9 @@
 //! with the distance between that round's quarters as its spread.
 
 use crate::case::{whole, Operation, Subject};
-use crate::corpus::watched_run;
+use crate::corpus::{reading_run, watched_run};
 use crate::gen::build;
-use crate::sim::{Simulator, ARRANGEMENT_ROOM, PROGRAM_ROOM, RECORD_ROOM, ROWS_ROOM, TABLE_ROOM};
+use crate::sim::{SIMULATOR, ARRANGEMENT_ROOM, PROGRAM_ROOM, RECORD_ROOM, ROWS_ROOM, TABLE_ROOM};
 use crate::vectors::{Text, DRIVE};
 use std::hint::black_box;
 use std::time::Duration;
@@ -27,7 +27,7 @@ impl Load {
     fn new(name: &str, net: Vec<u8>, log: Vec<u8>) -> Load {
         let record = build(&net, &log).expect("the log is a run of the net");
         let mut out = vec![0; ARRANGEMENT_ROOM];
-        let written = Simulator.arrange(&net, &record, &mut out).a as usize;
+        let written = SIMULATOR.arrange(&net, &record, &mut out).a as usize;
         out.truncate(written);
         let input = [&net[..], b"=\n", &log].concat();
         let last_line = record.iter().filter(|byte| **byte == 10).count() as u64;
@@ -38,6 +38,12 @@ impl Load {
         let (net, log) = watched_run(events);
         Load::new(&format!("{events} events"), net, log)
     }
+}
+
+/// The most R marks that there can be.
+fn reading() -> Load {
+    let (net, log) = reading_run(128);
+    Load::new("128 readers", net, log)
 }
 
 /// One call after another of an operation on a load.
@@ -153,10 +159,10 @@ fn measure(subjects: &[&dyn Subject], rows: &mut [Row]) {
     }
 }
 
-/// Every operation at three sizes, then the growth with the events. Without the library only the simulator is timed.
+/// Every operation at three sizes and with readers, then the growth with the events. Without the library only the simulator is timed.
 pub fn bench(library: Option<&dyn Subject>) {
-    let subjects: Vec<&dyn Subject> = [&Simulator as &dyn Subject].into_iter().chain(library).collect();
-    let (sizes, growing) = ([0, 32, 128].map(load_of), [8, 16, 32, 64, 128].map(load_of));
+    let subjects: Vec<&dyn Subject> = [&SIMULATOR as &dyn Subject].into_iter().chain(library).collect();
+    let (sizes, growing) = ([load_of(0), load_of(32), load_of(128), reading()], [8, 16, 32, 64, 128].map(load_of));
     let operations = [Operation::Build, Operation::Check, Operation::Replay, Operation::Arrange, Operation::Program];
     let mut table: Vec<Row> = sizes.iter().flat_map(|load| rows(subjects.len(), &Operation::ALL, std::slice::from_ref(load))).collect();
     let mut growth = rows(1, &operations, &growing);

@@ -63,6 +63,8 @@ impl Clause {
 pub struct Counts {
     runs: usize,
     records: usize,
+    /// Records accepted that have R marks.
+    reading: usize,
     cyclic: usize,
     arrangements: usize,
     keeping: usize,
@@ -85,12 +87,13 @@ pub fn brute(subject: &dyn Subject, plan: &Plan) -> bool {
         println!("{:>9} times: {words}", counts.judged.get(&clause).unwrap_or(&0));
     }
     println!(
-        "brute ({}): every run of {} nets and one of {}: {} runs, {} records accepted and {} cyclic, {} arrangements of which {} keep the order, {} failed",
+        "brute ({}): every run of {} nets and one of {}: {} runs, {} records accepted ({} with readers) and {} cyclic, {} arrangements of which {} keep the order, {} failed",
         subject.name(),
         plan.nets,
         plan.runs,
         counts.runs,
         counts.records,
+        counts.reading,
         counts.cyclic,
         counts.arrangements,
         counts.keeping,
@@ -118,7 +121,7 @@ fn judge(subject: &dyn Subject, plan: &Plan, counts: &mut Counts) -> Vec<(String
 
 type Judge = fn(&dyn Subject, &mut Rng, &mut Counts) -> Result<(), Failure>;
 
-const SIZE: Size = Size { places: 6, transitions: 5, tokens: 2, events: 5, step: 3 };
+const SIZE: Size = Size { places: 6, transitions: 5, tokens: 2, events: 5, step: 3, reads: true };
 
 /// Every run of up to five events of a net, each with the record built from it, and the steps that are not enabled.
 fn every_run(subject: &dyn Subject, rng: &mut Rng, counts: &mut Counts) -> Result<(), Failure> {
@@ -131,6 +134,7 @@ fn every_run(subject: &dyn Subject, rng: &mut Rng, counts: &mut Counts) -> Resul
         if !seen.contains_key(&built) {
             let record = RecordPlan::read(&built);
             trial.record(&built, &record, true)?;
+            other_reads(&mut trial, &record)?;
             seen.insert(built.clone(), record);
         }
         trial.own_sequence(&built, &seen[&built], steps)?;
@@ -157,6 +161,22 @@ fn one_run(subject: &dyn Subject, rng: &mut Rng, counts: &mut Counts) -> Result<
     trial.steps_after(&steps, &more)
 }
 
+/// The record with one R mark on each other condition of its place, up to a few: a process of the same events that may have
+/// another order, or no process.
+fn other_reads(trial: &mut Trial, record: &RecordPlan) -> Result<(), Failure> {
+    let reads = (0..record.marks.len()).filter(|at| record.marks[*at].letter == 'R');
+    let place = |condition: usize| record.conditions[condition].place;
+    let all = reads.flat_map(|at| (0..record.conditions.len()).map(move |condition| (at, condition)));
+    let mut others: Vec<(usize, usize)> = all.filter(|(at, c)| *c != record.marks[*at].condition && place(*c) == place(record.marks[*at].condition)).collect();
+    trial.rng.shuffle(&mut others);
+    for (at, condition) in others.into_iter().take(4) {
+        let mut changed = record.clone();
+        changed.marks[at].condition = condition;
+        trial.record(&changed.text(), &changed, false)?;
+    }
+    Ok(())
+}
+
 fn any_step(rng: &mut Rng, net: &NetPlan) -> Vec<usize> {
     (0..rng.between(1, 3)).map(|_| rng.below(net.transitions())).collect()
 }
@@ -174,10 +194,10 @@ fn longest_of_four(rng: &mut Rng) -> (NetPlan, Vec<Vec<usize>>) {
 #[cfg(test)]
 mod tests {
     use super::*;
-    use crate::sim::Simulator;
+    use crate::sim::SIMULATOR;
 
     #[test]
     fn simulator_meets_demand_3() {
-        assert!(brute(&Simulator, &Plan { nets: 10, runs: 60, seed: 3 }));
+        assert!(brute(&SIMULATOR, &Plan { nets: 10, runs: 60, seed: 3 }));
     }
 }

@@ -71,9 +71,9 @@ impl Operation {
         }
     }
 
-    /// Every refusal that document 01 lists for it; of the program also 20, by which the C interface refuses a short buffer.
+    /// Every refusal that documents 01 and 02 list for it.
     pub fn refusals(self) -> Vec<u64> {
-        let net = 11..=15;
+        let net = (11..=15).chain([51]);
         let record = 31..=39;
         match self {
             Operation::ReadNet => net.collect(),
@@ -100,6 +100,12 @@ pub struct Case {
 }
 
 impl Case {
+    /// Does no text make use of a request of document 02? Then the answer is what it was before.
+    pub fn of_document_01(&self) -> bool {
+        let lines = self.texts.iter().flat_map(|text| text.split(|byte| *byte == 10));
+        !lines.into_iter().any(|line| line.starts_with(b"R"))
+    }
+
     /// With a buffer of the stated size.
     pub fn new(operation: Operation, texts: &[&[u8]]) -> Case {
         assert_eq!(texts.len(), operation.text_names().len());

@@ -11,19 +11,31 @@ pub enum Source {
     Vectors,
     Fixed,
     Generated,
+    /// Generated of document 01 alone, by the generators as they were before its requests.
+    Base,
 }
 
 impl Source {
-    pub const ALL: [Source; 3] = [Source::Vectors, Source::Fixed, Source::Generated];
+    pub const ALL: [Source; 4] = [Source::Vectors, Source::Fixed, Source::Generated, Source::Base];
+    /// For a subject that has document 01 alone.
+    pub const OF_DOCUMENT_01: [Source; 3] = [Source::Vectors, Source::Fixed, Source::Base];
 
     pub fn name(self) -> &'static str {
-        ["vectors", "fixed", "generated"][self as usize]
+        ["vectors", "fixed", "generated", "base"][self as usize]
     }
+}
+
+/// What a subject is held to: with the requests of document 02, and, on cases that make no use of them, without.
+#[derive(Clone, Copy)]
+pub struct Reference<'a> {
+    pub now: &'a dyn Subject,
+    pub base: &'a dyn Subject,
 }
 
 pub struct Plan {
     pub sources: Vec<Source>,
-    /// Generated cases, besides the others.
+    /// Generated cases, besides the others. Of document 01 alone there are a quarter as many, or as many for a subject that
+    /// has nothing else.
     pub cases: usize,
     pub seed: u64,
     /// After so many differences nothing more is run.
@@ -31,6 +43,9 @@ pub struct Plan {
     /// Say each round before it is run: for a library that never comes back.
     pub trace: bool,
 }
+
+/// The greatest number of a refusal there; those of document 02 come after.
+const LAST_OF_DOCUMENT_01: u64 = 50;
 
 /// How often an answer came, and some of its spots.
 #[derive(Default)]
@@ -41,7 +56,7 @@ struct Met {
 
 struct Comparison<'a> {
     subject: &'a dyn Subject,
-    reference: &'a dyn Subject,
+    reference: Reference<'a>,
     plan: &'a Plan,
     cases: usize,
     differences: usize,
@@ -50,7 +65,7 @@ struct Comparison<'a> {
 }
 
 /// Did all cases agree, and, where there were cases of every source, was every refusal met?
-pub fn compare(subject: &dyn Subject, reference: &dyn Subject, plan: &Plan) -> bool {
+pub fn compare(subject: &dyn Subject, reference: Reference, plan: &Plan) -> bool {
     let mut comparison = Comparison { subject, reference, plan, cases: 0, differences: 0, met: BTreeMap::new() };
     for source in &plan.sources {
         let before = comparison.cases;
@@ -58,6 +73,7 @@ pub fn compare(subject: &dyn Subject, reference: &dyn Subject, plan: &Plan) -> b
             Source::Vectors => comparison.vectors(),
             Source::Fixed => comparison.fixed(),
             Source::Generated => comparison.rounds(),
+            Source::Base => comparison.base_rounds(),
         }
         println!("{}: {} cases", source.name(), comparison.cases - before);
     }
@@ -65,6 +81,11 @@ pub fn compare(subject: &dyn Subject, reference: &dyn Subject, plan: &Plan) -> b
 }
 
 impl Comparison<'_> {
+    /// Has the subject document 01 alone? Then cases that make use of a request are left out.
+    fn of_document_01(&self) -> bool {
+        self.plan.sources == Source::OF_DOCUMENT_01
+    }
+
     fn done(&self) -> bool {
         self.differences >= self.plan.enough
     }
@@ -75,17 +96,22 @@ impl Comparison<'_> {
             if self.done() {
                 return;
             }
+            if self.of_document_01() && !vector.case.of_document_01() {
+                continue;
+            }
             let found = run(self.subject, &vector.case);
             if let Some(what) = difference(&found, &vector.outcome()) {
                 self.tell(&format!("vector '{}', {} and the vector", vector.name, self.subject.name()), &what, &vector.case);
             }
-            self.one(&format!("vector '{}'", vector.name), &vector.case);
+            self.one(&format!("vector '{}'", vector.name), &vector.case, self.reference.now);
         }
     }
 
     fn fixed(&mut self) {
         for (number, case) in corpus::all().iter().enumerate() {
-            self.one(&format!("fixed case {number}"), case);
+            if !self.of_document_01() || case.of_document_01() {
+                self.one(&format!("fixed case {number}"), case, self.reference.now);
+            }
         }
     }
 
@@ -93,27 +119,45 @@ impl Comparison<'_> {
         let before = self.cases;
         let mut round = 0;
         while self.cases < before + self.plan.cases && !self.done() {
-            if self.plan.trace {
-                eprintln!("round {round}");
-            }
-            let mut rng = Rng::for_round(self.plan.seed, round);
+            let mut rng = self.next_round(round);
             for case in gen::round(&mut rng) {
-                self.one(&format!("seed {}, round {round}", self.plan.seed), &case);
+                self.one(&format!("seed {}, round {round}", self.plan.seed), &case, self.reference.now);
             }
             round += 1;
         }
     }
 
-    fn one(&mut self, source: &str, case: &Case) {
+    /// What damage has made a line of a request is left out.
+    fn base_rounds(&mut self) {
+        let before = self.cases;
+        let mut round = 0;
+        let most = if self.of_document_01() { self.plan.cases } else { self.plan.cases / 4 };
+        while self.cases < before + most && !self.done() {
+            let mut rng = self.next_round(round);
+            for case in gen::base_round(&mut rng).iter().filter(|case| case.of_document_01()) {
+                self.one(&format!("seed {}, base round {round}", self.plan.seed), case, self.reference.base);
+            }
+            round += 1;
+        }
+    }
+
+    fn next_round(&self, round: u64) -> Rng {
+        if self.plan.trace {
+            eprintln!("round {round}");
+        }
+        Rng::for_round(self.plan.seed, round)
+    }
+
+    fn one(&mut self, source: &str, case: &Case, reference: &dyn Subject) {
         if self.done() {
             return;
         }
         let found = run(self.subject, case);
         self.count(case.operation, &found);
-        if difference(&found, &run(self.reference, case)).is_some() {
-            let small = shrink(self.subject, self.reference, case);
-            let what = differs(self.subject, self.reference, &small).unwrap_or_default();
-            self.tell(&format!("{source}, {} and {}", self.subject.name(), self.reference.name()), &what, &small);
+        if difference(&found, &run(reference, case)).is_some() {
+            let small = shrink(self.subject, reference, case);
+            let what = differs(self.subject, reference, &small).unwrap_or_default();
+            self.tell(&format!("{source}, {} and {}", self.subject.name(), reference.name()), &what, &small);
         }
     }
 
@@ -138,10 +182,10 @@ impl Comparison<'_> {
             let count = |number: u64| self.met.get(&(operation, number)).map_or(0, |met| met.count);
             let words = operation.refusals().iter().map(|number| format!(" {number}:{}", count(*number))).collect::<String>();
             println!("{:12} accepted {}; refused{words}", operation.name(), count(0));
-            let wanted = operation.refusals().into_iter().chain([0]);
+            let wanted = operation.refusals().into_iter().chain([0]).filter(|number| !self.of_document_01() || *number <= LAST_OF_DOCUMENT_01);
             unmet.extend(wanted.filter(|number| !self.is_met(operation, *number)).map(|number| format!("{} {number}", operation.name())));
         }
-        if self.plan.sources != Source::ALL {
+        if self.plan.sources != Source::ALL && !self.of_document_01() {
             unmet.clear();
         }
         if !unmet.is_empty() {
@@ -209,14 +253,15 @@ impl Shrinking<'_> {
 mod tests {
     use super::*;
     use crate::case::lent;
-    use crate::sim::{Simulator, EVENTS};
+    use crate::sim::{BASE, EVENTS, SIMULATOR};
 
     /// The simulator against itself: no difference, and the generator alone meets every refusal of every operation.
     #[test]
     fn generator_meets_every_refusal() {
         let plan = Plan { sources: vec![Source::Generated], cases: 60_000, seed: 7, enough: 1, trace: false };
-        let mut comparison = Comparison { subject: &Simulator, reference: &Simulator, plan: &plan, cases: 0, differences: 0, met: BTreeMap::new() };
+        let mut comparison = Comparison { subject: &SIMULATOR, reference: Reference { now: &SIMULATOR, base: &BASE }, plan: &plan, cases: 0, differences: 0, met: BTreeMap::new() };
         comparison.rounds();
+        comparison.base_rounds();
         assert_eq!(comparison.differences, 0);
         for operation in Operation::ALL {
             for number in operation.refusals().into_iter().chain([0]) {
@@ -232,7 +277,7 @@ mod tests {
         for round in 0..4_000 {
             let cases = gen::round(&mut Rng::for_round(8, round));
             let case = cases.iter().find(|case| case.operation == Operation::Check).expect("a case of each operation");
-            let mut found = run(&Simulator, case);
+            let mut found = run(&SIMULATOR, case);
             let events = found.answer.a as usize;
             if found.answer.accepted() && events > 1 {
                 let table = lent(&mut found.bytes);

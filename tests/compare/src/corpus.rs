@@ -2,7 +2,7 @@
 
 use crate::case::{lent, run, Case, Operation};
 use crate::gen::{build, BYTES, NUMBERS};
-use crate::sim::Simulator;
+use crate::sim::SIMULATOR;
 use crate::vectors::{line_of, times, Text, CASE_A, CASE_B, DRIVE, MUTUAL, MUTUAL_RECORD};
 
 pub fn all() -> Vec<Case> {
@@ -21,6 +21,8 @@ pub fn all() -> Vec<Case> {
     log_limits(&mut cases);
     record_limits(&mut cases);
     ring(&mut cases);
+    reading_arcs(&mut cases);
+    reading_limits(&mut cases);
     lines_asked(&mut cases);
     long_texts(&mut cases);
     cases
@@ -29,6 +31,11 @@ pub fn all() -> Vec<Case> {
 fn text(words: &str) -> Vec<u8> {
     Text::from(words).0
 }
+
+/// Transition 0 makes what transition 1 reads and transition 2 takes; transition 1 waits for place 5 to be empty, which
+/// transition 2 fills. The record of `S,0 S,1,2`.
+const READING: &str = "P,1 P,0 P,0 P,1 P,0 P,0 T T T I,0,0 O,0,1 I,3,1 O,1,4 R,1,1 H,5,1 I,1,2 O,2,2 O,2,5";
+const READING_RECORD: &str = "E,0 E,1 E,2 C,0,-,0 C,3,-,1 C,1,0,2 C,4,1,- C,2,2,- C,5,2,- R,2,1 B,5,1";
 
 /// A case of each operation in which nothing is wrong.
 fn sound() -> Vec<Case> {
@@ -41,6 +48,11 @@ fn sound() -> Vec<Case> {
         Case::new(Operation::Replay, &[&drive, &text(CASE_B), &text("G,1 G,0")]),
         Case::new(Operation::Arrange, &[&drive, &text(CASE_A)]),
         Case::new(Operation::Program, &[&input]),
+        Case::new(Operation::ReadNet, &[&text(READING)]),
+        Case::new(Operation::Build, &[&text(READING), &text("S,0 S,1,2")]),
+        Case::new(Operation::Check, &[&text(READING), &text(READING_RECORD)]),
+        Case::new(Operation::Replay, &[&text(READING), &text(READING_RECORD), &text("G,0 G,1 G,2")]),
+        Case::new(Operation::Program, &[&text(&format!("{READING} = S,0 S,1,2"))]),
         Case::new(Operation::RefusedLine, &[&drive, &text(CASE_A)]).asking(1, 4),
     ]
 }
@@ -106,6 +118,8 @@ fn every_byte(cases: &mut Vec<Case>) {
         (Case::new(Operation::Check, &[&again, &text(both)]), 1),
         (Case::new(Operation::Replay, &[&again, &text(both), &text("G,0 G,1 G,2 G,3,4")]), 2),
         (Case::new(Operation::Program, &[&text("P,1 T I,0,0 O,0,0 = S,0 S,0")]), 0),
+        (Case::new(Operation::ReadNet, &[&text(READING)]), 0),
+        (Case::new(Operation::Check, &[&text(READING), &text(READING_RECORD)]), 1),
     ];
     for (case, which) in whole {
         for at in 0..case.texts[which].len() {
@@ -221,7 +235,7 @@ fn around(net: &[u8], record: &[u8], cases: &mut Vec<Case>) {
         cases.push(Case::new(Operation::Replay, &[net, &record, b"G,0\n"]));
     }
     let case = Case::new(Operation::Arrange, &[net, record]);
-    let mut outcome = run(&Simulator, &case);
+    let mut outcome = run(&SIMULATOR, &case);
     let shortest = lent(&mut outcome.bytes)[..outcome.answer.a as usize].to_vec();
     let events = record.iter().filter(|byte| **byte == b'E').count();
     let single: String = (0..events).map(|event| format!("G,{event}\n")).collect();
@@ -245,6 +259,105 @@ fn ring(cases: &mut Vec<Case>) {
             around(&net, &record, cases);
         }
     }
+}
+
+/// Every two arcs between a place and a transition, in either order, with what the transition needs besides; and each R mark that
+/// the record of one event could have, alone and by twos.
+fn reading_arcs(cases: &mut Vec<Case>) {
+    let arcs = ["I,0,0", "O,0,0", "H,0,0", "R,0,0", "R,1,0", "I,1,0", "R,0,1", "I,0,1"];
+    for one in arcs {
+        for other in arcs {
+            cases.push(Case::new(Operation::ReadNet, &[&text(&format!("P,1 P,1 P,0 T T I,2,0 O,0,2 I,2,1 O,1,2 {one} {other}"))]));
+            cases.push(Case::new(Operation::ReadNet, &[&text(&format!("P,1 P,1 P,0 T {one} {other}"))]));
+        }
+    }
+    let net = text("P,1 P,2 P,1 P,0 T T I,0,0 O,0,3 O,0,1 R,1,0 R,2,0 I,1,1 O,1,3");
+    let record = "E,0 E,1 C,0,-,0 C,1,-,1 C,1,-,- C,2,-,- C,1,0,- C,3,0,- C,3,1,-";
+    let letters = ['R', 'B', 'A'].into_iter().flat_map(|letter| (0..7).map(move |condition| format!("{letter},{condition},0")));
+    let marks: Vec<String> = letters.chain(["R,3,1".to_string(), "R,1,1".to_string()]).collect();
+    for one in &marks {
+        cases.push(Case::new(Operation::Check, &[&net, &text(&format!("{record} {one}"))]));
+        for other in &marks {
+            cases.push(Case::new(Operation::Check, &[&net, &text(&format!("{record} {one} {other}"))]));
+            cases.push(Case::new(Operation::Arrange, &[&net, &text(&format!("{record} R,3,0 {one} {other}"))]));
+        }
+    }
+}
+
+/// An R line of the transition for each of so many places but its own.
+fn reads_of_others(places: usize, transition: usize) -> String {
+    let others = (0..places).filter(|place| *place != transition);
+    others.map(|place| format!("R,{place},{transition}")).collect::<Vec<String>>().join(" ")
+}
+
+/// 32 places and 32 transitions, each of which moves the token of its own place and reads all others: 992 read arcs, and 31 R
+/// marks for each event. All at once read what the others take.
+fn all_read() -> Vec<u8> {
+    let arcs: Vec<String> = (0..32).map(|t| format!("I,{t},{t} O,{t},{t} {}", reads_of_others(32, t))).collect();
+    text(&format!("{} {} {}", times(32, "P,1"), times(32, "T"), arcs.join(" ")))
+}
+
+/// Like `all_read` with 31 places of that kind, each with so many tokens, and an empty one that inhibits the 31 and that the
+/// last transition fills: with the fillers at the end, runs pass the limit of marks.
+fn all_read_and_watch(tokens: usize) -> Vec<u8> {
+    let arcs: Vec<String> = (0..31).map(|t| format!("I,{t},{t} O,{t},{t} H,31,{t} {}", reads_of_others(31, t))).collect();
+    text(&format!("{} P,0 {} {} I,0,31 O,31,31", times(31, &format!("P,{tokens}")), times(32, "T"), arcs.join(" ")))
+}
+
+/// So many events of the transitions below a number, in turn, on lines of so many.
+fn in_turn(events: usize, transitions: usize, line: usize) -> String {
+    let numbers: Vec<String> = (0..events).map(|event| (event % transitions).to_string()).collect();
+    numbers.chunks(line).map(|events| format!("S,{}", events.join(","))).collect::<Vec<String>>().join(" ")
+}
+
+/// A net and a log with so many events (a multiple of 32), each of which reads 31 tokens.
+pub fn reading_run(events: usize) -> (Vec<u8>, Vec<u8>) {
+    (all_read(), text(&in_turn(events, 32, 32)))
+}
+
+fn reading_limits(cases: &mut Vec<Case>) {
+    let mut logs = Vec::new();
+    for events in [31, 32, 33, 127, 128, 129] {
+        logs.extend([1, 5, 32].map(|line| (all_read(), text(&in_turn(events, 32, line)))));
+    }
+    for readers in [123, 124, 125] {
+        for fillers in 1..5 {
+            let log = format!("{} {}", in_turn(readers, 31, 31), line_of('S', fillers, 31));
+            logs.push((all_read_and_watch(8), text(&log)));
+        }
+    }
+    for events in [62, 63, 64, 65, 66] {
+        let net = |reads: &str| text(&format!("P,150 P,0 P,1 P,2 T T I,0,0 O,0,1 H,1,0 R,2,0 {reads} I,2,1 O,1,2"));
+        for reads in ["R,3,1", "R,3,0", "R,3,0 R,3,1"] {
+            logs.push((net(reads), text(&line_of('S', events, 0))));
+            logs.push((net(reads), text(&format!("{},1 S,1", line_of('S', events, 0)))));
+        }
+    }
+    for (net, log) in logs {
+        cases.push(Case::new(Operation::Build, &[&net, &log]));
+        cases.push(Case::new(Operation::Program, &[&[&net[..], b"=\n", &log].concat()]));
+        if let Some(record) = build(&net, &log) {
+            around(&net, &record, cases);
+            around_reads(&net, &record, cases);
+        }
+    }
+}
+
+/// The record with another R mark behind it, and with its last R mark on every tenth condition or as another kind.
+fn around_reads(net: &[u8], record: &[u8], cases: &mut Vec<Case>) {
+    let lines = String::from_utf8_lossy(record).into_owned();
+    let mut check = |record: String| cases.push(Case::new(Operation::Check, &[net, record.as_bytes()]));
+    check(format!("{lines}R,0,0\n"));
+    check(format!("{lines}R,511,127\n"));
+    let Some((before, last)) = lines.rfind('R').map(|at| lines.split_at(at)) else {
+        return;
+    };
+    let (mark, after) = last.split_once('\n').expect("a line ends");
+    let words: Vec<&str> = mark.split(',').collect();
+    ["A", "B"].into_iter().for_each(|letter| check(format!("{before}{letter},{},{}\n{after}", words[1], words[2])));
+    (0..512).step_by(10).for_each(|condition| check(format!("{before}R,{condition},{}\n{after}", words[2])));
+    check(format!("{before}{mark}\n{mark}\n{after}"));
+    check(format!("{before}{after}"));
 }
 
 /// Every line number around those of small texts, and every choice.

@@ -5,12 +5,13 @@ mod arrangements;
 mod damage;
 mod logs;
 mod nets;
+mod readers;
 mod records;
 
 use crate::case::{run, Case, Operation};
 use crate::model::{log_text, NetPlan};
 use crate::rng::Rng;
-use crate::sim::{Simulator, LONGEST_INPUT, RECORD_ROOM};
+use crate::sim::{SIMULATOR, LONGEST_INPUT, RECORD_ROOM};
 
 pub use damage::{damage, BYTES, NUMBERS};
 pub use logs::play;
@@ -27,36 +28,59 @@ pub struct Size {
     pub events: usize,
     /// Events of a step.
     pub step: usize,
+    /// Whether there are read arcs. Without them the same draws give the same cases as before there were any.
+    pub reads: bool,
 }
 
-pub const SMALL: Size = Size { places: 6, transitions: 5, tokens: 3, events: 8, step: 3 };
-const MEDIUM: Size = Size { places: 12, transitions: 10, tokens: 9, events: 40, step: 6 };
-const LARGE: Size = Size { places: 32, transitions: 32, tokens: 60, events: 135, step: 40 };
+pub const SMALL: Size = Size { places: 6, transitions: 5, tokens: 3, events: 8, step: 3, reads: true };
+const MEDIUM: Size = Size { places: 12, transitions: 10, tokens: 9, events: 40, step: 6, reads: true };
+const LARGE: Size = Size { places: 32, transitions: 32, tokens: 60, events: 135, step: 40, reads: true };
 /// For `nets::store`, whose runs pass the limits only with long steps.
-const STORE: Size = Size { places: 4, transitions: 4, tokens: 512, events: 132, step: 70 };
+const STORE: Size = Size { places: 4, transitions: 4, tokens: 512, events: 132, step: 70, reads: true };
 
 /// Mostly small, since the many kinds of mistakes show there and a small case costs little.
-fn net_and_log(rng: &mut Rng) -> (NetPlan, Size, Vec<Vec<usize>>) {
+fn net_and_log(rng: &mut Rng, reads: bool) -> (NetPlan, Size, Vec<Vec<usize>>) {
     let kind = rng.below(400);
-    let (plan, size) = match kind {
-        0 => (nets::net(rng, LARGE), LARGE),
-        1..=3 => (nets::store(rng), STORE),
-        4..=11 => (nets::net(rng, MEDIUM), MEDIUM),
-        _ => (nets::net(rng, SMALL), SMALL),
+    let size = match kind {
+        0 => LARGE,
+        1..=3 => STORE,
+        4..=11 => MEDIUM,
+        12..=13 if reads => STORE,
+        _ => SMALL,
     };
-    let steps = if (1..=2).contains(&kind) { logs::at_the_limit(rng, &plan) } else { logs::log(rng, &plan, size) };
+    let size = Size { reads, ..size };
+    let plan = match kind {
+        1..=3 => nets::store(rng),
+        12..=13 if reads => readers::store(rng),
+        _ => nets::net(rng, size),
+    };
+    let steps = match kind {
+        1..=2 => logs::at_the_limit(rng, &plan),
+        12 if reads => readers::at_the_limit(rng, &plan),
+        _ => logs::log(rng, &plan, size),
+    };
     (plan, size, steps)
 }
 
+/// The cases of a round.
 pub fn round(rng: &mut Rng) -> Vec<Case> {
-    let (plan, size, steps) = net_and_log(rng);
+    cases(rng, true)
+}
+
+/// A round of document 01 alone, without read arcs.
+pub fn base_round(rng: &mut Rng) -> Vec<Case> {
+    cases(rng, false)
+}
+
+fn cases(rng: &mut Rng, reads: bool) -> Vec<Case> {
+    let (plan, size, steps) = net_and_log(rng, reads);
     let sound = nets::text(rng, &plan);
-    let net = maybe_net(rng, 4, &sound);
+    let net = maybe_net(rng, 4, &sound, reads);
     let log = maybe(rng, 8, &log_text(&steps));
     let proposed = proposal(rng, &plan, &sound, size);
     let record = maybe(rng, 6, &proposed);
     let mut cases = vec![
-        Case::new(Operation::ReadNet, &[&maybe_net(rng, 50, &sound)]),
+        Case::new(Operation::ReadNet, &[&maybe_net(rng, 50, &sound, reads)]),
         Case::new(Operation::Build, &[&net, &log]),
         Case::new(Operation::Check, &[&net, &record]),
         Case::new(Operation::Arrange, &[&net, &record]),
@@ -67,6 +91,9 @@ pub fn round(rng: &mut Rng) -> Vec<Case> {
         let arrangement = arrangements::arrangement(rng, &sound, &proposed);
         let arrangement = maybe(rng, 6, &arrangement);
         cases.push(Case::new(Operation::Replay, &[&net, &record, &arrangement]));
+    }
+    if reads && rng.chance(20) {
+        cases.extend(readers::read_and_inhibited(rng, &plan, &proposed));
     }
     cases.iter_mut().for_each(|case| case.room = room(rng, case.operation));
     cases
@@ -81,8 +108,9 @@ fn maybe(rng: &mut Rng, percent: usize, text: &[u8]) -> Vec<u8> {
 }
 
 /// The net text, with the given chance damaged or with lines put in that are refused.
-fn maybe_net(rng: &mut Rng, percent: usize, text: &[u8]) -> Vec<u8> {
+fn maybe_net(rng: &mut Rng, percent: usize, text: &[u8], reads: bool) -> Vec<u8> {
     match rng.chance(percent) {
+        true if reads && rng.chance(25) => readers::refused_text(rng, text),
         true if rng.chance(50) => nets::refused_text(rng, text),
         true => damage(rng, text),
         false => text.to_vec(),
@@ -93,13 +121,13 @@ fn maybe_net(rng: &mut Rng, percent: usize, text: &[u8]) -> Vec<u8> {
 fn proposal(rng: &mut Rng, plan: &NetPlan, net: &[u8], size: Size) -> Vec<u8> {
     let steps = logs::play(rng, plan, size);
     let record = build(net, &log_text(&steps)).unwrap_or_default();
-    records::propose(rng, plan, &record)
+    records::propose(rng, plan, &record, size.reads)
 }
 
 /// The record of the log, if the simulator builds one.
 pub fn build(net: &[u8], log: &[u8]) -> Option<Vec<u8>> {
     let case = Case::new(Operation::Build, &[net, log]).with_room(RECORD_ROOM);
-    let mut outcome = run(&Simulator, &case);
+    let mut outcome = run(&SIMULATOR, &case);
     let written = outcome.answer.a as usize;
     outcome.answer.accepted().then(|| crate::case::lent(&mut outcome.bytes)[..written].to_vec())
 }

@@ -20,18 +20,20 @@ use case::Subject;
 use std::io::{Read, Write};
 use std::process::ExitCode;
 
-const USAGE: &str = "usage: compare compare [--cases N] [--seed S] [--only vectors|fixed|generated] [--first] [--trace]
+const USAGE: &str = "usage: compare compare [--cases N] [--seed S] [--only vectors|fixed|generated|base] [--first] [--trace]
        compare guarded [--cases N] [--seed S]
        compare brute [--nets N] [--runs N] [--seed S]
        compare bench
        compare repeat OPERATION [--events N] [--times N]
        compare print < INPUT      what the program prints for that input, by the simulator
 Options of compare, guarded and brute: --subject FILE.so judges that library in place of the one linked;
-of compare: --peer judges the peer, and --reference FILE.so holds the subject to it in place of the simulator.
+of compare: --peer judges the peer, by document 01 alone, and --reference FILE.so holds the subject to it in place of the simulator.
 Built without the feature lib and without --subject, brute and bench judge the simulator and compare refuses.";
 
 const NO_LIBRARY: &str = "there is no library in this build to compare with the simulator: \
 build with --features lib and PTI_LIB_DIR set to the folder of libpti.a (tests/run.sh does), or name one by --subject";
+
+const SIMULATOR: compare::Reference = compare::Reference { now: &sim::SIMULATOR, base: &sim::BASE };
 
 fn library() -> Option<&'static dyn Subject> {
     #[cfg(feature = "lib")]
@@ -62,17 +64,18 @@ fn run(words: &[String]) -> Result<bool, String> {
             let subject = peer.or(options.library("--subject")?);
             let reference = options.library("--reference")?;
             let plan = compare::Plan {
-                sources: options.sources()?,
+                sources: if peer.is_some() { compare::Source::OF_DOCUMENT_01.to_vec() } else { options.sources()? },
                 cases: options.number("--cases", 100_000)? as usize,
                 seed: options.number("--seed", 1)?,
                 enough: if options.flag("--first") { 1 } else { 5 },
                 trace: options.flag("--trace"),
             };
             options.none_left()?;
-            Ok(compare::compare(subject.or(library()).ok_or(NO_LIBRARY)?, reference.unwrap_or(&sim::Simulator), &plan))
+            let reference = reference.map_or(SIMULATOR, |loaded| compare::Reference { now: loaded, base: loaded });
+            Ok(compare::compare(subject.or(library()).ok_or(NO_LIBRARY)?, reference, &plan))
         }
         "guarded" => {
-            let subject = options.library("--subject")?.or(library()).unwrap_or(&sim::Simulator);
+            let subject = options.library("--subject")?.or(library()).unwrap_or(&sim::SIMULATOR);
             let plan = compare::Plan {
                 sources: compare::Source::ALL.to_vec(),
                 cases: options.number("--cases", 20_000)? as usize,
@@ -82,7 +85,7 @@ fn run(words: &[String]) -> Result<bool, String> {
             };
             options.none_left()?;
             let seen = guarded::planted_are_seen();
-            Ok(seen & guarded::stacks(subject) & compare::compare(&guarded::Guarded::new(subject), &sim::Simulator, &plan))
+            Ok(seen & guarded::stacks(subject) & compare::compare(&guarded::Guarded::new(subject), SIMULATOR, &plan))
         }
         "planted" => {
             guarded::plant(options.words.first().and_then(|word| word.parse().ok()).ok_or(USAGE)?);
@@ -96,7 +99,7 @@ fn run(words: &[String]) -> Result<bool, String> {
                 seed: options.number("--seed", 1)?,
             };
             options.none_left()?;
-            Ok(brute::brute(subject.or(library()).unwrap_or(&sim::Simulator), &plan))
+            Ok(brute::brute(subject.or(library()).unwrap_or(&sim::SIMULATOR), &plan))
         }
         "bench" => {
             options.none_left()?;
@@ -112,7 +115,7 @@ fn run(words: &[String]) -> Result<bool, String> {
             let (events, times) = (options.number("--events", 0)? as usize, options.number("--times", 1)?);
             let found = case::Operation::ALL.into_iter().find(|operation| options.flag(operation.name()));
             options.none_left()?;
-            bench::repeat(library().unwrap_or(&sim::Simulator), found.ok_or(USAGE)?, events, times);
+            bench::repeat(library().unwrap_or(&sim::SIMULATOR), found.ok_or(USAGE)?, events, times);
             Ok(true)
         }
         _ => Err(USAGE.to_string()),
@@ -124,7 +127,7 @@ fn print() -> std::io::Result<()> {
     let mut input = Vec::new();
     std::io::stdin().read_to_end(&mut input)?;
     let mut out = [0; sim::PROGRAM_ROOM];
-    let answer = sim::Simulator.program(&input, &mut out);
+    let answer = sim::SIMULATOR.program(&input, &mut out);
     std::io::stdout().write_all(&out[..answer.a as usize])
 }
 

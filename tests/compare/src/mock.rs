@@ -10,22 +10,22 @@ mod sim;
 
 use answer::Answer;
 use case::{whole, Subject};
-use sim::{Simulator, PROGRAM_ROOM};
+use sim::{SIMULATOR, PROGRAM_ROOM};
 use std::slice::{from_raw_parts, from_raw_parts_mut};
 
 #[no_mangle]
 unsafe extern "C" fn pti_read_net(net: *const u8, net_len: usize) -> Answer {
-    Simulator.read_net(from_raw_parts(net, net_len))
+    SIMULATOR.read_net(from_raw_parts(net, net_len))
 }
 
 #[no_mangle]
 unsafe extern "C" fn pti_build(net: *const u8, net_len: usize, log: *const u8, log_len: usize, out: *mut u8, out_len: usize) -> Answer {
-    Simulator.build(from_raw_parts(net, net_len), from_raw_parts(log, log_len), from_raw_parts_mut(out, out_len))
+    SIMULATOR.build(from_raw_parts(net, net_len), from_raw_parts(log, log_len), from_raw_parts_mut(out, out_len))
 }
 
 #[no_mangle]
 unsafe extern "C" fn pti_check(net: *const u8, net_len: usize, record: *const u8, record_len: usize, table: *mut u8, table_len: usize) -> Answer {
-    Simulator.check(from_raw_parts(net, net_len), from_raw_parts(record, record_len), from_raw_parts_mut(table, table_len))
+    SIMULATOR.check(from_raw_parts(net, net_len), from_raw_parts(record, record_len), from_raw_parts_mut(table, table_len))
 }
 
 #[no_mangle]
@@ -40,20 +40,20 @@ unsafe extern "C" fn pti_replay(
     rows_len: usize,
 ) -> Answer {
     let (net, record) = (from_raw_parts(net, net_len), from_raw_parts(record, record_len));
-    Simulator.replay(net, record, from_raw_parts(arrangement, arrangement_len), from_raw_parts_mut(rows, rows_len))
+    SIMULATOR.replay(net, record, from_raw_parts(arrangement, arrangement_len), from_raw_parts_mut(rows, rows_len))
 }
 
 #[no_mangle]
 unsafe extern "C" fn pti_arrange(net: *const u8, net_len: usize, record: *const u8, record_len: usize, out: *mut u8, out_len: usize) -> Answer {
-    Simulator.arrange(from_raw_parts(net, net_len), from_raw_parts(record, record_len), from_raw_parts_mut(out, out_len))
+    SIMULATOR.arrange(from_raw_parts(net, net_len), from_raw_parts(record, record_len), from_raw_parts_mut(out, out_len))
 }
 
 #[no_mangle]
 unsafe extern "C" fn pti_refused_line(net: *const u8, net_len: usize, second: *const u8, second_len: usize, choice: u8, line: usize) -> Answer {
-    Simulator.refused_line(from_raw_parts(net, net_len), from_raw_parts(second, second_len), choice, line as u64)
+    SIMULATOR.refused_line(from_raw_parts(net, net_len), from_raw_parts(second, second_len), choice, line as u64)
 }
 
 #[no_mangle]
 unsafe extern "C" fn pti_program(input: *const u8, input_len: usize, out: *mut u8) -> Answer {
-    Simulator.program(from_raw_parts(input, input_len), whole(from_raw_parts_mut(out, PROGRAM_ROOM)))
+    SIMULATOR.program(from_raw_parts(input, input_len), whole(from_raw_parts_mut(out, PROGRAM_ROOM)))
 }

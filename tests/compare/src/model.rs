@@ -16,6 +16,8 @@ pub struct NetPlan {
     pub inputs: Vec<Places>,
     pub outputs: Vec<Places>,
     pub inhibitors: Vec<Places>,
+    /// Places that a transition reads; none of them one of its inputs in a net that is accepted.
+    pub reads: Vec<Places>,
 }
 
 impl NetPlan {
@@ -33,7 +35,12 @@ impl NetPlan {
         for t in 0..self.transitions() {
             for p in 0..self.places() {
                 let has = |places: Places| places >> p & 1 == 1;
-                let lines = [(self.inputs[t], format!("I,{p},{t}")), (self.outputs[t], format!("O,{t},{p}")), (self.inhibitors[t], format!("H,{p},{t}"))];
+                let lines = [
+                    (self.inputs[t], format!("I,{p},{t}")),
+                    (self.outputs[t], format!("O,{t},{p}")),
+                    (self.inhibitors[t], format!("H,{p},{t}")),
+                    (self.reads[t], format!("R,{p},{t}")),
+                ];
                 arcs.extend(lines.into_iter().filter(|(places, _)| has(*places)).map(|(_, line)| line));
             }
         }
@@ -59,7 +66,7 @@ impl NetPlan {
         places.chain(transitions).chain(arcs).collect::<String>().into_bytes()
     }
 
-    /// How many of the step's events take from (make at, are inhibited by) the place.
+    /// How many of the step's events take from (make at, are inhibited by, read) the place.
     fn count(arcs: &[Places], step: &[usize], place: usize) -> usize {
         step.iter().filter(|t| arcs[**t] >> place & 1 == 1).count()
     }
@@ -70,7 +77,8 @@ impl NetPlan {
 
     /// 24 if there are too few tokens, else 25 if the step is inhibited, else 0.
     pub fn refusal(&self, marking: &Marking, step: &[usize]) -> u64 {
-        let short = |p: usize| marking[p] < Self::count(&self.inputs, step, p);
+        let unread = |p: usize| marking[p] == 0 && Self::count(&self.reads, step, p) > 0;
+        let short = |p: usize| marking[p] < Self::count(&self.inputs, step, p) || unread(p);
         let inhibited = |p: usize| marking[p] > 0 && Self::count(&self.inhibitors, step, p) > 0;
         match (0..self.places()).any(short) {
             true => 24,
@@ -118,7 +126,7 @@ pub struct ConditionPlan {
 
 #[derive(Clone, Debug)]
 pub struct MarkPlan {
-    /// B or A.
+    /// B, A or R.
     pub letter: char,
     pub condition: usize,
     pub event: usize,
@@ -144,6 +152,7 @@ impl RecordPlan {
                 "C" => plan.conditions.push(ConditionPlan { place: number(1), producer: words[2].parse().ok(), consumer: words[3].parse().ok() }),
                 "B" => plan.marks.push(MarkPlan { letter: 'B', condition: number(1), event: number(2) }),
                 "A" => plan.marks.push(MarkPlan { letter: 'A', condition: number(1), event: number(2) }),
+                "R" => plan.marks.push(MarkPlan { letter: 'R', condition: number(1), event: number(2) }),
                 other => panic!("no line of a record begins with {other}"),
             }
         }

@@ -34,6 +34,10 @@ impl Rng {
         list[self.below(list.len())]
     }
 
+    pub fn pick_one<'a, T>(&mut self, list: &'a [T]) -> &'a T {
+        &list[self.below(list.len())]
+    }
+
     pub fn shuffle<T>(&mut self, list: &mut [T]) {
         for last in (1..list.len()).rev() {
             let other = self.below(last + 1);

@@ -1,7 +1,8 @@
-//! The simulator: every operation of document 01, written from the document alone and by other methods than a
-//! translation of its sentences, so that a shared mistake is unlikely:
+//! The simulator: every operation of document 01 and the requests of document 02, written from the documents alone and by
+//! other methods than a translation of their sentences, so that a shared mistake is unlikely:
 //! - numbers are looked up in a dictionary of all ten thousand of them (`text`);
 //! - the condition an event takes is found by rank, not by playing: the k-th taker at a place takes its k-th condition (`run`);
+//! - so is the condition it reads: the one that comes after as many as earlier steps took from the place (`run`);
 //! - the process rules compare sorted lists and sets (`process`);
 //! - the closed order is a search over pairs (event, strict pair met yet?) (`order`);
 //! - rows are counts of the conditions that lie between the played and the unplayed events (`replaying`);
@@ -65,9 +66,16 @@ fn room(have: usize, need: usize, number: u64) -> Result<(), Refusal> {
     Ok(())
 }
 
-/// The net, the record and its order, when none of 11 to 15 and 31 to 39 is met.
-fn accepted(net: &[u8], record: &[u8]) -> Result<(net::Net, Record, Order), Refusal> {
-    let net = net::read(net)?;
+/// The requests of document 02 that are taken in. Without any, what is left is document 01.
+#[derive(Clone, Copy, Debug, Default, PartialEq, Eq)]
+pub struct Requests {
+    /// 2026-01: lines `R` in nets and records.
+    pub read_arcs: bool,
+}
+
+/// The net, the record and its order, when none of 11 to 15, 51 and 31 to 39 is met.
+fn accepted(requests: Requests, net: &[u8], record: &[u8]) -> Result<(net::Net, Record, Order), Refusal> {
+    let net = net::read(requests, net)?;
     let record = record::read(&net, record)?;
     let order = process::judge(&net, &record)?;
     Ok((net, record, order))
@@ -78,17 +86,17 @@ fn write(out: &mut [u8], text: &str) -> usize {
     text.len()
 }
 
-fn try_build(net: &[u8], log: &[u8], out: &mut [u8]) -> Result<Answer, Refusal> {
+fn try_build(requests: Requests, net: &[u8], log: &[u8], out: &mut [u8]) -> Result<Answer, Refusal> {
     room(out.len(), RECORD_ROOM, 20)?;
-    let net = net::read(net)?;
+    let net = net::read(requests, net)?;
     let run = run::read(&net, log)?;
     let written = write(out, &run.record(&net).text());
     Ok(Answer::gives(written, 0, 0))
 }
 
-fn try_check(net: &[u8], record: &[u8], table: &mut [u8]) -> Result<Answer, Refusal> {
+fn try_check(requests: Requests, net: &[u8], record: &[u8], table: &mut [u8]) -> Result<Answer, Refusal> {
     room(table.len(), TABLE_ROOM, 30)?;
-    let (_, record, order) = accepted(net, record)?;
+    let (_, record, order) = accepted(requests, net, record)?;
     table[..TABLE_ROOM].fill(0);
     for e in 0..order.events() {
         for f in 0..order.events() {
@@ -98,9 +106,9 @@ fn try_check(net: &[u8], record: &[u8], table: &mut [u8]) -> Result<Answer, Refu
     Ok(Answer::gives(record.events.len(), record.conditions.len(), order.independent_pairs()))
 }
 
-fn try_replay(net: &[u8], record: &[u8], arrangement: &[u8], rows: &mut [u16]) -> Result<Answer, Refusal> {
+fn try_replay(requests: Requests, net: &[u8], record: &[u8], arrangement: &[u8], rows: &mut [u16]) -> Result<Answer, Refusal> {
     room(rows.len(), ROWS_ROOM, 40)?;
-    let (_, record, order) = accepted(net, record)?;
+    let (_, record, order) = accepted(requests, net, record)?;
     let lines = replaying::read(&order, arrangement)?;
     rows[..ROWS_ROOM].fill(0);
     for (k, row) in replaying::rows(&record, &lines).iter().enumerate() {
@@ -109,39 +117,47 @@ fn try_replay(net: &[u8], record: &[u8], arrangement: &[u8], rows: &mut [u16]) -
     Ok(Answer::gives(lines.len(), 0, 0))
 }
 
-fn try_arrange(net: &[u8], record: &[u8], out: &mut [u8]) -> Result<Answer, Refusal> {
+fn try_arrange(requests: Requests, net: &[u8], record: &[u8], out: &mut [u8]) -> Result<Answer, Refusal> {
     room(out.len(), ARRANGEMENT_ROOM, 50)?;
-    let (_, _, order) = accepted(net, record)?;
+    let (_, _, order) = accepted(requests, net, record)?;
     let lines = arranging::lines(&order);
     let written = write(out, &arranging::text(&lines));
     Ok(Answer::gives(written, lines.len(), 0))
 }
 
-pub struct Simulator;
+pub struct Simulator {
+    requests: Requests,
+}
+
+/// With every request taken in: what the library is held to.
+pub const SIMULATOR: Simulator = Simulator { requests: Requests { read_arcs: true } };
+
+/// With every request turned off: what the library is held to where no text makes use of one.
+pub const BASE: Simulator = Simulator { requests: Requests { read_arcs: false } };
 
 impl Subject for Simulator {
     fn name(&self) -> &'static str {
-        "simulator"
+        if self.requests == SIMULATOR.requests { "simulator" } else { "simulator without requests" }
     }
 
     fn read_net(&self, net: &[u8]) -> Answer {
-        answer(net::read(net).map(|net| Answer::gives(net.tokens.len(), net.transitions.len(), 0)))
+        answer(net::read(self.requests, net).map(|net| Answer::gives(net.tokens.len(), net.transitions.len(), 0)))
     }
 
     fn build(&self, net: &[u8], log: &[u8], out: &mut [u8]) -> Answer {
-        answer(try_build(net, log, out))
+        answer(try_build(self.requests, net, log, out))
     }
 
     fn check(&self, net: &[u8], record: &[u8], table: &mut [u8]) -> Answer {
-        answer(try_check(net, record, table))
+        answer(try_check(self.requests, net, record, table))
     }
 
     fn replay(&self, net: &[u8], record: &[u8], arrangement: &[u8], rows: &mut [u16]) -> Answer {
-        answer(try_replay(net, record, arrangement, rows))
+        answer(try_replay(self.requests, net, record, arrangement, rows))
     }
 
     fn arrange(&self, net: &[u8], record: &[u8], out: &mut [u8]) -> Answer {
-        answer(try_arrange(net, record, out))
+        answer(try_arrange(self.requests, net, record, out))
     }
 
     fn refused_line(&self, net: &[u8], second: &[u8], choice: u8, line: u64) -> Answer {
@@ -149,6 +165,6 @@ impl Subject for Simulator {
     }
 
     fn program(&self, input: &[u8], out: &mut [u8; PROGRAM_ROOM]) -> Answer {
-        program::run(input, out)
+        program::run(self.requests, input, out)
     }
 }

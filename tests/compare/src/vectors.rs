@@ -1,4 +1,5 @@
-//! Cases with the answer written out: the marked cases a to k of document 01, and one or more for each reading of it.
+//! Cases with the answer written out: the marked cases a to k of document 01, one or more for each reading of it, and those
+//! of the requests of document 02.
 //! They judge the simulator (unit tests) and the library (`compare`) alike, so that neither is only held to the other.
 
 mod arrangements;
@@ -7,6 +8,7 @@ mod logs;
 mod marked;
 mod nets;
 mod programs;
+mod readers;
 mod records;
 
 use crate::answer::Answer;
@@ -214,5 +216,6 @@ pub fn all() -> Vec<Vector> {
     arrangements::add(&mut book);
     buffers::add(&mut book);
     programs::add(&mut book);
+    readers::add(&mut book);
     book.vectors
 }

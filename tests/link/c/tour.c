@@ -59,7 +59,7 @@ static void show_text(text t)
  * the record, 31 to 34, are never refused here: it was built. */
 static uint8_t choice_of(uint64_t number)
 {
-    if (number >= 11 && number <= 14)
+    if ((number >= 11 && number <= 14) || number == 51)
         return 0;
     return (number >= 21 && number <= 27) || (number >= 41 && number <= 44) ? 1 : 2;
 }

@@ -3,7 +3,7 @@
 use super::{judge, Clause, Counts, Plan};
 use crate::answer::Answer;
 use crate::case::Subject;
-use crate::sim::{Simulator, PROGRAM_ROOM};
+use crate::sim::{SIMULATOR, PROGRAM_ROOM};
 
 #[derive(Clone, Copy, Debug, PartialEq)]
 enum Fault {
@@ -16,6 +16,7 @@ enum Fault {
     CountOfNothing,
     CountOneMore,
     InhibitorsForgotten,
+    ReadsForgotten,
     KeepingRefused,
     BreakingAccepted,
     FirstRowCopied,
@@ -41,7 +42,7 @@ enum Fault {
 
 use Fault::*;
 
-const SEEN: [(Fault, Clause); 30] = [
+const SEEN: [(Fault, Clause); 31] = [
     (EventLeftOut, Clause::Placed),
     (EventTwice, Clause::Placed),
     (EmptyLine, Clause::Placed),
@@ -51,6 +52,7 @@ const SEEN: [(Fault, Clause); 30] = [
     (CountOfNothing, Clause::Least),
     (CountOneMore, Clause::Least),
     (InhibitorsForgotten, Clause::Enabled),
+    (ReadsForgotten, Clause::Enabled),
     (KeepingRefused, Clause::Replayed),
     (BreakingAccepted, Clause::Replayed),
     (FirstRowCopied, Clause::Markings),
@@ -100,12 +102,17 @@ fn not_enabled(answer: &Answer) -> bool {
 impl Faulty {
     /// The net as the operations on records see it.
     fn seen_net(&self, net: &[u8]) -> Vec<u8> {
-        if self.0 == InhibitorsForgotten { without(b"H", net) } else { net.to_vec() }
+        match self.0 {
+            InhibitorsForgotten => without(b"H", net),
+            ReadsForgotten => without(b"R", net),
+            _ => net.to_vec(),
+        }
     }
 
     fn built(&self, record: &mut Vec<u8>) {
         match self.0 {
             InhibitorsForgotten => *record = without(b"BA", record),
+            ReadsForgotten => *record = without(b"R", record),
             AfterForBefore => {
                 let lines = lines_of(record);
                 let conditions: Vec<&Vec<u8>> = lines.iter().filter(|line| line[0] == b'C').collect();
@@ -178,11 +185,11 @@ impl Subject for Faulty {
     }
 
     fn read_net(&self, net: &[u8]) -> Answer {
-        Simulator.read_net(net)
+        SIMULATOR.read_net(net)
     }
 
     fn build(&self, net: &[u8], log: &[u8], out: &mut [u8]) -> Answer {
-        let answer = Simulator.build(net, log, out);
+        let answer = SIMULATOR.build(net, log, out);
         if self.0 == StepRefused && answer.accepted() && log.ends_with(b",0,0\n") {
             return Answer::refuses(24, 1);
         }
@@ -199,7 +206,7 @@ impl Subject for Faulty {
     }
 
     fn check(&self, net: &[u8], record: &[u8], table: &mut [u8]) -> Answer {
-        let mut answer = Simulator.check(&self.seen_net(net), record, table);
+        let mut answer = SIMULATOR.check(&self.seen_net(net), record, table);
         if answer.accepted() {
             self.table(&mut answer, table);
         }
@@ -213,7 +220,7 @@ impl Subject for Faulty {
     }
 
     fn replay(&self, net: &[u8], record: &[u8], arrangement: &[u8], rows: &mut [u16]) -> Answer {
-        let mut answer = Simulator.replay(&self.seen_net(net), record, arrangement, rows);
+        let mut answer = SIMULATOR.replay(&self.seen_net(net), record, arrangement, rows);
         if answer.accepted() {
             self.rows(&mut answer, rows);
         }
@@ -225,7 +232,7 @@ impl Subject for Faulty {
     }
 
     fn arrange(&self, net: &[u8], record: &[u8], out: &mut [u8]) -> Answer {
-        let mut answer = Simulator.arrange(&self.seen_net(net), record, out);
+        let mut answer = SIMULATOR.arrange(&self.seen_net(net), record, out);
         if answer.accepted() && answer.a > 0 {
             let mut text = out[..answer.a as usize].to_vec();
             self.arranged(&mut answer, &mut text);
@@ -235,11 +242,11 @@ impl Subject for Faulty {
     }
 
     fn refused_line(&self, net: &[u8], second: &[u8], choice: u8, line: u64) -> Answer {
-        Simulator.refused_line(net, second, choice, line)
+        SIMULATOR.refused_line(net, second, choice, line)
     }
 
     fn program(&self, input: &[u8], out: &mut [u8; PROGRAM_ROOM]) -> Answer {
-        Simulator.program(input, out)
+        SIMULATOR.program(input, out)
     }
 }
 

@@ -109,10 +109,19 @@ mod tests {
     /// Three transitions that each can fire once, in any order and together: subsets of the three, each arranged.
     #[test]
     fn runs_are_the_step_sequences() {
-        let net = NetPlan { tokens: vec![1, 1, 1, 0], inputs: vec![1, 2, 4], outputs: vec![8, 8, 8], inhibitors: vec![0, 0, 0] };
+        let net = NetPlan { tokens: vec![1, 1, 1, 0], inputs: vec![1, 2, 4], outputs: vec![8, 8, 8], inhibitors: vec![0, 0, 0], reads: vec![0, 0, 0] };
         let mut runs = vec![Vec::new()];
         extend(&net, &mut Vec::new(), &net.tokens, 5, &mut runs);
         assert_eq!(runs.len(), 1 + 3 + 3 * 3 + 13);
         assert_eq!(steps_of(&net, 2).len(), 3 + 6);
+    }
+
+    /// The same with transition 0 reading what transition 1 takes: of the runs above those in which it does not come later.
+    #[test]
+    fn readers_do_not_come_after_the_taker() {
+        let net = NetPlan { tokens: vec![1, 1, 1, 0], inputs: vec![1, 2, 4], outputs: vec![8, 8, 8], inhibitors: vec![0, 0, 0], reads: vec![2, 0, 0] };
+        let mut runs = vec![Vec::new()];
+        extend(&net, &mut Vec::new(), &net.tokens, 5, &mut runs);
+        assert_eq!(runs.len(), 1 + 3 + (2 + 3 + 3) + 8);
     }
 }

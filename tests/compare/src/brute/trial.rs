@@ -35,10 +35,13 @@ fn pairs(record: &RecordPlan) -> Vec<Pair> {
     }
     for mark in &record.marks {
         let condition = &record.conditions[mark.condition];
-        if mark.letter == 'A' {
-            pairs.extend(condition.consumer.map(|consumer| (consumer, mark.event, true)));
-        } else {
-            pairs.extend(condition.producer.map(|producer| (mark.event, producer, false)));
+        match mark.letter {
+            'A' => pairs.extend(condition.consumer.map(|consumer| (consumer, mark.event, true))),
+            'B' => pairs.extend(condition.producer.map(|producer| (mark.event, producer, false))),
+            _ => {
+                pairs.extend(condition.producer.map(|producer| (producer, mark.event, true)));
+                pairs.extend(condition.consumer.map(|consumer| (mark.event, consumer, false)));
+            }
         }
     }
     pairs
@@ -117,6 +120,7 @@ impl Trial<'_> {
             return Ok(());
         }
         self.counts.records += 1;
+        self.counts.reading += record.marks.iter().any(|mark| mark.letter == 'R') as usize;
         let kept = self.arrangements(text, record, &pairs)?;
         self.table(text, record, &answer, &table, &kept)?;
         self.arranged(text, record, &pairs, &kept)
@@ -235,4 +239,53 @@ fn read_arrangement(text: &[u8], events: usize) -> Option<Vec<usize>> {
         }
     }
     line_of.into_iter().collect()
+}
+
+#[cfg(test)]
+mod tests {
+    use super::*;
+    use crate::case::Subject;
+    use crate::gen::{self, Size, SMALL};
+    use crate::sim::{SIMULATOR, TABLE_ROOM};
+
+    /// What the record's own tokens say of an arrangement, without its pairs: when a line begins, all that its events take or
+    /// read is there, what they come before (B) has not been made, and what they come after (A) is gone.
+    fn plays(record: &RecordPlan, line_of: &[usize]) -> bool {
+        by_line(line_of).iter().enumerate().all(|(line, events)| {
+            let made = |c: usize| record.conditions[c].producer.is_none_or(|e| line_of[e] < line);
+            let gone = |c: usize| record.conditions[c].consumer.is_some_and(|e| line_of[e] < line);
+            let taken = (0..record.conditions.len()).filter(|c| record.conditions[*c].consumer.is_some_and(|e| events.contains(&e)));
+            let marks = record.marks.iter().filter(|mark| events.contains(&mark.event));
+            taken.into_iter().all(|c| made(c) && !gone(c))
+                && marks.into_iter().all(|mark| match mark.letter {
+                    'A' => gone(mark.condition),
+                    'B' => !made(mark.condition),
+                    _ => made(mark.condition) && !gone(mark.condition),
+                })
+        })
+    }
+
+    /// The pairs say of every arrangement what the record's own tokens say.
+    #[test]
+    fn pairs_are_what_the_tokens_say() {
+        let size = Size { events: 5, ..SMALL };
+        let (mut tried, mut kept) = (0, 0);
+        for round in 0..5_000 {
+            let mut rng = Rng::for_round(14, round);
+            let net = gen::net(&mut rng, size);
+            let steps = gen::play(&mut rng, &net, size);
+            let mut record = RecordPlan::read(&gen::build(&net.text(), &log_text(&steps)).expect("an enabled step sequence"));
+            gen::change(&mut rng, &mut record);
+            let answer = SIMULATOR.check(&net.text(), &record.text(), &mut [0; TABLE_ROOM]);
+            if ![0, 39].contains(&answer.number) {
+                continue;
+            }
+            for line_of in arrangements(record.events.len()) {
+                assert_eq!(plays(&record, line_of), keeps(&pairs(&record), line_of), "round {round}");
+                tried += record.marks.iter().any(|mark| mark.letter == 'R') as usize;
+                kept += plays(&record, line_of) as usize;
+            }
+        }
+        assert!(tried > 50_000 && kept > 10_000, "{tried} arrangements with readers, {kept} kept");
+    }
 }

@@ -3,11 +3,11 @@
 use crate::case::{lent, run, Case, Operation};
 use crate::model::arrangement_text;
 use crate::rng::Rng;
-use crate::sim::{Simulator, EVENTS};
+use crate::sim::{EVENTS, SIMULATOR};
 
 /// An arrangement for the record; if the record is no process, of as many events as it may have.
 pub fn arrangement(rng: &mut Rng, net: &[u8], record: &[u8]) -> Vec<u8> {
-    let mut outcome = run(&Simulator, &Case::new(Operation::Check, &[net, record]));
+    let mut outcome = run(&SIMULATOR, &Case::new(Operation::Check, &[net, record]));
     let mut lines = if outcome.answer.accepted() {
         keeping(rng, outcome.answer.a as usize, lent(&mut outcome.bytes))
     } else {

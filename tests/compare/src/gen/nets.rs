@@ -1,18 +1,27 @@
 //! Random nets.
 
-use super::Size;
+use super::{readers, Size};
 use crate::model::{NetPlan, Places};
 use crate::rng::Rng;
 
 /// A net that meets no refusal, and in most cases one that can take a step.
 pub fn net(rng: &mut Rng, size: Size) -> NetPlan {
     let family = if rng.chance(50) { any_net } else { chains };
-    let mut plan = family(rng, size);
+    let mut plan = with_reads(rng, size, family);
     for _ in 0..rng.below(6) {
         if plan.can_step() {
             break;
         }
-        plan = family(rng, size);
+        plan = with_reads(rng, size, family);
+    }
+    plan
+}
+
+fn with_reads(rng: &mut Rng, size: Size, family: fn(&mut Rng, Size) -> NetPlan) -> NetPlan {
+    let mut plan = family(rng, size);
+    plan.reads = vec![0; plan.transitions()];
+    if size.reads {
+        readers::add_arcs(rng, &mut plan);
     }
     plan
 }
@@ -27,6 +36,7 @@ pub fn store(rng: &mut Rng) -> NetPlan {
         inputs: vec![1, 1, first | second, 1],
         outputs: vec![0b0010, first | second, 0b0010, rng.pick(&[first, second, 0b0010])],
         inhibitors: vec![first | second, 0, rng.pick(&[0, 0b0010]), rng.pick(&[0, first, second, first | second])],
+        reads: vec![0; 4],
     }
 }
 
@@ -104,7 +114,7 @@ fn at_most(rng: &mut Rng, most: usize) -> usize {
     if rng.chance(15) { most } else { rng.between(1, most) }
 }
 
-fn some(rng: &mut Rng, places: usize, percent: impl Fn(usize) -> usize) -> Places {
+pub fn some(rng: &mut Rng, places: usize, percent: impl Fn(usize) -> usize) -> Places {
     let bits = (0..places).filter(|p| rng.chance(percent(*p))).map(|p| 1 << p);
     bits.fold(0, |all, bit: Places| all | bit)
 }
@@ -143,7 +153,7 @@ pub fn text(rng: &mut Rng, plan: &NetPlan) -> Vec<u8> {
 /// Moves lines so that places, transitions and arcs alternate, each arc still below what it names.
 fn early_arcs(rng: &mut Rng, text: &[u8]) -> Vec<u8> {
     let text = String::from_utf8(text.to_vec()).expect("plain text");
-    let (mut arcs, mut things): (Vec<&str>, Vec<&str>) = text.lines().partition(|line| line.starts_with(['I', 'O', 'H']));
+    let (mut arcs, mut things): (Vec<&str>, Vec<&str>) = text.lines().partition(|line| line.starts_with(['I', 'O', 'H', 'R']));
     rng.shuffle(&mut things);
     // Shuffling would give places other tokens: put the place lines back in their order.
     let mut places = text.lines().filter(|line| line.starts_with('P'));

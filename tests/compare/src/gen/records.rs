@@ -1,11 +1,13 @@
 //! Proposed records: a built one, changed. Some changes leave it a process (other names, another token, another kind of
-//! mark), most do not.
+//! mark, another condition read), most do not.
 
+use super::readers;
 use crate::model::{ConditionPlan, MarkPlan, NetPlan, RecordPlan};
 use crate::rng::Rng;
 use crate::sim::{CONDITIONS, EVENTS, MARKS};
 
-pub fn propose(rng: &mut Rng, net: &NetPlan, built: &[u8]) -> Vec<u8> {
+/// With marks of every kind broken, or of B and A alone.
+pub fn propose(rng: &mut Rng, net: &NetPlan, built: &[u8], reads: bool) -> Vec<u8> {
     let mut plan = RecordPlan::read(built);
     if rng.chance(40) {
         change(rng, &mut plan);
@@ -13,14 +15,17 @@ pub fn propose(rng: &mut Rng, net: &NetPlan, built: &[u8]) -> Vec<u8> {
     if rng.chance(35) {
         (0..rng.between(1, 2)).for_each(|_| break_rule(rng, net, &mut plan));
     }
+    if reads && rng.chance(20) {
+        readers::break_mark(rng, &mut plan);
+    }
     if rng.below(300) == 0 {
-        fill(rng, net, &mut plan);
+        fill(rng, net, &mut plan, reads);
     }
     plan.text()
 }
 
 /// One group filled up to its limit or one past it.
-fn fill(rng: &mut Rng, net: &NetPlan, plan: &mut RecordPlan) {
+fn fill(rng: &mut Rng, net: &NetPlan, plan: &mut RecordPlan, reads: bool) {
     let more = rng.below(2);
     match rng.below(3) {
         0 => {
@@ -31,8 +36,9 @@ fn fill(rng: &mut Rng, net: &NetPlan, plan: &mut RecordPlan) {
         _ => {
             plan.events.resize(9, 0);
             plan.conditions.resize(CONDITIONS, ConditionPlan { place: 0, producer: None, consumer: None });
-            let pairs = (0..9).flat_map(|event| (0..CONDITIONS).map(move |condition| MarkPlan { letter: 'B', condition, event }));
-            plan.marks = pairs.take(MARKS + more).collect();
+            let letters = if reads { ['B', 'R'] } else { ['B', 'B'] };
+            let pairs = (0..9).flat_map(|event| (0..CONDITIONS).map(move |condition| (condition, event)));
+            plan.marks = pairs.map(|(condition, event)| MarkPlan { letter: letters[(condition + event) % 2], condition, event }).take(MARKS + more).collect();
         }
     }
 }
@@ -46,6 +52,9 @@ pub fn change(rng: &mut Rng, plan: &mut RecordPlan) {
     }
     if rng.chance(40) {
         (0..rng.between(1, 3)).for_each(|_| swap_ends(rng, plan));
+    }
+    if plan.marks.iter().any(|mark| mark.letter == 'R') && rng.chance(50) {
+        readers::other_conditions(rng, plan);
     }
     if rng.chance(60) {
         rename(rng, plan);
@@ -68,7 +77,7 @@ fn rename(rng: &mut Rng, plan: &mut RecordPlan) {
 /// Another kind for some of the marks, mostly on conditions that are both produced and consumed.
 fn other_kinds(rng: &mut Rng, plan: &mut RecordPlan) {
     let percent = rng.pick(&[10, 30, 50]);
-    for mark in &mut plan.marks {
+    for mark in plan.marks.iter_mut().filter(|mark| mark.letter != 'R') {
         let condition = &plan.conditions[mark.condition];
         let both_will_do = condition.producer.is_some() && condition.consumer.is_some();
         if rng.chance(if both_will_do { percent } else { 3 }) {
@@ -82,7 +91,8 @@ fn kinds_of_another_order(rng: &mut Rng, plan: &mut RecordPlan) {
     let Some(line_of) = another_order(rng, plan) else {
         return;
     };
-    for mark in &mut plan.marks {
+    readers::reads_in_order(rng, plan, &line_of);
+    for mark in plan.marks.iter_mut().filter(|mark| mark.letter != 'R') {
         let consumer = plan.conditions[mark.condition].consumer;
         let gone = consumer.is_some_and(|consumer| line_of[consumer] < line_of[mark.event]);
         mark.letter = if gone { 'A' } else { 'B' };
@@ -193,14 +203,16 @@ mod tests {
     use crate::case::Subject;
     use crate::gen::{build, net, play, SMALL};
     use crate::model::log_text;
-    use crate::sim::{Simulator, TABLE_ROOM};
+    use crate::sim::{SIMULATOR, TABLE_ROOM};
 
     type Change = fn(&mut Rng, &mut RecordPlan);
 
-    /// Records that no log builds, and that are processes: by other names, another token, another kind of mark.
+    /// Records that no log builds, and that are processes: by other names, another token, another kind of mark, another
+    /// condition read.
     #[test]
     fn changed_records_are_often_processes() {
-        let changes: [(&str, Change); 4] = [("names", rename), ("token", swap_ends), ("kinds", kinds_of_another_order), ("all", change)];
+        let changes: [(&str, Change); 5] =
+            [("names", rename), ("token", swap_ends), ("kinds", kinds_of_another_order), ("reads", readers::other_conditions), ("all", change)];
         for (name, change) in changes {
             let (mut changed, mut processes) = (0, 0);
             for round in 0..3_000 {
@@ -211,7 +223,7 @@ mod tests {
                 let mut plan = RecordPlan::read(&built);
                 change(&mut rng, &mut plan);
                 changed += (plan.text() != built) as usize;
-                processes += (plan.text() != built && Simulator.check(&net.text(), &plan.text(), &mut [0; TABLE_ROOM]).accepted()) as usize;
+                processes += (plan.text() != built && SIMULATOR.check(&net.text(), &plan.text(), &mut [0; TABLE_ROOM]).accepted()) as usize;
             }
             println!("{name}: {processes} of {changed}");
             assert!(processes > 100, "{name}: {processes} of {changed}");

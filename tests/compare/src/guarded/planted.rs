@@ -4,7 +4,7 @@
 use super::Guarded;
 use crate::answer::Answer;
 use crate::case::{run, Case, Operation, Subject};
-use crate::sim::{Simulator, PROGRAM_ROOM};
+use crate::sim::{SIMULATOR, PROGRAM_ROOM};
 use crate::vectors::{Text, CASE_B, DRIVE};
 use std::process::Command;
 use std::ptr::{read_volatile, write_volatile};
@@ -71,37 +71,37 @@ impl Subject for Planted {
 
     fn read_net(&self, net: &[u8]) -> Answer {
         self.touch(Operation::ReadNet, &[net], bytes::<u8>(&mut []));
-        Simulator.read_net(net)
+        SIMULATOR.read_net(net)
     }
 
     fn build(&self, net: &[u8], log: &[u8], out: &mut [u8]) -> Answer {
         self.touch(Operation::Build, &[net, log], bytes(out));
-        Simulator.build(net, log, out)
+        SIMULATOR.build(net, log, out)
     }
 
     fn check(&self, net: &[u8], record: &[u8], table: &mut [u8]) -> Answer {
         self.touch(Operation::Check, &[net, record], bytes(table));
-        Simulator.check(net, record, table)
+        SIMULATOR.check(net, record, table)
     }
 
     fn replay(&self, net: &[u8], record: &[u8], arrangement: &[u8], rows: &mut [u16]) -> Answer {
         self.touch(Operation::Replay, &[net, record, arrangement], bytes(rows));
-        Simulator.replay(net, record, arrangement, rows)
+        SIMULATOR.replay(net, record, arrangement, rows)
     }
 
     fn arrange(&self, net: &[u8], record: &[u8], out: &mut [u8]) -> Answer {
         self.touch(Operation::Arrange, &[net, record], bytes(out));
-        Simulator.arrange(net, record, out)
+        SIMULATOR.arrange(net, record, out)
     }
 
     fn refused_line(&self, net: &[u8], second: &[u8], choice: u8, line: u64) -> Answer {
         self.touch(Operation::RefusedLine, &[net, second], bytes::<u8>(&mut []));
-        Simulator.refused_line(net, second, choice, line)
+        SIMULATOR.refused_line(net, second, choice, line)
     }
 
     fn program(&self, input: &[u8], out: &mut [u8; PROGRAM_ROOM]) -> Answer {
         self.touch(Operation::Program, &[input], bytes(out));
-        Simulator.program(input, out)
+        SIMULATOR.program(input, out)
     }
 }
 

@@ -1,7 +1,7 @@
-//! The net reader: refusals 11 to 15.
+//! The net reader: refusals 11 to 15, and 51.
 
 use super::text::{lines, words, Field, Words};
-use super::{refuse, Refusal, PLACES, TOKENS, TRANSITIONS};
+use super::{refuse, Refusal, Requests, PLACES, TOKENS, TRANSITIONS};
 use std::collections::BTreeSet;
 
 #[derive(Clone, Debug, Default)]
@@ -9,6 +9,8 @@ pub struct Transition {
     pub inputs: BTreeSet<usize>,
     pub outputs: BTreeSet<usize>,
     pub inhibitors: BTreeSet<usize>,
+    /// Places that must have a token before the step, which is not taken.
+    pub reads: BTreeSet<usize>,
 }
 
 #[derive(Clone, Debug, Default)]
@@ -16,10 +18,12 @@ pub struct Net {
     /// Initial tokens by place.
     pub tokens: Vec<usize>,
     pub transitions: Vec<Transition>,
+    /// Which lines there are, in the net and in its records.
+    pub requests: Requests,
 }
 
-pub fn read(text: &[u8]) -> Result<Net, Refusal> {
-    let mut net = Net::default();
+pub fn read(requests: Requests, text: &[u8]) -> Result<Net, Refusal> {
+    let mut net = Net { requests, ..Net::default() };
     for line in lines(text) {
         let number = match words(&line) {
             Some(words) => net.declare(&words),
@@ -44,6 +48,7 @@ impl Net {
             ('T', []) => self.transition(),
             ('O', [Field::Number(transition), Field::Number(place)]) => self.arc('O', *place, *transition),
             (letter @ ('I' | 'H'), [Field::Number(place), Field::Number(transition)]) => self.arc(letter, *place, *transition),
+            ('R', [Field::Number(place), Field::Number(transition)]) if self.requests.read_arcs => self.arc('R', *place, *transition),
             _ => 11,
         }
     }
@@ -67,8 +72,13 @@ impl Net {
         let ends = match letter {
             'I' => &mut arcs.inputs,
             'O' => &mut arcs.outputs,
+            'R' => &mut arcs.reads,
             _ => &mut arcs.inhibitors,
         };
-        if ends.insert(place) { 0 } else { 14 }
+        if !ends.insert(place) {
+            return 14;
+        }
+        // None was there before this line, so it is this line's place.
+        if arcs.inputs.is_disjoint(&arcs.reads) { 0 } else { 51 }
     }
 }

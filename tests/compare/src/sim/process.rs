@@ -52,15 +52,30 @@ fn inputs_and_outputs(net: &Net, record: &Record) -> Result<(), Refusal> {
     Ok(())
 }
 
-fn due_marks(net: &Net, record: &Record) -> Result<(), Refusal> {
+/// What is marked by event, ascending and with repeats: the conditions of its B and A marks, and the places of its R marks.
+fn marked_by_event(record: &Record) -> (Vec<Vec<usize>>, Vec<Vec<usize>>) {
     let mut marked = vec![Vec::new(); record.events.len()];
-    record.marks.iter().for_each(|mark| marked[mark.event].push(mark.condition));
+    let mut read = marked.clone();
+    for mark in &record.marks {
+        match mark.kind {
+            Kind::Before | Kind::After => marked[mark.event].push(mark.condition),
+            Kind::Read => read[mark.event].push(record.conditions[mark.condition].place),
+        }
+    }
+    marked.iter_mut().chain(&mut read).for_each(|list| list.sort_unstable());
+    (marked, read)
+}
+
+fn due_marks(net: &Net, record: &Record) -> Result<(), Refusal> {
+    let (marked, read) = marked_by_event(record);
     for (event, transition) in record.events.iter().enumerate() {
-        marked[event].sort_unstable();
-        let inhibitors = &net.transitions[*transition].inhibitors;
-        let due = |condition: &Condition| inhibitors.contains(&condition.place) && condition.producer != Some(event);
+        let arcs = &net.transitions[*transition];
+        let due = |condition: &Condition| arcs.inhibitors.contains(&condition.place) && condition.producer != Some(event);
         let due = (0..record.conditions.len()).filter(|condition| due(&record.conditions[*condition]));
         if !due.eq(marked[event].iter().copied()) {
+            return refuse(37, event as u64);
+        }
+        if !arcs.reads.iter().eq(&read[event]) {
             return refuse(37, event as u64);
         }
     }
@@ -73,6 +88,7 @@ fn mark_kinds(record: &Record) -> Result<(), Refusal> {
         match mark.kind {
             Kind::Before => condition.producer.is_none(),
             Kind::After => condition.consumer.is_none(),
+            Kind::Read => false,
         }
     };
     match record.marks.iter().filter(wrong).map(|mark| mark.event).min() {
@@ -93,6 +109,10 @@ fn pairs(record: &Record) -> Vec<Pair> {
         match (mark.kind, condition.producer, condition.consumer) {
             (Kind::After, _, Some(from)) => pairs.push(Pair { from, to: mark.event, strict: true }),
             (Kind::Before, Some(to), _) => pairs.push(Pair { from: mark.event, to, strict: false }),
+            (Kind::Read, producer, consumer) => {
+                pairs.extend(producer.map(|from| Pair { from, to: mark.event, strict: true }));
+                pairs.extend(consumer.map(|to| Pair { from: mark.event, to, strict: false }));
+            }
             _ => unreachable!("38 has been judged"),
         }
     }

@@ -1,20 +1,20 @@
 //! The program: refusal 10, and what is printed.
 
 use super::text::lines;
-use super::{accepted, arranging, net, refuse, run, Refusal, LONGEST_INPUT, PROGRAM_ROOM};
+use super::{accepted, arranging, net, refuse, run, Refusal, Requests, LONGEST_INPUT, PROGRAM_ROOM};
 use crate::answer::Answer;
 
 /// Writes what the program prints, into a buffer that holds every answer.
-pub fn run(input: &[u8], out: &mut [u8; PROGRAM_ROOM]) -> Answer {
-    let text = printed(input).unwrap_or_else(|Refusal { number, spot }| format!("X,{number},{spot}\n"));
+pub fn run(requests: Requests, input: &[u8], out: &mut [u8; PROGRAM_ROOM]) -> Answer {
+    let text = printed(requests, input).unwrap_or_else(|Refusal { number, spot }| format!("X,{number},{spot}\n"));
     Answer::gives(super::write(out, &text), 0, 0)
 }
 
-fn printed(input: &[u8]) -> Result<String, Refusal> {
+fn printed(requests: Requests, input: &[u8]) -> Result<String, Refusal> {
     let (net, log) = parts(input)?;
-    let parsed = net::read(net)?;
+    let parsed = net::read(requests, net)?;
     let text = run::read(&parsed, log)?.record(&parsed).text();
-    let (_, record, order) = accepted(net, text.as_bytes())?;
+    let (_, record, order) = accepted(requests, net, text.as_bytes())?;
     let pairs = order.independent_pairs();
     let arranged = arranging::lines(&order).len();
     Ok(format!("{text}Z,{},{},{pairs},{arranged}\n", record.events.len(), record.conditions.len()))

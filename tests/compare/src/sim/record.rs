@@ -12,6 +12,8 @@ pub enum Kind {
     Before,
     /// `A`: the marked event is strictly after the condition's consumer.
     After,
+    /// `R`: the marked event reads the condition: strictly after its producer, not later than its consumer.
+    Read,
 }
 
 #[derive(Clone, Copy, Debug, PartialEq, Eq)]
@@ -47,7 +49,11 @@ impl Record {
             writeln!(text, "C,{},{producer},{consumer}", condition.place).unwrap();
         }
         for mark in &self.marks {
-            let letter = if mark.kind == Kind::Before { 'B' } else { 'A' };
+            let letter = match mark.kind {
+                Kind::Before => 'B',
+                Kind::After => 'A',
+                Kind::Read => 'R',
+            };
             writeln!(text, "{letter},{},{}", mark.condition, mark.event).unwrap();
         }
         text
@@ -68,7 +74,7 @@ enum Item {
 pub fn read(net: &Net, text: &[u8]) -> Result<Record, Refusal> {
     let mut reader = Reader::default();
     for line in lines(text) {
-        let number = match words(&line).and_then(item) {
+        let number = match words(&line).and_then(|words| item(net, words)) {
             Some(item) => reader.take(net, item),
             None => 31,
         };
@@ -79,7 +85,7 @@ pub fn read(net: &Net, text: &[u8]) -> Result<Record, Refusal> {
     Ok(reader.record)
 }
 
-fn item(words: Words) -> Option<Item> {
+fn item(net: &Net, words: Words) -> Option<Item> {
     match (words.letter, words.fields.as_slice()) {
         ('E', [Field::Number(transition)]) => Some(Item::Event(*transition)),
         ('C', [Field::Number(place), producer, consumer]) => {
@@ -88,6 +94,7 @@ fn item(words: Words) -> Option<Item> {
         }
         ('B', fields) => mark(Kind::Before, fields),
         ('A', fields) => mark(Kind::After, fields),
+        ('R', fields) if net.requests.read_arcs => mark(Kind::Read, fields),
         _ => None,
     }
 }
@@ -109,7 +116,9 @@ fn mark(kind: Kind, fields: &[Field]) -> Option<Item> {
 #[derive(Default)]
 struct Reader {
     record: Record,
+    /// The pairs of condition and event that a B or an A stands on, and those that an R stands on.
     marked: HashSet<(usize, usize)>,
+    read: HashSet<(usize, usize)>,
 }
 
 impl Reader {
@@ -157,6 +166,7 @@ impl Reader {
         if mark.condition >= record.conditions.len() || mark.event >= record.events.len() {
             return 33;
         }
-        if self.marked.insert((mark.condition, mark.event)) { 0 } else { 34 }
+        let already = if mark.kind == Kind::Read { &mut self.read } else { &mut self.marked };
+        if already.insert((mark.condition, mark.event)) { 0 } else { 34 }
     }
 }

@@ -20,6 +20,8 @@ struct Tally {
     watched: Vec<usize>,
     /// Conditions of a place that inhibits their own producer: no mark is due there.
     own: usize,
+    /// Tokens read, one for each event and place that it reads: a mark is due for each.
+    read: usize,
 }
 
 pub fn read(net: &Net, log: &[u8]) -> Result<Run, Refusal> {
@@ -53,7 +55,7 @@ fn counts(net: &Net, places: &[usize]) -> Vec<usize> {
 impl Tally {
     fn start(net: &Net) -> Tally {
         let none = vec![0; net.tokens.len()];
-        Tally { events: 0, marking: net.tokens.clone(), conditions: net.tokens.clone(), watched: none, own: 0 }
+        Tally { events: 0, marking: net.tokens.clone(), conditions: net.tokens.clone(), watched: none, own: 0, read: 0 }
     }
 
     /// Plays one step; 0, or the number from 22 to 27 with which it is refused.
@@ -67,13 +69,18 @@ impl Tally {
         let taken = ends(net, step, |transition| transition.inputs.iter().copied().collect());
         let made = ends(net, step, |transition| transition.outputs.iter().copied().collect());
         let watched = ends(net, step, |transition| transition.inhibitors.iter().copied().collect());
+        let read = ends(net, step, |transition| transition.reads.iter().copied().collect());
         if counts(net, &taken).iter().zip(&self.marking).any(|(wanted, tokens)| wanted > tokens) {
+            return 24;
+        }
+        if read.iter().any(|place| self.marking[*place] == 0) {
             return 24;
         }
         if watched.iter().any(|place| self.marking[*place] > 0) {
             return 25;
         }
         self.own += step.iter().map(|transition| own_outputs(&net.transitions[*transition])).sum::<usize>();
+        self.read += read.len();
         self.play(step.len(), &taken, &made, &watched);
         self.limit()
     }
@@ -99,7 +106,7 @@ impl Tally {
     /// The marks due in the record of the steps so far.
     fn marks(&self) -> usize {
         let pairs = self.conditions.iter().zip(&self.watched).map(|(conditions, events)| conditions * events);
-        pairs.sum::<usize>() - self.own
+        pairs.sum::<usize>() - self.own + self.read
     }
 }
 
@@ -122,7 +129,32 @@ impl Run {
         numbered.flat_map(|(number, step)| vec![number; step.len()]).collect()
     }
 
+    /// By event, then condition.
     fn marks(&self, net: &Net, events: &[usize], conditions: &[Condition]) -> Vec<Mark> {
+        let mut marks = self.inhibition(net, events, conditions);
+        marks.extend(self.reads(net, events, conditions));
+        // A stable sort: on one condition B and A come first.
+        marks.sort_by_key(|mark| (mark.event, mark.condition));
+        marks
+    }
+
+    /// By rank: the conditions of a place that are gone when a step begins are its first ones, as many as the events of the
+    /// steps before took from it; the one behind them is the lowest that holds.
+    fn reads(&self, net: &Net, events: &[usize], conditions: &[Condition]) -> Vec<Mark> {
+        let step_of = self.step_of();
+        let mut marks = Vec::new();
+        for (event, transition) in events.iter().enumerate() {
+            for place in &net.transitions[*transition].reads {
+                let took = |other: &usize| step_of[*other] < step_of[event] && net.transitions[events[*other]].inputs.contains(place);
+                let gone = (0..events.len()).filter(took).count();
+                let condition = (0..conditions.len()).filter(|condition| conditions[*condition].place == *place).nth(gone);
+                marks.push(Mark { kind: Kind::Read, condition: condition.expect("24 has been judged"), event });
+            }
+        }
+        marks
+    }
+
+    fn inhibition(&self, net: &Net, events: &[usize], conditions: &[Condition]) -> Vec<Mark> {
         let step_of = self.step_of();
         let mut marks = Vec::new();
         for (event, transition) in events.iter().enumerate() {

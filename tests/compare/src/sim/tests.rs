@@ -4,15 +4,15 @@ use crate::case::{difference, lent, run, Case, Operation};
 use crate::gen::{self, Size, SMALL};
 use crate::model::{log_text, ConditionPlan, MarkPlan, NetPlan, RecordPlan};
 use crate::rng::Rng;
-use crate::sim::{Simulator, EVENTS};
-use crate::vectors;
+use crate::sim::{BASE, EVENTS, SIMULATOR};
+use crate::{corpus, vectors};
 
 #[test]
 fn vectors_hold() {
     let wrong: Vec<String> = vectors::all()
         .iter()
         .filter_map(|vector| {
-            let found = difference(&run(&Simulator, &vector.case), &vector.outcome())?;
+            let found = difference(&run(&SIMULATOR, &vector.case), &vector.outcome())?;
             Some(format!("{}: {found}\n{}", vector.name, vector.case))
         })
         .collect();
@@ -38,11 +38,13 @@ struct Literal {
     record: RecordPlan,
     /// The step of each event.
     step_of: Vec<usize>,
+    /// Each event and condition that it reads.
+    read: Vec<(usize, usize)>,
 }
 
 impl Literal {
     fn play(net: &NetPlan, steps: &[Vec<usize>]) -> RecordPlan {
-        let mut literal = Literal { record: RecordPlan::default(), step_of: Vec::new() };
+        let mut literal = Literal { record: RecordPlan::default(), step_of: Vec::new(), read: Vec::new() };
         for (place, tokens) in net.tokens.iter().enumerate() {
             (0..*tokens).for_each(|_| literal.make(place, None));
         }
@@ -64,6 +66,10 @@ impl Literal {
             let event = self.record.events.len();
             self.record.events.push(*transition);
             self.step_of.push(number);
+            for place in (0..net.places()).filter(|p| net.reads[*transition] >> p & 1 == 1) {
+                let lowest = held.iter().find(|c| self.record.conditions[**c].place == place);
+                self.read.push((event, *lowest.expect("the step is enabled")));
+            }
             for place in (0..net.places()).filter(|p| net.inputs[*transition] >> p & 1 == 1) {
                 let conditions = &mut self.record.conditions;
                 let lowest = held.iter().find(|c| conditions[**c].place == place && conditions[**c].consumer.is_none());
@@ -78,6 +84,9 @@ impl Literal {
     fn marks(&mut self, net: &NetPlan) {
         for (event, transition) in self.record.events.iter().enumerate() {
             for (number, condition) in self.record.conditions.iter().enumerate() {
+                if self.read.contains(&(event, number)) {
+                    self.record.marks.push(MarkPlan { letter: 'R', condition: number, event });
+                }
                 if net.inhibitors[*transition] >> condition.place & 1 == 0 || condition.producer == Some(event) {
                     continue;
                 }
@@ -98,12 +107,12 @@ fn lines_are_longest_chains() {
         let mut plan = RecordPlan::read(&gen::build(&net.text(), &log_text(&steps)).expect("an enabled step sequence"));
         gen::change(&mut rng, &mut plan);
         let (net, record) = (net.text(), plan.text());
-        let mut checked = run(&Simulator, &Case::new(Operation::Check, &[&net, &record]));
+        let mut checked = run(&SIMULATOR, &Case::new(Operation::Check, &[&net, &record]));
         if !checked.answer.accepted() {
             continue;
         }
         let levels = levels(checked.answer.a as usize, lent(&mut checked.bytes));
-        let mut arranged = run(&Simulator, &Case::new(Operation::Arrange, &[&net, &record]));
+        let mut arranged = run(&SIMULATOR, &Case::new(Operation::Arrange, &[&net, &record]));
         let text = &lent(&mut arranged.bytes)[..arranged.answer.a as usize];
         assert_eq!(String::from_utf8_lossy(text), levels_text(&levels), "round {round}");
         long += (arranged.answer.b > 4) as usize;
@@ -125,4 +134,38 @@ fn levels_text(levels: &[usize]) -> String {
     let lines = levels.iter().max().map_or(0, |last| last + 1);
     let line = |level: usize| (0..levels.len()).filter(|event| levels[*event] == level).map(|event| format!(",{event}")).collect::<String>();
     (0..lines).map(|level| format!("G{}\n", line(level))).collect()
+}
+
+/// Where no text makes use of a request, the simulator with the requests turned off gives the same outcome as with them.
+#[test]
+fn requests_turned_off_change_nothing_else() {
+    let vectors = vectors::all().into_iter().map(|vector| vector.case);
+    let generated = (0..6_000).flat_map(|round| gen::base_round(&mut Rng::for_round(15, round)));
+    let mut same = 0;
+    for case in vectors.chain(corpus::all()).chain(generated).filter(|case| case.of_document_01()) {
+        let found = difference(&run(&SIMULATOR, &case), &run(&BASE, &case));
+        assert!(found.is_none(), "{}\n{case}", found.unwrap_or_default());
+        same += 1;
+    }
+    assert!(same > 100_000, "{same} cases of document 01");
+}
+
+/// The generators without read arcs make no line of a request but by damage.
+#[test]
+fn base_rounds_are_of_document_01() {
+    let cases = (0..6_000).flat_map(|round| gen::base_round(&mut Rng::for_round(15, round)));
+    let (base, other): (Vec<Case>, Vec<Case>) = cases.partition(|case| case.of_document_01());
+    assert!(base.len() > 50 * other.len(), "{} cases of document 01 and {} others", base.len(), other.len());
+}
+
+/// Turned off, an R line is malformed, in a net and in a record.
+#[test]
+fn requests_turned_off_know_no_reads() {
+    let reading = vectors::Text::from("P,1 P,1 T I,0,0 O,0,0 R,1,0").0;
+    let answer = |subject, operation, texts: &[&[u8]]| run(subject, &Case::new(operation, texts)).refusal();
+    assert_eq!(answer(&SIMULATOR, Operation::ReadNet, &[&reading]), (0, 0));
+    assert_eq!(answer(&BASE, Operation::ReadNet, &[&reading]), (11, 6));
+    let record = vectors::Text::from("C,0,-,- R,0,0").0;
+    assert_eq!(answer(&SIMULATOR, Operation::Check, &[b"P,1\n", &record]), (33, 2));
+    assert_eq!(answer(&BASE, Operation::Check, &[b"P,1\n", &record]), (31, 2));
 }

@@ -60,7 +60,7 @@ fn show_refused(net: &[u8], log: &[u8], refusal: &Refusal) {
     let Refusal { number, spot } = *refusal;
     println!("refused: {number}, spot {spot}");
     let (choice, name) = match number {
-        11..=14 => (0, "net"),
+        11..=14 | 51 => (0, "net"),
         21..=27 => (1, "log"),
         _ => return,
     };
