@@ -18,6 +18,7 @@ use Rattle.spec.specs.Checking.{Checked, readRecord, checkedOf, check}
 use Rattle.spec.specs.Arranging.{Arranged, arrangementBytes, arrangedOf, arrange}
 use Rattle.spec.specs.Replaying.{Replayed, readArrangement, replayedOf, replay}
 use Rattle.spec.specs.Runs.{EnabledSequence, KeepsOrder, WithinLimits, logBytes}
+use Rattle.spec.specs.Endings.{plainEnds}
 
 -- ---- of any text: what is accepted is the text of such a thing
 
@@ -52,18 +53,19 @@ pub record IsProcess (N : Net) (R : RunRecord) : Type 0 where
   pub wellFormed : WellFormed N R
   pub process : Process N R
 
+-- 2026-02: each line of the text may end in byte 10 or in 13 and 10; it has no byte 13 elsewhere, as what is written has none
 pub record Exactness : Type 0 where
-  pub reads : (text : List ℕ) (N : Net) → (readNet text ≡ gives N) ↔ IsNet text N
+  pub reads : (text : List ℕ) (N : Net) → (readNet text ≡ gives N) ↔ IsNet (plainEnds text) N
   pub builds : (net : List ℕ) (N : Net) → readNet net ≡ gives N
       → (log bytes : List ℕ) (room : ℕ) → 48256 ≤ room
-      → (build net log room ≡ gives bytes) ↔ IsBuilt N log bytes
+      → (build net log room ≡ gives bytes) ↔ IsBuilt N (plainEnds log) bytes
   pub checks : (net : List ℕ) (N : Net) → readNet net ≡ gives N
       → (text : List ℕ) (R : RunRecord)
-      → (readRecord bench N text ≡ gives R) ↔ ((text ≡ recordBytes R) × IsProcess N R)
+      → (readRecord bench N text ≡ gives R) ↔ ((plainEnds text ≡ recordBytes R) × IsProcess N R)
   pub replays : (net : List ℕ) (N : Net) → readNet net ≡ gives N
       → (text : List ℕ) (R : RunRecord) → readRecord bench N text ≡ gives R
       → (arrangement : List ℕ) (lines : List (List ℕ))
-      → (readArrangement R arrangement ≡ gives lines) ↔ ((arrangement ≡ arrangementBytes lines) × KeepsOrder R lines)
+      → (readArrangement R arrangement ≡ gives lines) ↔ ((plainEnds arrangement ≡ arrangementBytes lines) × KeepsOrder R lines)
 
 -- ---- of each operation, and of a given list of declarations, sequence, record or arrangement. "With an accepted net
 -- and buffers of the stated sizes" its text is accepted exactly when it is what it should be, and what is then given
@@ -100,13 +102,13 @@ IsTextOf {A} print text = (x : A) × (text ≡ print x)
 
 pub record NothingElse : Type 0 where
   pub builds : (net log : List ℕ) (room : ℕ) (bytes : List ℕ) → build net log room ≡ gives bytes
-      → (48256 ≤ room) × IsAccepted net × IsTextOf logBytes log
+      → (48256 ≤ room) × IsAccepted net × IsTextOf logBytes (plainEnds log)
   pub checks : (net text : List ℕ) (room : ℕ) (c : Checked) → check net text room ≡ gives c
-      → (16384 ≤ room) × IsAccepted net × IsTextOf recordBytes text
+      → (16384 ≤ room) × IsAccepted net × IsTextOf recordBytes (plainEnds text)
   pub arranges : (net text : List ℕ) (room : ℕ) (a : Arranged) → arrange net text room ≡ gives a
-      → (768 ≤ room) × IsAccepted net × IsTextOf recordBytes text
+      → (768 ≤ room) × IsAccepted net × IsTextOf recordBytes (plainEnds text)
   pub replays : (net text arrangement : List ℕ) (room : ℕ) (x : Replayed) → replay net text arrangement room ≡ gives x
-      → (4128 ≤ room) × IsAccepted net × IsTextOf recordBytes text × IsTextOf arrangementBytes arrangement
+      → (4128 ≤ room) × IsAccepted net × IsTextOf recordBytes (plainEnds text) × IsTextOf arrangementBytes (plainEnds arrangement)
 
 -- ---- two with the same text are the same, where their numbers have at most four digits
 

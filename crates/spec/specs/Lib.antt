@@ -25,6 +25,7 @@ pub mod Demand
 pub mod Refusals
 pub mod BeforeReads
 pub mod WithoutReads
+pub mod Endings
 pub mod Quoted
 pub mod Opening
 pub mod Cases
@@ -32,3 +33,4 @@ pub mod Traps
 pub mod RefusalOrder
 pub mod Bounds
 pub mod ReadArcs
+pub mod CarriageReturns

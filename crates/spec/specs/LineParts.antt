@@ -6,7 +6,7 @@ use mathlib.Core.List.{List, [], _∷_}
 use lib.ListN.{length, getElem?}
 use lib.Dec.{eqb, ltb}
 use Rattle.spec.specs.Answer.{Answer, gives, refuses, _>>_, refuse_at_when_, found}
-use Rattle.spec.specs.Text.{Line, linesOf}
+use Rattle.spec.specs.Text.{Line, rawLinesOf, withoutReturn}
 
 -- "a part of whichever of the two texts was chosen": of which (0 the net text, 1 the second), where it starts in it,
 -- and its bytes
@@ -15,12 +15,13 @@ pub record Part : Type 0 where
   pub start : ℕ
   pub bytes : List ℕ
 
--- lines as parts of text t, "without byte 10": the first starts at s, and the next one behind the byte 10 that ends it
+-- lines as parts of text t, each "without its ending, 10 or 13 and 10; any other byte 13 in it is shown" (2026-02): the
+-- first starts at s, and the next one behind the byte 10 that ends it
 unfoldable pub partsFrom : ℕ → ℕ → List Line → List Part
 partsFrom t s [] = []
 partsFrom t s (l ∷ ls) =
     let next : ℕ = (s + length (l .bytes)) + 1 in
-    record { text = t; start = s; bytes = l .bytes } ∷ partsFrom t next ls
+    record { text = t; start = s; bytes = withoutReturn l .bytes } ∷ partsFrom t next ls
 
 -- the line with a number: lines are numbered from 1
 unfoldable pub lineAt : List Part → ℕ → Option Part
@@ -36,7 +37,7 @@ chosenText net second choice = cond (eqb choice 0) net second
 unfoldable pub refusedLine : List ℕ → List ℕ → ℕ → ℕ → Answer Part
 refusedLine net second choice k = do
   refuse 46 at k when ltb 1 choice
-  found 46 k (lineAt (partsFrom choice 0 (linesOf (chosenText net second choice))) k)
+  found 46 k (lineAt (partsFrom choice 0 (rawLinesOf (chosenText net second choice))) k)
 
 -- on 46 "the part is empty, at the start of the net text."
 unfoldable pub partOf : Answer Part → Part

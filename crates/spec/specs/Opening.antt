@@ -3,7 +3,7 @@
 use Rattle.spec.specs.Lists.{from, upTo, any, every, count, keep, first, sumOf, flat, asCount, sum, greatest, lowest, isIn}
 use Rattle.spec.specs.Answer.{_>>=_, _>>_, refuse_at_when_, refuse_at?_, found, returned}
 use Rattle.spec.specs.Classes.{alike}
-use Rattle.spec.specs.Text.{named, inDigits, classOf, digitOf, classAndDigit, isA, onFirst, linesOf, grow, pieces, isOnly, isDash, needlessZero, isNumber, valueFrom, numberIn, byLines, digitByte, digits, fieldBytes, fieldsBytes, lineWith}
+use Rattle.spec.specs.Text.{named, inDigits, classOf, digitOf, classAndDigit, isA, onFirst, rawLinesOf, butReturn, withoutReturn, linesOf, grow, pieces, isOnly, isDash, needlessZero, isNumber, valueFrom, numberIn, byLines, digitByte, digits, fieldBytes, fieldsBytes, lineWith}
 use Rattle.spec.specs.Forms.{hasLetter, fieldsOf, isOf, areOf, isLine, isListLine, eventAt, numberAt, numbersOf}
 use Rattle.spec.specs.Net.{isArc, joined, takes, makes, inhibits, reads, readAndConsumed, withPlace, withTransition, withArc, addPlace, addTransition, addArc, addLine, emptyNet, lacking, whole, netOf, readNet}
 use Rattle.spec.specs.NetText.{declarationLine, netBytes, declare, declareAll}
@@ -31,7 +31,7 @@ unfolding _>>=_ _>>_ refuse_at_when_ refuse_at?_ found returned
 openAnswer = tt
 
 unfoldable openText : Unit {0}
-unfolding alike named inDigits classOf digitOf classAndDigit isA onFirst linesOf grow pieces isOnly isDash needlessZero isNumber valueFrom numberIn byLines digitByte digits fieldBytes fieldsBytes lineWith
+unfolding alike named inDigits classOf digitOf classAndDigit isA onFirst rawLinesOf butReturn withoutReturn linesOf grow pieces isOnly isDash needlessZero isNumber valueFrom numberIn byLines digitByte digits fieldBytes fieldsBytes lineWith
 openText = tt
 
 unfoldable openForms : Unit {0}

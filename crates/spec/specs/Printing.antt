@@ -20,7 +20,7 @@ pub record NetAndLog : Type 0 where
   pub net : List Line
   pub log : List Line
 
--- the line `=`; like every line it is ended by byte 10
+-- the line `=`; like every line it is ended, by byte 10 or by 13 and 10
 unfoldable pub isParting : Line → Bool
 isParting l = l .ended && eqb (length (l .bytes)) 1 && eqb (getD (l .bytes) 0 0) (code "=")
 

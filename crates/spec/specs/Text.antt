@@ -3,14 +3,14 @@ use Prim.Native.Nat.{ℕ, zero, suc, _+_, _-_, _*_, _/_, _%_}
 use Prim.Native.Char.{Char, code}
 use mathlib.Core.Bool.{Bool, true, false, not, _&&_, cond}
 use mathlib.Core.Option.{Option, none, some}
-use mathlib.Core.List.{List, [], _∷_, _++_}
+use mathlib.Core.List.{List, [], _∷_, _++_, map}
 use lib.ListN.{length, getD}
 use lib.Dec.{eqb, ltb, leb}
 use Rattle.spec.specs.Lists.{every}
 use Rattle.spec.specs.Answer.{Answer, gives, refuses, _>>=_}
 use Rattle.spec.specs.Classes.{alike}
 use Rattle.spec.specs.declared.Class.{Class}
-use Rattle.spec.specs.declared.Class.the-variants.{Digit, Comma, Dash as DashByte, LineEnd, LetterP, LetterT, LetterI, LetterO, LetterH, LetterS, LetterE, LetterC, LetterB, LetterA, LetterG, LetterR, Foreign}
+use Rattle.spec.specs.declared.Class.the-variants.{Digit, Comma, Dash as DashByte, LineEnd, LetterP, LetterT, LetterI, LetterO, LetterH, LetterS, LetterE, LetterC, LetterB, LetterA, LetterG, LetterR, Return, Foreign}
 use Rattle.spec.specs.declared.ByteClass.{ByteClass}
 use Rattle.spec.specs.declared.Field.{Field}
 use Rattle.spec.specs.declared.Field.the-variants.{Number, Dash}
@@ -27,6 +27,8 @@ classNames =
     ∷ (code "G", LetterG)
     -- 2026-01: of a net and of a record
     ∷ (code "R", LetterR)
+    -- 2026-02: it can stand in front of a line end; no other place allows it, as if it were foreign
+    ∷ (13, Return)
     ∷ []
 
 -- the class that a list names for a byte
@@ -64,9 +66,23 @@ unfoldable pub onFirst : ℕ → List Line → List Line
 onFirst b [] = record { bytes = b ∷ []; ended = false } ∷ []
 onFirst b (l ∷ ls) = record { bytes = b ∷ l .bytes; ended = l .ended } ∷ ls
 
+-- what stands in front of each byte 10, and the piece behind the last
+unfoldable pub rawLinesOf : List ℕ → List Line
+rawLinesOf [] = []
+rawLinesOf (b ∷ bs) = cond (isA LineEnd b) (record { bytes = []; ended = true } ∷ rawLinesOf bs) (onFirst b (rawLinesOf bs))
+
+-- 2026-02: "Both line endings are accepted, mixed or not. A byte 13 elsewhere is malformed.": in front of the byte 10
+-- that ends a line, one byte 13 belongs to the ending; anywhere else it is a byte of the line, and no form has one
+unfoldable pub butReturn : List ℕ → List ℕ
+butReturn [] = []
+butReturn (b ∷ []) = cond (isA Return b) [] (b ∷ [])
+butReturn (b ∷ c ∷ bs) = b ∷ butReturn (c ∷ bs)
+
+unfoldable pub withoutReturn : Line → Line
+withoutReturn l = cond (l .ended) (record { bytes = butReturn (l .bytes); ended = true }) l
+
 unfoldable pub linesOf : List ℕ → List Line
-linesOf [] = []
-linesOf (b ∷ bs) = cond (isA LineEnd b) (record { bytes = []; ended = true } ∷ linesOf bs) (onFirst b (linesOf bs))
+linesOf text = map withoutReturn (rawLinesOf text)
 
 -- ---- "its fields in fixed order, parted by commas, no quoting"
 

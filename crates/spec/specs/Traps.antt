@@ -40,9 +40,9 @@ byteClasses =
     same (map (λ b. classCode (classOf b)) (ascii "09,-PTIOHSECBAGR")) (0 ∷ 0 ∷ 1 ∷ 2 ∷ 4 ∷ 5 ∷ 6 ∷ 7 ∷ 8 ∷ 9 ∷ 10 ∷ 11 ∷ 12 ∷ 13 ∷ 14 ∷ 15 ∷ [])
     && eqb (classCode (classOf 10)) 3
     -- Z and X are only printed, `=` parts the program's input
-    && same (map (λ b. classCode (classOf b)) (ascii "ZX=pt/: ")) (replicate 8 16)
-    -- of the 256 bytes all are foreign but ten digits, twelve letters, the comma, the dash and the line end
-    && eqb (count (isA Foreign) (upTo 256)) 231
+    && same (map (λ b. classCode (classOf b)) (ascii "ZX=pt/: ")) (replicate 8 17)
+    -- of the 256 bytes all are foreign but ten digits, twelve letters, the comma, the dash, the line end and the return
+    && eqb (count (isA Foreign) (upTo 256)) 230
     -- the value of a byte that is no digit is 0
     && same (map digitOf (ascii "0189A,")) (0 ∷ 1 ∷ 8 ∷ 9 ∷ 0 ∷ 0 ∷ [])
 
@@ -75,11 +75,10 @@ texts =
     && refused 11 2 (readNet (asText "P,1  T"))
     && refused 11 1 (readNet (asText "P,"))
     && refused 11 1 (readNet (asText "T,"))
-    -- a dash, a lower letter, a space, byte 13, a sign, a letter of another text
+    -- a dash, a lower letter, a space, a sign, a letter of another text
     && refused 11 1 (readNet (asText "P,-"))
     && refused 11 1 (readNet (asText "p,1"))
     && refused 11 1 (readNet (ascii "P, 1" ++ 10 ∷ []))
-    && refused 11 1 (readNet (ascii "P,1" ++ 13 ∷ 10 ∷ []))
     && refused 11 1 (readNet (asText "P,+1"))
     && refused 11 1 (readNet (asText "S,0"))
     -- "Empty text has no lines."

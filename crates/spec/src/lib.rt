@@ -1,6 +1,6 @@
 // The values that the definitions and the code share. There is nothing to run here.
 
-// What a byte is: a digit, a comma, a dash, a line end, a letter in use or foreign.
+// What a byte is: a digit, a comma, a dash, a line end, a letter in use, a carriage return or foreign.
 pub enum Class {
     Digit,
     Comma,
@@ -18,6 +18,7 @@ pub enum Class {
     LetterA,
     LetterG,
     LetterR,
+    Return,
     Foreign,
 }
 
