@@ -1,12 +1,13 @@
 -- The third demand of calls, from the third demand of the definitions: of an accepted record each call's answer is
 -- given, so that its numbers are the answer's values and its buffer starts with what the answer writes (`Given`).
-use mathlib.Core.Path.{_≡_, sym, ap, _∙_, subst}
+use mathlib.Core.Path.{_≡_, refl, sym, ap, _∙_}
 use Prim.Native.Nat.{ℕ, _+_, _-_, _*_, _≤_, _<_}
 use native.Mathlib.Nat.{le-of-eq, le-trans}
 use native.Mathlib.Omega.{arith}
 use mathlib.Core.List.{List}
 use lib.ListN.{length, getD, take, drop, length-append}
 use Rattle.spec.specs.Answer.{Answer, gives, refuses, returned}
+use Rattle.spec.specs.Text.{linesOf}
 use Rattle.spec.specs.Net.{Net, readNet}
 use Rattle.spec.specs.Record.{RunRecord, bench}
 use Rattle.spec.specs.Building.{build}
@@ -14,7 +15,9 @@ use Rattle.spec.specs.Checking.{readRecord}
 use Rattle.spec.specs.Arranging.{arrangementBytes}
 use Rattle.spec.specs.Buffer.{over, leaves, buildLeaves, checkLeaves, replayLeaves, arrangeLeaves}
 use Rattle.spec.specs.Demand.{OrderOfRuns}
-use Rattle.spec.specs.Runs.{KeepsOrder}
+use Rattle.spec.specs.Runs.{KeepsOrder, logBytes}
+use Rattle.runs.specs.Endings.{build-by-lines, replay-by-lines}
+use Rattle.runs.specs.Written.{log-lines-are, arrangement-lines-are}
 use Rattle.runs.specs.Demand.{demand}
 use Rattle.runs.specs.Accepted.{accepted-record}
 use Rattle.runs.specs.Sizes.{lines-few}
@@ -91,6 +94,12 @@ module _ (net : List ℕ) (N : Net) (hN : readNet net ≡ gives N) (text : List 
 
 -- ---- the calls that were made
 
+-- replay goes by the lines of the arrangement
+replayed-by-lines : (net text a b : List ℕ) → linesOf a ≡ linesOf b → {old new : List ℕ} {r : Numbers} → ReplayCall net text a old r new → ReplayCall net text b old r new
+replayed-by-lines net text a b e {old} c =
+    let same = replay-by-lines net net text text refl refl (length old) a b e in
+    record { answer = c .answer ∙ ap (λ x. asNumbers (returned replayValues x)) same; buffer = c .buffer ∙ ap (λ x. replayLeaves x old) same }
+
 -- an accepted net is counted
 net-counted : (net : List ℕ) {N : Net} {r : Numbers} → readNet net ≡ gives N → r ≡ netReturns net → NetCounted N r
 net-counted net {N} {r} h e =
@@ -105,7 +114,7 @@ module _ (net text arrangement : List ℕ) {old new : Buffers} (r : Calls) where
     checks = checks net N hN text R hR (S .table) c;
     arranges = arranges net N hN text R hR (S .out) a;
     enabled = demand .order-of-runs net N hN text R hR .kept .enabled;
-    replays = λ lines K q. replays net N hN text R hR lines K (S .rows) (subst (λ (t : List ℕ). ReplayCall net text t (old .rows) (r .replay) (new .rows)) q p);
+    replays = λ lines K q. replays net N hN text R hR lines K (S .rows) (replayed-by-lines net text arrangement (arrangementBytes lines) (arrangement-lines-are arrangement lines q) p);
     one-end = demand .order-of-runs net N hN text R hR .kept .one-end;
   }
 
@@ -120,6 +129,12 @@ build-within net log old {r} {new} c = go (build net log (length old)) (c .answe
     go (gives bytes) e b = omega (arith, ap (λ (z : Numbers). z .a) e, ap length b, length-append bytes (drop (length bytes) old))
     go (refuses n s) e b = omega (arith, ap (λ (z : Numbers). z .a) e)
 
+-- building goes by the lines of the log
+built-by-lines : (net a b : List ℕ) → linesOf a ≡ linesOf b → {old new : List ℕ} {r : Numbers} → BuildCall net a old r new → BuildCall net b old r new
+built-by-lines net a b e {old} c =
+    let same = build-by-lines net net a b refl e (length old) in
+    record { answer = c .answer ∙ ap (λ x. asNumbers (returned byteValues x)) same; buffer = c .buffer ∙ ap (λ x. buildLeaves x old) same }
+
 -- the code takes a part from 0 on
 whole : (n : ℕ) → n - 0 ≡ n
 whole n = omega arith
@@ -131,7 +146,7 @@ module _ (net log arrangement room : List ℕ) {written : List ℕ} {old new : B
   run-promised c O N steps hN e E F h S =
       let B = demand .runs-recorded net N hN steps E F in
       let g = B .builds (length room) h in
-      let d = subst (λ (t : List ℕ). BuildCall net t room (r .build) written) e c in
+      let d = built-by-lines net log (logBytes steps) (log-lines-are log steps e) c in
       let q = numbers-given byteValues (λ x. x) g (d .answer) in
       let reads = ap (readRecord bench N) (start-is (B .bytes) room (left-given byteValues (λ x. x) g room (d .buffer)) (ap (λ (z : Numbers). z .a) q)) ∙ B .accepts in
       record {

@@ -13,6 +13,7 @@ use Rattle.spec.specs.Checking.{readRecord}
 use Rattle.spec.specs.Arranging.{arrangementBytes}
 use Rattle.spec.specs.Runs.{EnabledSequence, KeepsOrder, WithinLimits, markingAt, asSteps, eventLines, logBytes}
 use Rattle.spec.specs.Runs.{TwoEvents, StandsEarlier, InEvery, InNone}
+use Rattle.spec.specs.Endings.{plainEnds}
 use Rattle.spec.specs.declared.Numbers.{Numbers}
 use Rattle.demands.specs.declared.Calls.{Calls}
 use Rattle.demands.specs.declared.RunCalls.{RunCalls}
@@ -68,15 +69,15 @@ pub record StatedSizes (b : Buffers) : Type 0 where
   pub out : 768 ≤ length (b .out)
   pub rows : 4128 ≤ length (b .rows)
 
--- The calls on the net text of N and the record text of R, and on any text of an arrangement; `new` is what they
--- left. "Every arrangement that keeps the order is, read as transitions, an enabled step sequence of the net; replay
+-- The calls on the net text of N and the record text of R, and on any text of an arrangement, whichever endings its
+-- lines have; `new` is what they left. "Every arrangement that keeps the order is, read as transitions, an enabled step sequence of the net; replay
 -- writes that sequence's markings for its lines, and all such arrangements end in the same marking."
 pub record OrderOfCalls (arrangement : List ℕ) (N : Net) (R : RunRecord) (r : Calls) (new : Buffers) : Type 0 where
   pub net : NetCounted N (r .net)
   pub checks : Checked R (r .check) (new .table)
   pub arranges : Arranged R (r .arrange) (new .out)
   pub enabled : (lines : List (List ℕ)) → KeepsOrder R lines → EnabledSequence N (asSteps R lines)
-  pub replays : (lines : List (List ℕ)) → KeepsOrder R lines → arrangement ≡ arrangementBytes lines
+  pub replays : (lines : List (List ℕ)) → KeepsOrder R lines → plainEnds arrangement ≡ arrangementBytes lines
       → Replayed N R lines (r .replay) (new .rows)
   pub one-end : (lines others : List (List ℕ)) → KeepsOrder R lines → KeepsOrder R others
       → markingAt N (asSteps R lines) (length lines) ≡ markingAt N (asSteps R others) (length others)
@@ -102,6 +103,6 @@ pub record RunOfCalls (arrangement : List ℕ) (N : Net) (steps : List (List ℕ
 -- "For every enabled step sequence within the limits"
 abbrev pub RunPromised : List ℕ → List ℕ → List ℕ → List ℕ → Buffers → RunCalls → List ℕ → Buffers → Type 0
 RunPromised net log arrangement room old r written new =
-    (N : Net) (steps : List (List ℕ)) → readNet net ≡ gives N → log ≡ logBytes steps
+    (N : Net) (steps : List (List ℕ)) → readNet net ≡ gives N → plainEnds log ≡ logBytes steps
     → EnabledSequence N steps → WithinLimits N steps
     → 48256 ≤ length room → StatedSizes old → RunOfCalls arrangement N steps r written new

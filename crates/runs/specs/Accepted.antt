@@ -14,6 +14,7 @@ use Rattle.spec.specs.Lists.{In, count}
 use Rattle.spec.specs.Record.{RunRecord, Mark, noCondition, transitionOf, conditionAt, guardSlot, readSlot, isAt, recordBytes}
 use Rattle.spec.specs.Process.{Process, WellFormed, readIn}
 use Rattle.spec.specs.Checking.{enterLine, emptyRecord, obeys, readRecord}
+use Rattle.spec.specs.Endings.{plainEnds}
 use Rattle.spec.specs.declared.Limits.{Limits}
 use Rattle.lists.specs.Laws.{count-le, count-none, one-le, at-in}
 use Rattle.runs.specs.MarkSlots.{slots-few, not-at, at-reading}
@@ -47,13 +48,13 @@ module _ (N : Net) (R : RunRecord) (W : WellFormed N R) (P : Process N R) where
   ]
 
 module _ (lim : Limits) (N : Net) where
-  pub accepted-record : (text : List ℕ) (R : RunRecord) → readRecord lim N text ≡ gives R → IsRecord lim N text R × Process N R
+  pub accepted-record : (text : List ℕ) (R : RunRecord) → readRecord lim N text ≡ gives R → IsRecord lim N (plainEnds text) R × Process N R
   unfolding readRecord
   accepted-record text R h =
       let z = of-bind (byLines (enterLine lim N) 1 (linesOf text) emptyRecord) _ h in
       let y = of-seq (obeys N (z .0)) (gives (z .0)) (z .2) in
       let I = record-text lim N text (z .0) (z .1) in
-      subst (λ R. IsRecord lim N text R × Process N R) (of-gives (y .2)) (I, obeys-process N (z .0) (I .wellFormed) (I .once guardSlot) (y .1))
+      subst (λ R. IsRecord lim N (plainEnds text) R × Process N R) (of-gives (y .2)) (I, obeys-process N (z .0) (I .wellFormed) (I .once guardSlot) (y .1))
 
   pub record-accepted : Printed lim N → (R : RunRecord) → WellFormed N R → Fits lim R → Process N R → readRecord lim N (recordBytes R) ≡ gives R
   unfolding readRecord _>>=_ _>>_

@@ -11,8 +11,8 @@ use Rattle.spec.specs.Lists.{every}
 use Rattle.spec.specs.Text.{classNames, named, inDigits, classOf, digitOf, isA, digitByte}
 use Rattle.spec.specs.Classes.{classCode, alike}
 use Rattle.spec.specs.declared.Class.{Class}
-use Rattle.spec.specs.declared.Class.the-variants.{Digit, Comma, Dash as DashByte, LineEnd, Foreign}
-use Rattle.lists.specs.Laws.{clash, and-true, and-three, true-and, not-is-true}
+use Rattle.spec.specs.declared.Class.the-variants.{Digit, Comma, Dash as DashByte, LineEnd, Return, Foreign}
+use Rattle.lists.specs.Laws.{clash, and-true, and-three, and-four, true-and, not-is-true}
 
 -- a test that Foreign passes at every byte, and each name of a list, the named class passes
 named-passes : (p : ℕ → Class → Bool) → ((b : ℕ) → p b Foreign ≡ true) → (b : ℕ) (ns : List (ℕ × Class)) → every (λ n. p (n .0) (n .1)) ns ≡ true → p b (named b ns) ≡ true
@@ -104,18 +104,24 @@ pub lineEnd-is : (b : ℕ) → isA LineEnd b ≡ true → b ≡ 10
 unfolding alone every alike classOf inDigits named
 lineEnd-is = one-byte 10 refl
 
+pub return-is : (b : ℕ) → isA Return b ≡ true → b ≡ 13
+unfolding alone every alike classOf inDigits named
+return-is = one-byte 13 refl
+
 -- ---- letters
 
--- the letter c is in use: its class is that of this byte alone, which parts no fields and ends no line
+-- the letter c is in use: its class is that of this byte alone, which parts no fields and ends no line, nor belongs to an
+-- ending
 pub record Letter (c : Char) : Type 0 where
   pub only : (b : ℕ) → isA (classOf (code c)) b ≡ true → b ≡ code c
   pub noComma : isA Comma (code c) ≡ false
   pub noEnd : isA LineEnd (code c) ≡ false
+  pub noReturn : isA Return (code c) ≡ false
 
-letter : (c : Char) → alone (code c) && not (isA Comma (code c)) && not (isA LineEnd (code c)) ≡ true → Letter c
+letter : (c : Char) → alone (code c) && not (isA Comma (code c)) && not (isA LineEnd (code c)) && not (isA Return (code c)) ≡ true → Letter c
 letter c h =
-    let z = and-three (alone (code c)) (not (isA Comma (code c))) (not (isA LineEnd (code c))) h in
-    record { only = one-byte (code c) (z .0); noComma = not-is-true _ (z .1); noEnd = not-is-true _ (z .2) }
+    let z = and-four (alone (code c)) (not (isA Comma (code c))) (not (isA LineEnd (code c))) (not (isA Return (code c))) h in
+    record { only = one-byte (code c) (z .0); noComma = not-is-true _ (z .1); noEnd = not-is-true _ (z .2); noReturn = not-is-true _ (z .3) }
 
 pub P-letter : Letter "P"
 unfolding alone every isA alike classOf inDigits named

@@ -9,6 +9,7 @@ use mathlib.Core.List.{List, map}
 use lib.ListN.{length, getD, length-map, length-replicate}
 use lib.Dec.{leb}
 use borrow.Author.Tests.{lt-ltb, le-leb}
+use Rattle.spec.specs.Text.{linesOf}
 use Rattle.spec.specs.Lists.{upTo}
 use Rattle.spec.specs.Answer.{gives}
 use Rattle.spec.specs.Net.{Net, readNet}
@@ -34,6 +35,8 @@ use Rattle.runs.specs.Accepted.{record-accepted}
 use Rattle.runs.specs.NetLimits.{net-limits}
 use Rattle.runs.specs.Exactness.{exactness, printed, within-fits}
 use Rattle.runs.specs.Operations.{operations}
+use Rattle.runs.specs.Endings.{check-by-lines, arrange-by-lines, replay-by-lines}
+use Rattle.runs.specs.Written.{record-lines-are}
 
 -- ---- of an accepted record
 
@@ -53,8 +56,9 @@ related-weak false false h = (λ s. absurd (none s), λ q. Laws.clash q refl)
     none (inr e) = omega arith
 
 module _ (net : List ℕ) (N : Net) (hN : readNet net ≡ gives N) (text : List ℕ) (R : RunRecord) (hR : readRecord bench N text ≡ gives R) where
-  written : text ≡ recordBytes R
-  written = exactness .checks net N hN text R .0 hR .0
+  -- the text has the lines of the record that is written
+  lines-are : linesOf text ≡ linesOf (recordBytes R)
+  lines-are = record-lines-are text R (exactness .checks net N hN text R .0 hR .0)
 
   I : IsProcess N R
   I = exactness .checks net N hN text R .0 hR .1
@@ -67,7 +71,7 @@ module _ (net : List ℕ) (N : Net) (hN : readNet net ≡ gives N) (text : List 
 
   writes : (room : ℕ) → 768 ≤ room → arrange net text room ≡ gives (record { lines = length (arrangedLines (levels R)); bytes = arrangementBytes (arrangedLines (levels R)) })
   unfolding arrangedOf
-  writes room h = rw (written, arranged-count R) (operations .arranges net N hN R room h (arrangedOf R) .1 (I, refl))
+  writes room h = arrange-by-lines net net text (recordBytes R) refl lines-are room ∙ rw (arranged-count R) (operations .arranges net N hN R room h (arrangedOf R) .1 (I, refl))
 
   -- ---- replay
 
@@ -81,7 +85,7 @@ module _ (net : List ℕ) (N : Net) (hN : readNet net ≡ gives N) (text : List 
 
   module _ (lines : List (List ℕ)) (K : KeepsOrder R lines) where
     plays : (room : ℕ) → 4128 ≤ room → replay net text (arrangementBytes lines) room ≡ gives (replayedOf N R lines)
-    plays room h = rw written (operations .replays net N hN R lines room h (replayedOf N R lines) .1 (I, K, refl))
+    plays room h = replay-by-lines net net text (recordBytes R) refl lines-are room (arrangementBytes lines) (arrangementBytes lines) refl ∙ (operations .replays net N hN R lines room h (replayedOf N R lines) .1 (I, K, refl))
 
     row-count : (k p : ℕ) → k ≤ length lines → p < 32 → getD (replayRow N R lines k) p 0 ≡ tokensAt (markingAt N (asSteps R lines) k) p
     unfolding replayRow
@@ -102,7 +106,7 @@ module _ (net : List ℕ) (N : Net) (hN : readNet net ≡ gives N) (text : List 
   -- ---- the check's table
 
   checks : (room : ℕ) → 16384 ≤ room → check net text room ≡ gives (checkedOf R)
-  checks room h = rw written (operations .checks net N hN R room h (checkedOf R) .1 (I, refl))
+  checks room h = check-by-lines net net text (recordBytes R) refl lines-are room ∙ (operations .checks net N hN R room h (checkedOf R) .1 (I, refl))
 
   entry-is : (e f : ℕ) → e < length (R .events) → f < length (R .events) → getD (checkedOf R .table) (128 * e + f) 0 ≡ related R e f
   unfolding checkedOf tableBytes tableAt

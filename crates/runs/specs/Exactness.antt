@@ -16,9 +16,12 @@ use Rattle.spec.specs.Checking.{readRecord}
 use Rattle.spec.specs.Replaying.{readArrangement}
 use Rattle.spec.specs.Arranging.{arrangementBytes}
 use Rattle.spec.specs.Runs.{KeepsOrder, WithinLimits}
+use Rattle.spec.specs.Endings.{plainEnds}
 use Rattle.spec.specs.Exactness.{IsBuilt, IsProcess, Exactness}
 use Rattle.runs.specs.Log.{record-events}
 use Rattle.runs.specs.Answers.{of-gives, of-bind}
+use Rattle.runs.specs.Endings.{record-by-lines, arrangement-by-lines}
+use Rattle.runs.specs.Written.{log-lines-are, record-lines-are, arrangement-lines-are}
 use Rattle.runs.specs.NetText.{net-text}
 use Rattle.runs.specs.NetLimits.{NetLimits, net-limits}
 use Rattle.runs.specs.ReadNet.{net-read}
@@ -50,7 +53,7 @@ module _ (net : List ℕ) (N : Net) (accepted : readNet net ≡ gives N) where
   unfolding build _>>=_ _>>_ refuse_at_when_
   building log room h = rw (le-ltb room 48256 h, accepted)
 
-  was-built : (log bytes : List ℕ) (room : ℕ) → 48256 ≤ room → build net log room ≡ gives bytes → IsBuilt N log bytes
+  was-built : (log bytes : List ℕ) (room : ℕ) → 48256 ≤ room → build net log room ≡ gives bytes → IsBuilt N (plainEnds log) bytes
   unfolding built bench recordFor
   was-built log bytes room l h =
       let b = of-bind (built bench N (linesOf log)) _ (sym (building log room l) ∙ h) in
@@ -64,13 +67,13 @@ module _ (net : List ℕ) (N : Net) (accepted : readNet net ≡ gives N) where
         named = sym (of-gives (b .2)) ∙ ap recordBytes (sym (of-gives (c .2)) ∙ ap (recordOf N) (d .3));
       }
 
-  is-built : (log bytes : List ℕ) (room : ℕ) → 48256 ≤ room → IsBuilt N log bytes → build net log room ≡ gives bytes
+  is-built : (log bytes : List ℕ) (room : ℕ) → 48256 ≤ room → IsBuilt N (plainEnds log) bytes → build net log room ≡ gives bytes
   unfolding built recordFor _>>=_
   is-built log bytes room l B =
       let p = log-played bench N (printed N L .transitions) (B .steps) (B .enabled) (within-fits N (B .steps) .0 (B .within)) in
-      building log room l ∙ rw (B .written, p, B .named)
+      building log room l ∙ rw (log-lines-are log (B .steps) (B .written), p, B .named)
 
-  was-process : (text : List ℕ) (R : RunRecord) → readRecord bench N text ≡ gives R → (text ≡ recordBytes R) × IsProcess N R
+  was-process : (text : List ℕ) (R : RunRecord) → readRecord bench N text ≡ gives R → (plainEnds text ≡ recordBytes R) × IsProcess N R
   unfolding bench
   was-process text R h =
       let z = accepted-record bench N text R h in
@@ -84,17 +87,17 @@ module _ (net : List ℕ) (N : Net) (accepted : readNet net ≡ gives N) where
       record-accepted bench N (printed N L) R (I .wellFormed) F (I .process)
 
   replaying : (text : List ℕ) (R : RunRecord) → readRecord bench N text ≡ gives R → (arrangement : List ℕ) (lines : List (List ℕ))
-      → (readArrangement R arrangement ≡ gives lines) ↔ ((arrangement ≡ arrangementBytes lines) × KeepsOrder R lines)
+      → (readArrangement R arrangement ≡ gives lines) ↔ ((plainEnds arrangement ≡ arrangementBytes lines) × KeepsOrder R lines)
   replaying text R h arrangement lines =
       let I = was-process text R h .1 in (
         arrangement-exact N R (I .wellFormed) arrangement lines,
-        λ A. ap (readArrangement R) (A .0) ∙ arrangement-read N R (I .wellFormed) (omega (arith, I .events)) lines (A .1),
+        λ A. arrangement-by-lines arrangement (arrangementBytes lines) (arrangement-lines-are arrangement lines (A .0)) R ∙ arrangement-read N R (I .wellFormed) (omega (arith, I .events)) lines (A .1),
       )
 
 pub exactness : Exactness
 exactness = record {
   reads = λ text N. (net-text text N, net-read text N);
   builds = λ net N h log bytes room l. (was-built net N h log bytes room l, is-built net N h log bytes room l);
-  checks = λ net N h text R. (was-process net N h text R, λ I. ap (readRecord bench N) (I .0) ∙ is-process net N h R (I .1));
+  checks = λ net N h text R. (was-process net N h text R, λ I. record-by-lines text (recordBytes R) (record-lines-are text R (I .0)) bench N ∙ is-process net N h R (I .1));
   replays = λ net N h. replaying net N h;
 }

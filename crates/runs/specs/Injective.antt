@@ -12,7 +12,7 @@ use mathlib.Core.List.{List, [], _∷_, _++_, map, append-nil, append-assoc, map
 use lib.ListN.{length, getD}
 use lib.Dec.{eqb}
 use Rattle.spec.specs.Lists.{In, every, flat}
-use Rattle.spec.specs.Text.{linesOf, named, inDigits, classOf, isA, mostDigits, pieces, digits, fieldBytes, lineWith}
+use Rattle.spec.specs.Text.{rawLinesOf, linesOf, named, inDigits, classOf, isA, mostDigits, pieces, digits, fieldBytes, lineWith}
 use Rattle.spec.specs.Forms.{fieldsOf}
 use Rattle.spec.specs.NetText.{Declaration, newPlace, newTransition, newArc, declarationLine, netBytes}
 use Rattle.spec.specs.Record.{RunRecord, Condition, Mark, eventField, eventLine, conditionLine, markLineOf, markLine, recordBytes}
@@ -121,7 +121,7 @@ module _ {A : Type 0} {print : A → List ℕ} (F : Format print) where
   rows-back (x ∷ xs) rest = ap rowsIn (append-assoc (print x) (flat (map print xs)) rest) ∙ row-back x _ ∙ ap (λ rs. row x ∷ rs) (rows-back xs rest)
 
   rows : (xs : List A) → rowsIn (flat (map print xs)) ≡ map row xs
-  unfolding rowsIn linesOf
+  unfolding rowsIn linesOf rawLinesOf
   rows xs = ap rowsIn (sym (append-nil (flat (map print xs)))) ∙ rows-back xs [] ∙ append-nil (map row xs)
 
   pub rows-same : (xs ys : List A) → flat (map print xs) ≡ flat (map print ys) → map row xs ≡ map row ys

@@ -18,7 +18,9 @@ pub mod Digits
 pub mod Fields
 pub mod LineForms
 pub mod Answers
+pub mod Endings
 pub mod Texts
+pub mod Written
 pub mod Readers
 pub mod NetText
 pub mod ArcSlots
@@ -46,3 +48,4 @@ pub mod Spots
 pub mod Summary
 pub mod Readless
 pub mod WithoutReads
+pub mod EitherEnding

@@ -17,6 +17,7 @@ use Rattle.spec.specs.Forms.{number, isLine, eventAt, numberAt}
 use Rattle.spec.specs.Net.{Net, places, joined, takes, makes, addPlace, addTransition, addArc, addLine, emptyNet, lacking, whole, netOf, readNet}
 use Rattle.spec.specs.NetText.{Declaration, newPlace, newTransition, newArc, declarationLine, netBytes, declare, declareAll, declared, Allowed, Complete}
 use Rattle.spec.specs.Exactness.{IsNet}
+use Rattle.spec.specs.Endings.{plainEnds}
 use Rattle.spec.specs.declared.ArcKind.{ArcKind}
 use Rattle.spec.specs.declared.ArcKind.the-variants.{Input, Output, Inhibitor, Read}
 use Rattle.lists.specs.Laws.{and-true, or-false, false-or, not-is-false, count-pos, any-in, any-found, in-upTo, upTo-in, lowest-none, none-lowest, flat-map-snoc}
@@ -160,6 +161,6 @@ net-lines ls N h =
     let D = lines-keep addLine (λ k n done. Declared n done) line-declared 1 ls emptyNet (z .0) [] (z .1) nothing .1 in
     subst (IsNet (flat (map lineBytes ls))) (of-gives (y .1)) (record { lines = D .lines; written = D .written; sound = D .sound; complete = complete-is (z .0) .0 (y .0); named = D .named })
 
-pub net-text : (text : List ℕ) (N : Net) → readNet text ≡ gives N → IsNet text N
+pub net-text : (text : List ℕ) (N : Net) → readNet text ≡ gives N → IsNet (plainEnds text) N
 unfolding readNet
 net-text text N h = subst (λ bytes. IsNet bytes N) (text-is text) (net-lines (linesOf text) N h)

@@ -22,12 +22,14 @@ use Rattle.spec.specs.Arranging.{Arranged, arrangementBytes, arrangedOf, arrang
 use Rattle.spec.specs.Replaying.{Replayed, readArrangement, replayedOf, replay}
 use Rattle.spec.specs.Runs.{EnabledSequence, KeepsOrder, WithinLimits, logBytes}
 use Rattle.spec.specs.Exactness.{EachAllowed, IsProcess, LinesBelow, RecordBelow, IsAccepted, IsTextOf, Operations, NothingElse}
+use Rattle.spec.specs.Endings.{plainEnds}
 use Rattle.lists.specs.Laws.{in-flat, in-at}
 use Rattle.runs.specs.Answers.{of-gives, of-bind, of-when}
 use Rattle.runs.specs.NetLimits.{NetLimits, sound-small, net-limits}
 use Rattle.runs.specs.Sizes.{arranged-below}
 use Rattle.runs.specs.Injective.{logs-same, arrangements-same, nets-same, records-same}
 use Rattle.runs.specs.Exactness.{exactness}
+use Rattle.runs.specs.Written.{plain-net, plain-log, plain-record, plain-arrangement}
 
 -- ---- the numbers of what is accepted have at most three digits
 
@@ -61,9 +63,9 @@ reads : (ds : List Declaration) (N : Net) → (readNet (netBytes ds) ≡ gives N
 reads ds N = (
   λ h.
       let I = exactness .reads (netBytes ds) N .0 h in
-      let e : ds ≡ I .lines = nets-same ds (I .lines) (inr (sound-small (I .lines) (I .sound))) (I .written) in
+      let e : ds ≡ I .lines = nets-same ds (I .lines) (inr (sound-small (I .lines) (I .sound))) (sym (plain-net ds) ∙ I .written) in
       rw e (I .sound, I .complete, I .named),
-  λ z. exactness .reads (netBytes ds) N .1 (record { lines = ds; written = refl; sound = z .0; complete = z .1; named = z .2 }),
+  λ z. exactness .reads (netBytes ds) N .1 (record { lines = ds; written = plain-net ds; sound = z .0; complete = z .1; named = z .2 }),
 )
 
 module _ (net : List ℕ) (N : Net) (accepted : readNet net ≡ gives N) where
@@ -73,9 +75,9 @@ module _ (net : List ℕ) (N : Net) (accepted : readNet net ≡ gives N) where
       let E = exactness .builds net N accepted (logBytes steps) bytes room l in (
         λ h.
             let B = E .0 h in
-            let e : steps ≡ B .steps = logs-same steps (B .steps) (inr (steps-below N (B .steps) (net-limits net N accepted) (B .enabled))) (B .written) in
+            let e : steps ≡ B .steps = logs-same steps (B .steps) (inr (steps-below N (B .steps) (net-limits net N accepted) (B .enabled))) (sym (plain-log steps) ∙ B .written) in
             rw e (B .enabled, B .within, B .named),
-        λ z. E .1 (record { steps = steps; written = refl; enabled = z .0; within = z .1; named = z .2 }),
+        λ z. E .1 (record { steps = steps; written = plain-log steps; enabled = z .0; within = z .1; named = z .2 }),
       )
 
 -- ---- what check, arrange and replay share: a buffer of `size` or more, an accepted net, a record of its own
@@ -102,9 +104,9 @@ module _ {A : Type 0} (n size : ℕ) (next : Accepted → Answer A) where
           let z = of-after net (recordBytes R) room x h in
           let e : z .1 .net ≡ N = of-gives (sym (z .2) ∙ accepted) in
           let y = exactness .checks net N accepted (recordBytes R) (z .1 .run) .0 (rw e at (z .3)) in
-          let q : R ≡ z .1 .run = records-same R (z .1 .run) (inr (process-below N (z .1 .run) (net-limits net N accepted) (y .1))) (y .0) in
+          let q : R ≡ z .1 .run = records-same R (z .1 .run) (inr (process-below N (z .1 .run) (net-limits net N accepted) (y .1))) (sym (plain-record R) ∙ y .0) in
           (rw q (y .1), rw (q, ← e) (z .4)),
-      λ I. rw (le-ltb room size l, accepted, exactness .checks net N accepted (recordBytes R) R .1 (refl, I .0)) (I .1),
+      λ I. rw (le-ltb room size l, accepted, exactness .checks net N accepted (recordBytes R) R .1 (plain-record R, I .0)) (I .1),
     )
 
 -- an operation that gives a value for each accepted record
@@ -115,7 +117,7 @@ module _ {A : Type 0} (n size : ℕ) (f : RunRecord → A) where
       let z = of-given n size (λ a. gives (f (a .run))) net N accepted R room l x in
       (λ h. let y = z .0 h in (y .0, sym (of-gives (y .1))), λ y. z .1 (y .0, ap gives (sym (y .1))))
 
-  only-record : (net text : List ℕ) (room : ℕ) (x : A) → after n size (λ a. gives (f (a .run))) net text room ≡ gives x → (size ≤ room) × IsAccepted net × IsTextOf recordBytes text
+  only-record : (net text : List ℕ) (room : ℕ) (x : A) → after n size (λ a. gives (f (a .run))) net text room ≡ gives x → (size ≤ room) × IsAccepted net × IsTextOf recordBytes (plainEnds text)
   only-record net text room x h =
       let z = of-after n size (λ a. gives (f (a .run))) net text room x h in
       (z .0, (z .1 .net, z .2), (z .1 .run, exactness .checks net (z .1 .net) (z .2) text (z .1 .run) .0 (z .3) .0))
@@ -134,13 +136,13 @@ arranges = of-record 50 768 arrangedOf
 lines-given : (net : List ℕ) (N : Net) → readNet net ≡ gives N → (R : RunRecord) → IsProcess N R → (lines gs : List (List ℕ))
     → (readArrangement R (arrangementBytes lines) ≡ gives gs) ↔ (KeepsOrder R lines × (gs ≡ lines))
 lines-given net N accepted R I lines gs =
-    let E = exactness .replays net N accepted (recordBytes R) R (exactness .checks net N accepted (recordBytes R) R .1 (refl, I)) (arrangementBytes lines) gs in (
+    let E = exactness .replays net N accepted (recordBytes R) R (exactness .checks net N accepted (recordBytes R) R .1 (plain-record R, I)) (arrangementBytes lines) gs in (
       λ h.
           let A = E .0 h in
           let few : LinesBelow 1000 gs = λ e m. omega (arith, arranged-below (length (R .events)) gs (A .1 .each-once) e m, I .events) in
-          let e : lines ≡ gs = arrangements-same lines gs (inr few) (A .0) in
+          let e : lines ≡ gs = arrangements-same lines gs (inr few) (sym (plain-arrangement lines) ∙ A .0) in
           (rw e (A .1), sym e),
-      λ z. E .1 (ap arrangementBytes (sym (z .1)), rw (z .1) (z .0)),
+      λ z. E .1 (plain-arrangement lines ∙ ap arrangementBytes (sym (z .1)), rw (z .1) (z .0)),
     )
 
 abbrev playing : List ℕ → Accepted → Answer Replayed
@@ -160,7 +162,7 @@ replays net N accepted R lines room l x =
     )
 
 only-replayed : (net text arrangement : List ℕ) (room : ℕ) (x : Replayed) → replay net text arrangement room ≡ gives x
-    → (4128 ≤ room) × IsAccepted net × IsTextOf recordBytes text × IsTextOf arrangementBytes arrangement
+    → (4128 ≤ room) × IsAccepted net × IsTextOf recordBytes (plainEnds text) × IsTextOf arrangementBytes (plainEnds arrangement)
 unfolding replay after
 only-replayed net text arrangement room x h =
     let z = of-after 40 4128 (playing arrangement) net text room x h in
@@ -169,7 +171,7 @@ only-replayed net text arrangement room x h =
     let y = of-bind (readArrangement R arrangement) _ (z .4) in
     (z .0, (N, z .2), (R, exactness .checks net N (z .2) text R .0 (z .3) .0), (y .0, exactness .replays net N (z .2) text R (z .3) arrangement (y .0) .0 (y .1) .0))
 
-only-built : (net log : List ℕ) (room : ℕ) (bytes : List ℕ) → build net log room ≡ gives bytes → (48256 ≤ room) × IsAccepted net × IsTextOf logBytes log
+only-built : (net log : List ℕ) (room : ℕ) (bytes : List ℕ) → build net log room ≡ gives bytes → (48256 ≤ room) × IsAccepted net × IsTextOf logBytes (plainEnds log)
 unfolding build
 only-built net log room bytes h =
     let a = of-when 20 0 (ltb room 48256) _ h in

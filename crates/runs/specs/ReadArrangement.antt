@@ -23,6 +23,7 @@ use Rattle.spec.specs.Arrangement.{times}
 use Rattle.spec.specs.Arranging.{groupLine, arrangementBytes}
 use Rattle.spec.specs.Replaying.{isGroupLine, repeats, breaks, groupsLine, missing, readArrangement}
 use Rattle.spec.specs.Runs.{KeepsOrder}
+use Rattle.spec.specs.Endings.{plainEnds}
 use Rattle.spec.specs.declared.Field.the-variants.{Number}
 use Rattle.lists.specs.Laws.{or-false, not-is-false, true-or-false, any-none, member-is, count-append, count-cons, count-none, eqb-count, neqb-count, one-le, lowest-none, none-lowest, flat-append, flat-in, flat-map-snoc, index-snoc, flat-snoc, all-below}
 use Rattle.runs.specs.Bytes.{G-letter}
@@ -158,10 +159,10 @@ group-lined R k l lines more done h I =
     })
 
 module _ (N : Net) (R : RunRecord) (W : WellFormed N R) where
-  pub arrangement-exact : (text : List ℕ) (lines : List (List ℕ)) → readArrangement R text ≡ gives lines → (text ≡ arrangementBytes lines) × KeepsOrder R lines
+  pub arrangement-exact : (text : List ℕ) (lines : List (List ℕ)) → readArrangement R text ≡ gives lines → (plainEnds text ≡ arrangementBytes lines) × KeepsOrder R lines
   unfolding readArrangement
   arrangement-exact text lines h =
       let z = of-bind (byLines (groupsLine R) 1 (linesOf text) []) _ h in
       let y = of-lowest 45 (lowest (missing (z .0)) (length (R .events))) (gives (z .0)) (z .2) in
       let I = text-keeps (groupsLine R) (λ k gs done. IsLined R done gs) (group-lined R) 1 text [] (z .0) (z .1) (record { written = unfold arrangementBytes flat in refl; lined = no-lines R }) .1 in
-      subst (λ lines. (text ≡ arrangementBytes lines) × KeepsOrder R lines) (of-gives (y .1)) (I .written, lined-keeps N R W (z .0) (I .lined) (y .0))
+      subst (λ lines. (plainEnds text ≡ arrangementBytes lines) × KeepsOrder R lines) (of-gives (y .1)) (I .written, lined-keeps N R W (z .0) (I .lined) (y .0))

@@ -16,6 +16,7 @@ use Rattle.spec.specs.Net.{Net}
 use Rattle.spec.specs.Step.{EnabledAt}
 use Rattle.spec.specs.Building.{Run, start, playStep, playSteps, runOf, marksDue, recordOf, recordFor, isStepLine, logLine, playLog}
 use Rattle.spec.specs.Runs.{markingAt, EnabledSequence, stepLine, logBytes}
+use Rattle.spec.specs.Endings.{plainEnds}
 use Rattle.spec.specs.declared.Field.the-variants.{Number}
 use Rattle.spec.specs.declared.Limits.{Limits}
 use Rattle.lists.specs.Laws.{not-is-false, all-below, flat-map-snoc, index-snoc}
@@ -143,5 +144,5 @@ module _ (lim : Limits) (N : Net) where
       (I .steps, I .written, I .enabled, I .run, I .fits)
 
   pub log-exact : Fits lim (recordFor N []) → (log : List ℕ) (r : Run) → playLog lim N (linesOf log) ≡ gives r
-      → (steps : List (List ℕ)) × (log ≡ logBytes steps) × EnabledSequence N steps × (r ≡ runOf N steps) × Fits lim (recordFor N steps)
+      → (steps : List (List ℕ)) × (plainEnds log ≡ logBytes steps) × EnabledSequence N steps × (r ≡ runOf N steps) × Fits lim (recordFor N steps)
   log-exact F log r h = let z = lines-exact F (linesOf log) r h in (z .0, sym (text-is log) ∙ z .1, z .2, z .3, z .4)

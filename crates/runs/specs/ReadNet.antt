@@ -11,6 +11,7 @@ use Rattle.spec.specs.Text.{linesOf, byLines, named, inDigits, classOf, isA, is
 use Rattle.spec.specs.Net.{Net, places, withArc, addPlace, addTransition, addArc, addLine, emptyNet, whole, netOf, readNet}
 use Rattle.spec.specs.NetText.{Declaration, newPlace, newTransition, newArc, declarationLine, netBytes, declare, declareAll, declared, Allowed}
 use Rattle.spec.specs.Exactness.{IsNet}
+use Rattle.spec.specs.Endings.{plainEnds}
 use Rattle.spec.specs.declared.ArcKind.{ArcKind}
 use Rattle.spec.specs.declared.ArcKind.the-variants.{Input, Output, Inhibitor, Read}
 use Rattle.spec.specs.declared.Field.the-variants.{Number}
@@ -20,6 +21,7 @@ use Rattle.runs.specs.LineForms.{form-back, number-at}
 use Rattle.runs.specs.Readers.{Takes, takes-line, takes-end, takes-all}
 use Rattle.runs.specs.NetText.{declare-snoc, Sound, complete-is}
 use Rattle.runs.specs.NetLimits.{NetLimits, sound-limits}
+use Rattle.runs.specs.Written.{net-lines-are}
 
 module _ (k : ℕ) (n : Net) (L : NetLimits n) where
   -- the numbers that an arc names can be written
@@ -64,6 +66,6 @@ unfolding netBytes declareAll
 lines-read ds S = takes-end (takes-all declarationLine declared 1 ds (λ above d below e m l.
     rw (declare-snoc emptyNet above d) (line-taken _ (declared above) (sound-limits above (above-sound ds above below d S e)) d (S above below d e))))
 
-pub net-read : (text : List ℕ) (N : Net) → IsNet text N → readNet text ≡ gives N
+pub net-read : (text : List ℕ) (N : Net) → IsNet (plainEnds text) N → readNet text ≡ gives N
 unfolding readNet netOf whole _>>=_ _>>_ refuse_at?_
-net-read text N I = rw (I .written, lines-read (I .lines) (I .sound), ← I .named, complete-is N .1 (I .complete))
+net-read text N I = rw (net-lines-are text (I .lines) (I .written), lines-read (I .lines) (I .sound), ← I .named, complete-is N .1 (I .complete))

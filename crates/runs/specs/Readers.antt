@@ -8,8 +8,10 @@ use lib.ListN.{length, length-append}
 use Rattle.spec.specs.Lists.{In, flat}
 use Rattle.spec.specs.Answer.{Answer, gives, _>>=_}
 use Rattle.spec.specs.Text.{Line, linesOf, byLines, lineWith}
+use Rattle.spec.specs.Endings.{plainEnds}
 use Rattle.spec.specs.declared.Field.{Field}
 use Rattle.lists.specs.Laws.{here}
+use Rattle.lists.specs.LineEnds.{no-first}
 use Rattle.runs.specs.Bytes.{Letter}
 use Rattle.runs.specs.Fields.{body, ended}
 use Rattle.runs.specs.Answers.{of-gives, of-bind}
@@ -31,8 +33,8 @@ module _ {S : Type 0} {f : ℕ → Line → S → Answer S} where
   takes-append {k} {s} {x} {y} p q = record { reads = λ rest. ap (λ (z : List ℕ). byLines f k (linesOf z) s) (append-assoc x y rest) ∙ p .reads (y ++ rest) ∙ q .reads rest }
 
   pub takes-end : {k j : ℕ} {s t : S} {text : List ℕ} → Takes f k s text j t → byLines f k (linesOf text) s ≡ gives t
-  unfolding linesOf byLines
-  takes-end {k} {s} {text} p = ap (λ (z : List ℕ). byLines f k (linesOf z) s) (sym (append-nil text)) ∙ p .reads []
+  unfolding byLines
+  takes-end {k} {j} {s} {t} {text} p = ap (λ (z : List ℕ). byLines f k (linesOf z) s) (sym (append-nil text)) ∙ p .reads [] ∙ ap (λ (ls : List Line). byLines f j ls t) no-first
 
   -- a text of a line for each element of a list: `state xs` is the state once the lines of xs are read
   module _ {A : Type 0} (print : A → List ℕ) (state : List A → S) (k : ℕ) (all : List A)
@@ -64,5 +66,5 @@ module _ {S : Type 0} (f : ℕ → Line → S → Answer S) where
         let z : (j : ℕ) × P j t (done ++ lineBytes l ++ flat (map lineBytes ls)) = lines-keep (suc k) ls (r .0) t (done ++ lineBytes l) (r .2) (step k l s (r .0) done (r .1) p) in
         (z .0, subst (P (z .0) t) (append-assoc done (lineBytes l) (flat (map lineBytes ls))) (z .1))
 
-    pub text-keeps : (k : ℕ) (text : List ℕ) (s t : S) → byLines f k (linesOf text) s ≡ gives t → P k s [] → (j : ℕ) × P j t text
+    pub text-keeps : (k : ℕ) (text : List ℕ) (s t : S) → byLines f k (linesOf text) s ≡ gives t → P k s [] → (j : ℕ) × P j t (plainEnds text)
     text-keeps k text s t h p = let z = lines-keep k (linesOf text) s t [] h p in (z .0, subst (P (z .0) t) (text-is text) (z .1))

@@ -17,6 +17,7 @@ use Rattle.spec.specs.Net.{Net, places}
 use Rattle.spec.specs.Record.{RunRecord, Condition, Mark, slotOf, isAt, marked, eventLine, conditionLine, markLineOf, markLine, recordBytes}
 use Rattle.spec.specs.Process.{WellFormed, isBelow}
 use Rattle.spec.specs.Checking.{isEmpty, withEvent, withCondition, withMark, enterEvent, enterCondition, enterMark, conditionOf, markIn, enterLine, emptyRecord}
+use Rattle.spec.specs.Endings.{plainEnds}
 use Rattle.spec.specs.declared.Limits.{Limits}
 use Rattle.spec.specs.declared.MarkKind.the-variants.{Before, After, Read}
 use Rattle.lists.specs.Laws.{clash, true-or-false, and-true, and-three, not-is-false, all-snoc, any-none, count-none, count-append, count-cons, count-false, one-le, flat-map-snoc}
@@ -193,6 +194,6 @@ nothing lim N = record {
   once = λ s c e. zero-le;
 }
 
-pub record-text : (lim : Limits) (N : Net) (text : List ℕ) (R : RunRecord) → byLines (enterLine lim N) 1 (linesOf text) emptyRecord ≡ gives R → IsRecord lim N text R
+pub record-text : (lim : Limits) (N : Net) (text : List ℕ) (R : RunRecord) → byLines (enterLine lim N) 1 (linesOf text) emptyRecord ≡ gives R → IsRecord lim N (plainEnds text) R
 record-text lim N text R h =
     text-keeps (enterLine lim N) (λ k r done. IsRecord lim N done r) (λ k l r s done h I. line-entered lim N k r s done I l h) 1 text emptyRecord R h (nothing lim N) .1
