@@ -46,7 +46,7 @@ group-line l ended = sym (list-line "G" refl (lineOf l ended))
 
 pub opens-group : Opens 71
 unfolding isA alike classOf named inDigits
-opens-group = record { comma = refl; end = refl }
+opens-group = record { comma = refl; end = refl; return = refl }
 
 g-class : classOf 71 ≡ LetterG
 unfolding classOf named inDigits

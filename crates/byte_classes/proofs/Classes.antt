@@ -11,7 +11,7 @@ use lib.Dec.{leb, eqb}
 use borrow.Author.Tests.{le-leb, leb-true, eq-eqb, eqb-true, ne-eqb}
 use Rattle.spec.specs.Lists.{every}
 use Rattle.spec.specs.declared.Class.{Class}
-use Rattle.spec.specs.declared.Class.the-variants.{Digit, Comma, Dash, LineEnd, LetterP, LetterT, LetterI, LetterO, LetterH, LetterS, LetterE, LetterC, LetterB, LetterA, LetterG, LetterR, Foreign}
+use Rattle.spec.specs.declared.Class.the-variants.{Digit, Comma, Dash, LineEnd, LetterP, LetterT, LetterI, LetterO, LetterH, LetterS, LetterE, LetterC, LetterB, LetterA, LetterG, LetterR, Return, Foreign}
 use Rattle.spec.specs.declared.ByteClass.{ByteClass}
 use Rattle.spec.specs.Text.{named, classNames, inDigits, classOf, digitOf, classAndDigit, isA}
 use Rattle.spec.specs.Classes.{classCode, alike}
@@ -86,6 +86,7 @@ place-is-code LetterB = refl
 place-is-code LetterA = refl
 place-is-code LetterG = refl
 place-is-code LetterR = refl
+place-is-code Return = refl
 place-is-code Foreign = refl
 
 -- ---- what the class and the digit of a byte tell, once it has been looked at
@@ -102,7 +103,7 @@ module _ {r : ByteClass} (b : ℕ) (e : r ≡ classAndDigit b) where
   pub told-low : r .digit ≤ 9
   told-low = omega (arith, told-digit, digit-low b)
 
--- ---- the line end is byte 10
+-- ---- the comma, the line end and the return are one byte each
 
 -- a name that is not the class's, but for byte c
 abbrev onlyFor : Class → ℕ → ℕ × Class → Bool
@@ -124,20 +125,30 @@ named-not k c b (n ∷ ns) f h d =
     go true q a r = here (eqb (n .0) c) (alike (n .1) k) refl a (λ e. d (eqb-true b (n .0) q ∙ e))
     go false q a r = r
 
-end-not : (b : ℕ) → (b ≡ 10 → ⊥) → isA LineEnd b ≡ false
-unfolding isA classOf alike every
-end-not b d = go (inDigits b)
+-- so a byte other than c is not of that class
+other-byte : (k : Class) (c : ℕ) → alike Digit k ≡ false → alike Foreign k ≡ false → every (onlyFor k c) classNames ≡ true → (b : ℕ) → (b ≡ c → ⊥) → isA k b ≡ false
+unfolding isA classOf
+other-byte k c g f h b d = go (inDigits b)
   where
-    go : (t : Bool) → alike (cond t Digit (named b classNames)) LineEnd ≡ false
-    go true = refl
-    go false = named-not LineEnd 10 b classNames refl refl d
+    go : (t : Bool) → alike (cond t Digit (named b classNames)) k ≡ false
+    go true = g
+    go false = named-not k c b classNames f h d
 
-end-is : isA LineEnd 10 ≡ true
-unfolding isA alike classOf named inDigits
-end-is = refl
+-- a class that byte c has, and no other byte
+only-byte : (k : Class) (c : ℕ) → isA k c ≡ true → ((b : ℕ) → (b ≡ c → ⊥) → isA k b ≡ false) → (b : ℕ) → isA k b ≡ eqb b c
+only-byte k c i o b = elim (ℕ-discrete b c) [
+  | yes e ↦ ap (isA k) e ∙ i ∙ sym (eq-eqb b c e)
+  | no d ↦ o b d ∙ sym (ne-eqb b c d)
+]
+
+pub comma-byte : (b : ℕ) → isA Comma b ≡ eqb b 44
+unfolding isA alike classOf named inDigits every
+comma-byte b = only-byte Comma 44 refl (other-byte Comma 44 refl refl refl) b
 
 pub line-end : (b : ℕ) → isA LineEnd b ≡ eqb b 10
-line-end b = elim (ℕ-discrete b 10) [
-  | yes e ↦ ap (isA LineEnd) e ∙ end-is ∙ sym (eq-eqb b 10 e)
-  | no d ↦ end-not b d ∙ sym (ne-eqb b 10 d)
-]
+unfolding isA alike classOf named inDigits every
+line-end b = only-byte LineEnd 10 refl (other-byte LineEnd 10 refl refl refl) b
+
+pub return-byte : (b : ℕ) → isA Return b ≡ eqb b 13
+unfolding isA alike classOf named inDigits every
+return-byte b = only-byte Return 13 refl (other-byte Return 13 refl refl refl) b

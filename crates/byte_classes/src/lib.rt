@@ -1,10 +1,10 @@
 // What each byte of a text is.
 ghost use mathlib.Core.Path.{_≡_};
-ghost use Prim.Native.Nat.{_+_, _≤_};
-ghost use lib.ListN.{length, drop};
+ghost use Prim.Native.Nat.{_≤_};
+ghost use lib.ListN.{length};
 ghost use Rattle.spec.specs.Text.{classAndDigit, digitOf, isA};
 ghost use Rattle.spec.specs.Classes.{classCode, alike};
-ghost use Rattle.byte_classes.specs.Scan.{plainByte, before};
+ghost use Rattle.byte_classes.specs.Scan.{plainByte, EndsAt};
 use spec::ByteClass;
 use spec::Class;
 
@@ -39,6 +39,7 @@ pub fn class_of(b: u8) -> ByteClass
         b'A' => plain(Class::LetterA),
         b'G' => plain(Class::LetterG),
         b'R' => plain(Class::LetterR),
+        13 => plain(Class::Return),
         _ => plain(Class::Foreign),
     }
 }
@@ -64,7 +65,8 @@ fn class_code(k: Class) -> u8
         Class::LetterA => 13,
         Class::LetterG => 14,
         Class::LetterR => 15,
-        Class::Foreign => 16,
+        Class::Return => 16,
+        Class::Foreign => 17,
     }
 }
 
@@ -92,14 +94,15 @@ pub fn digit_value(b: u8) -> usize
     c.digit as usize
 }
 
-// Where the bytes that start at a position meet the first of a class, or end.
-pub fn end_of(k: Class, s: &[u8], at: usize) -> usize
+// Where the bytes that start at a position meet the first one b, or end. It is said of a class that has this byte alone: a
+// byte is compared, as its class would be looked up for every byte that is passed.
+pub fn end_of(b: u8, s: &[u8], at: usize) -> usize
     requires { ⌜ at ≤ length (now s) ⌝ }
-    ensures { λ r. ⌜ (r ≡ at + before k (drop at (now (s .entry)))) × (r ≤ length (now (s .entry))) ⌝ }
+    ensures { λ r. ⌜ EndsAt b (now (s .entry)) at r × (r ≤ length (now (s .entry))) ⌝ }
 {
     let mut i = at;
     while i < s.len() {
-        if is_a(k, s[i]) {
+        if s[i] == b {
             return i;
         }
         i += 1;

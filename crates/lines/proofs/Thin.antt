@@ -1,4 +1,4 @@
--- The functions over a `Reader`, and `span_of`, as `line_at` sees them.
+-- The functions over a `Reader`, and `span_of`, as `raw_line_at` sees them.
 --     ReaderAt, LineEnd, Moved, SpanOf         the contracts.        to-reader, to-end, to-moved, to-span      what each triple binds outside.        asks-reader, asks-end, asks-moved, asks-span        that the caller has what each asks
 --     Starts, Ends-at, Moves                   what each of the first three says of its result
 -- Assumes `Given`.

@@ -1,16 +1,16 @@
--- The line at a position of a text, and what the function that finds it promises.
+-- The line at a position of a text, and what the functions that find it and its ending promise.
 use Prim.Native.Nat.{ℕ, _+_, _-_, _≤_, _<_}
 use mathlib.Core.Path.{_≡_}
-use mathlib.Core.Bool.{Bool}
+use mathlib.Core.Bool.{Bool, _&&_, cond}
 use mathlib.Core.List.{List, _∷_}
-use lib.ListN.{length, drop, take}
-use lib.Dec.{ltb}
-use Rattle.spec.specs.Text.{Line, linesOf}
+use lib.ListN.{length, getD, drop, take}
+use lib.Dec.{eqb, ltb}
+use Rattle.spec.specs.Text.{Line, rawLinesOf, withoutReturn, linesOf}
 use Rattle.spec.specs.declared.Class.the-variants.{LineEnd}
 use Rattle.byte_classes.specs.Scan.{before}
 use Rattle.lines.specs.declared.Span.{Span}
 
--- where the line ends that starts at a position
+-- where the byte 10 stands that ends the line which starts at a position
 abbrev pub endFrom : List ℕ → ℕ → ℕ
 endFrom s at = at + before LineEnd (drop at s)
 
@@ -29,11 +29,40 @@ pub record LineTo (s : List ℕ) (at next : ℕ) : Type 0 where
   pub on : at < next
   pub within : next ≤ length s + 1
 
--- the same by its end, which is found
+-- what stands at a position up to the next byte 10
+pub record RawLineAt (s : List ℕ) (at : ℕ) (r : Span) : Type 0 where
+  pub start : at ≤ r .end
+  pub end : r .end ≤ length s
+  pub behind : r .next ≡ r .end + 1
+  pub ends : r .ended ≡ ltb (r .end) (length s)
+  pub lines : rawLinesOf (drop at s) ≡ lineOf (take (r .end - at) (drop at s)) (r .ended) ∷ rawLinesOf (drop (r .next) s)
+
+-- the line at a position by its end, which is found; `raw` is what stands up to its byte 10
 pub record LineAt (s : List ℕ) (at : ℕ) (r : Span) : Type 0 where
   pub start : at ≤ r .end
   pub end : r .end ≤ length s
   pub on : r .end < r .next
-  pub behind : r .next ≡ r .end + 1
   pub next : r .next ≤ length s + 1
   pub lines : linesOf (drop at s) ≡ lineOf (take (r .end - at) (drop at s)) (r .ended) ∷ linesOf (drop (r .next) s)
+  pub raw : Line
+  pub raws : rawLinesOf (drop at s) ≡ raw ∷ rawLinesOf (drop (r .next) s)
+  pub whole : withoutReturn raw ≡ lineOf (take (r .end - at) (drop at s)) (r .ended)
+
+-- ---- the ending of a line
+
+-- an ending stands at a position, byte 10 or 13 and 10, and the next line starts behind it
+pub data Ending (s : List ℕ) (at next : ℕ) : Type 0 where
+  ten : drop at s ≡ 10 ∷ drop next s → Ending s at next
+  return-ten : drop at s ≡ 13 ∷ 10 ∷ drop next s → Ending s at next
+
+-- where the next line starts if an ending stands at a position; else the position
+unfoldable pub pastEnding : List ℕ → ℕ → ℕ
+pastEnding s at =
+    cond (eqb (getD s at 0) 10) (at + 1) (cond (eqb (getD s at 0) 13 && eqb (getD s (at + 1) 0) 10) (at + 2) at)
+
+-- and what that says: an ending is passed, or the position stays
+pub record PastEnding (s : List ℕ) (at next : ℕ) : Type 0 where
+  pub is : next ≡ pastEnding s at
+  pub start : at ≤ next
+  pub within : at < next → next ≤ length s
+  pub ending : at < next → Ending s at next

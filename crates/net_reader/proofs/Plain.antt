@@ -45,19 +45,19 @@ module _ (k : ℕ) (b : List ℕ) (n : NetD) where
 
 pub opens-place : Opens 80
 unfolding isA alike classOf named inDigits
-opens-place = record { comma = refl; end = refl }
+opens-place = record { comma = refl; end = refl; return = refl }
 
 pub opens-transition : Opens 84
 unfolding isA alike classOf named inDigits
-opens-transition = record { comma = refl; end = refl }
+opens-transition = record { comma = refl; end = refl; return = refl }
 
--- no letter of arcs is a comma or the end of a line
+-- no letter of arcs is a comma or a byte of an ending
 pub opens-arc : (b : ℕ) → ArcLetter b → Opens b
 unfolding isA alike classOf named inDigits
-opens-arc b (inl e) = rw e (record { comma = refl; end = refl })
-opens-arc b (inr (inl e)) = rw e (record { comma = refl; end = refl })
-opens-arc b (inr (inr (inl e))) = rw e (record { comma = refl; end = refl })
-opens-arc b (inr (inr (inr e))) = rw e (record { comma = refl; end = refl })
+opens-arc b (inl e) = rw e (record { comma = refl; end = refl; return = refl })
+opens-arc b (inr (inl e)) = rw e (record { comma = refl; end = refl; return = refl })
+opens-arc b (inr (inr (inl e))) = rw e (record { comma = refl; end = refl; return = refl })
+opens-arc b (inr (inr (inr e))) = rw e (record { comma = refl; end = refl; return = refl })
 
 module _ (k : ℕ) {text : List ℕ} {i next : ℕ} (m : NetD) where
   pub place-line : {v : ℕ} (l : PlainLine 4 text i next (Number v ∷ [])) → getD text i 0 ≡ 80 → addLine k (lineOf (l .bytes) true) m ≡ addPlace k v m

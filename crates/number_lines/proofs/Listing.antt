@@ -1,4 +1,4 @@
--- A list line, walked from its letter on: what is read so far, and what follows from a comma or the line end behind it.
+-- A list line, walked from its letter on: what is read so far, and what follows from a comma or an ending behind it.
 use Prim.Native.Nat.{ℕ, zero, suc, _+_, _%_, _≤_, _<_, max}
 use mathlib.Core.Path.{_≡_, refl, sym, ap, _∙_}
 use mathlib.Core.Bool.{Bool, true, false, _||_}
@@ -18,7 +18,7 @@ use Rattle.spec.specs.declared.Class.{Class}
 use Rattle.line_forms.specs.declared.Slot.{Slot}
 use Rattle.line_forms.specs.declared.Slot.the-variants.{Number}
 use Rattle.lists.specs.Laws.{here, leb-max}
-use Rattle.lines.specs.Lines.{lineOf, LineTo}
+use Rattle.lines.specs.Lines.{lineOf, LineTo, Ending, PastEnding}
 use Rattle.digits.specs.Digits.{between, Stands, IsField}
 use Rattle.plain_lines.specs.Plain.{Opens, PlainLine}
 use Rattle.plain_lines.proofs.Plain.{Tail, last-field, more-fields, plain-line}
@@ -30,7 +30,7 @@ use Rattle.number_lines.specs.Numbers.{Few, Puts, Listing, ListAt}
 -- the numbers ns have been read from a line, and the last of them, or the letter, ends before `end`
 pub record Read (s : List ℕ) (at end : ℕ) (ns : List ℕ) : Type 0 where
   pub more : Stands 44 s end → (next : ℕ) (fs : List Slot) → Tail 4 s (end + 1) next fs → PlainLine 4 s at next (map Number ns ++ fs)
-  pub ends : 0 < length ns → Stands 10 s end → PlainLine 4 s at (end + 1) (map Number ns)
+  pub ends : 0 < length ns → (next : ℕ) → Ending s end next → PlainLine 4 s at next (map Number ns)
 
 -- they are counted, the greatest of them is known, and the array has them as far as it has room
 pub record Kept (xs : List ℕ) (count high : ℕ) (ns : List ℕ) : Type 0 where
@@ -57,7 +57,7 @@ module _ {s : List ℕ} {at : ℕ} where
   pub read-more : {end e v : ℕ} {ns : List ℕ} → Read s at end ns → Stands 44 s end → end + 1 ≤ e → IsField 4 (between s (end + 1) e) (Number v) → Read s at e (ns ++ v ∷ [])
   read-more {end} {e} {v} {ns} r w h p = record {
     more = λ c next fs t. rw (map-more ns v fs) (r .more w next (Number v ∷ fs) (more-fields h p c t));
-    ends = λ z c. rw (map-last ns v) (r .more w (e + 1) (Number v ∷ []) (last-field h p c));
+    ends = λ z next c. rw (map-last ns v) (r .more w next (Number v ∷ []) (last-field h p c));
   }
 
 -- ---- what is kept
@@ -124,7 +124,7 @@ module _ {s : List ℕ} {at next : ℕ} (ns : List ℕ) (l : PlainLine 4 s at ne
   unfolding valuesOf
   numbers-are = rw (l .fields) (values ns)
 
--- what is known of a list line at a comma or a line end
+-- what is known of a list line at a comma or an ending
 pub record Walked (s : List ℕ) (at : ℕ) (xs : List ℕ) (count high end : ℕ) : Type 0 where
   pub numbers : List ℕ
   pub read : Read s at end numbers
@@ -132,19 +132,19 @@ pub record Walked (s : List ℕ) (at : ℕ) (xs : List ℕ) (count high end : �
   pub few : at + count < end
   pub within : end ≤ length s
 
-pub listing : {s xs : List ℕ} {at b count high end : ℕ} → Walked s at xs count high end → Stands b s at → 0 < count → Stands 10 s end
-    → Listing (classOf b) s at (record { count = count; high = high; next = end + 1 }) xs
-listing {s} {xs} {at} {b} {count} {high} {end} w o h e =
+pub listing : {s xs : List ℕ} {at b count high end next : ℕ} → Walked s at xs count high end → Stands b s at → 0 < count → PastEnding s end next → end < next
+    → Listing (classOf b) s at (record { count = count; high = high; next = next }) xs
+listing {s} {xs} {at} {b} {count} {high} {end} {next} w o h e g =
     let some : 0 < length (w .numbers) = omega (arith, w .kept .counted) in
-    let l = w .read .ends some e in
+    let l = w .read .ends some next (e .ending g) in
     let q = numbers-are (w .numbers) l some in
     record {
       bytes = l .bytes;
       lines = l .lines;
-      within = omega (arith, e .within);
+      within = e .within g;
       list = is-list (w .numbers) l some (o .byte);
       count = w .kept .counted ∙ ap length (sym q);
-      few = omega (arith, e .within, w .few);
+      few = omega (arith, e .within g, w .few);
       high = λ known. rw q (highest known some);
       numbers = rw q (λ f. record { long = w .kept .long; numbers = rw (← w .kept .counted) (w .kept .array f) });
     }

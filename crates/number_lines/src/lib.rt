@@ -16,6 +16,7 @@ use digits::stands;
 use fields::is_list;
 use fields::letter_at;
 use fields::number_at;
+use lines::past_ending;
 use machine_numbers::greater;
 use spec::Class;
 
@@ -135,12 +136,13 @@ pub fn list_at(letter: u8, text: &[u8], at: usize, xs: &mut [u8; NUMBERS]) -> Li
     if seen == 0 {
         return none;
     }
-    if !stands(10, text, end) {
+    let next = past_ending(text, end);
+    if next == end {
         return none;
     }
     Listed {
         count: seen,
         high,
-        next: end + 1,
+        next,
     }
 }

@@ -1,23 +1,25 @@
--- Plain lines, put together from their end: a field and its line end, a field, a comma and what follows, and the letter in front.
+-- Plain lines, put together from their end: a field and the ending, a field, a comma and what follows, and the letter in front.
 -- Assumes nothing.
 use Prim.Native.Nat.{ℕ, suc, _+_, _-_, _≤_, _<_}
 use mathlib.Core.Path.{_≡_, refl, ap, _∙_}
 use mathlib.Core.Bool.{Bool, true, false, _&&_, _||_, not, and-false}
-use mathlib.Core.List.{List, [], _∷_, _++_, map}
+use mathlib.Core.List.{List, [], _∷_, _++_, map, append-nil}
 use native.Mathlib.Omega.{arith}
 use lib.ListN.{length, getD, drop}
 use lib.Dec.{leb, eqb}
-use borrow.Author.Tests.{leb-false, eqb-true, not-false}
+use borrow.Author.Tests.{leb-false, eqb-true, eqb-false, not-false}
 use Rattle.spec.specs.Lists.{every}
 use Rattle.spec.specs.Text.{Line, named, inDigits, classOf, digitOf, isA, onFirst, linesOf, needlessZero, isNumber, grow, pieces, isOnly, isDash}
 use Rattle.line_forms.specs.Rows.{slotOf, letterOf, letterIn, slotsOf, rowOf}
 use Rattle.spec.specs.Classes.{alike}
-use Rattle.spec.specs.declared.Class.the-variants.{Comma, LineEnd}
+use Rattle.spec.specs.declared.Class.the-variants.{Comma, LineEnd, Return}
 use Rattle.line_forms.specs.declared.Slot.{Slot}
 use Rattle.line_forms.specs.declared.Slot.the-variants.{Dash, Absent}
 use Rattle.lists.specs.Along.{rest-at}
 use Rattle.lists.specs.Laws.{or-false}
-use Rattle.lines.specs.Lines.{lineOf, LineTo}
+use Rattle.lists.specs.LineEnds.{ten-first, return-first, other-first}
+use Rattle.lines.specs.Lines.{lineOf, LineTo, Ending, ten, return-ten, PastEnding}
+use Rattle.lines.proofs.Lines.{went-on}
 use Rattle.digits.specs.Digits.{between, Stands, Without, IsField}
 use Rattle.digits.proofs.Digits.{parted}
 use Rattle.plain_lines.specs.Plain.{Begins, rowWith, PlainLine, MayRead, ThreeAt}
@@ -32,27 +34,24 @@ comma-goes-on : isA LineEnd 44 ≡ false
 unfolding isA alike classOf named inDigits
 comma-goes-on = refl
 
-end-byte : isA LineEnd 10 ≡ true
+comma-no-return : isA Return 44 ≡ false
 unfolding isA alike classOf named inDigits
-end-byte = refl
+comma-no-return = refl
 
 -- ---- bytes in front of a line, and of a piece
 
-line-grows : (b : ℕ) (bs l : List ℕ) (ls : List Line) → isA LineEnd b ≡ false → linesOf bs ≡ record { bytes = l; ended = true } ∷ ls → linesOf (b ∷ bs) ≡ record { bytes = b ∷ l; ended = true } ∷ ls
-unfolding linesOf onFirst
-line-grows b bs l ls e r = rw (e, r)
+line-grows : (b : ℕ) (bs l : List ℕ) (ls : List Line) → isA LineEnd b ≡ false → isA Return b ≡ false → linesOf bs ≡ record { bytes = l; ended = true } ∷ ls → linesOf (b ∷ bs) ≡ record { bytes = b ∷ l; ended = true } ∷ ls
+unfolding onFirst
+line-grows b bs l ls e n r = other-first b bs e n ∙ rw r
 
-lines-grow : (p bs l : List ℕ) (ls : List Line) → Without LineEnd p → linesOf bs ≡ record { bytes = l; ended = true } ∷ ls → linesOf (p ++ bs) ≡ record { bytes = p ++ l; ended = true } ∷ ls
-lines-grow [] bs l ls w r = r
-lines-grow (b ∷ p) bs l ls w r = line-grows b (p ++ bs) (p ++ l) ls (w .0) (lines-grow p bs l ls (w .1) r)
+lines-grow : (p bs l : List ℕ) (ls : List Line) → Without LineEnd p → Without Return p → linesOf bs ≡ record { bytes = l; ended = true } ∷ ls → linesOf (p ++ bs) ≡ record { bytes = p ++ l; ended = true } ∷ ls
+lines-grow [] bs l ls w n r = r
+lines-grow (b ∷ p) bs l ls w n r = line-grows b (p ++ bs) (p ++ l) ls (w .0) (n .0) (lines-grow p bs l ls (w .1) (n .1) r)
 
-line-ends : (bs : List ℕ) → linesOf (10 ∷ bs) ≡ record { bytes = []; ended = true } ∷ linesOf bs
-unfolding linesOf
-line-ends bs = rw end-byte
-
-line-back : (p bs : List ℕ) → Without LineEnd p → linesOf (p ++ 10 ∷ bs) ≡ record { bytes = p; ended = true } ∷ linesOf bs
-line-back [] bs w = line-ends bs
-line-back (b ∷ p) bs w = line-grows b (p ++ 10 ∷ bs) p (linesOf bs) (w .0) (line-back p bs (w .1))
+-- an ending is an empty line
+line-ends : {s : List ℕ} {at next : ℕ} → Ending s at next → linesOf (drop at s) ≡ record { bytes = []; ended = true } ∷ linesOf (drop next s)
+line-ends (ten e) = ap linesOf e ∙ ten-first _
+line-ends (return-ten e) = ap linesOf e ∙ return-first _
 
 last-piece : (p : List ℕ) → Without Comma p → pieces p ≡ p ∷ []
 unfolding pieces grow
@@ -66,7 +65,7 @@ piece-back (b ∷ p) bs w = rw (w .0, piece-back p bs (w .1))
 
 -- ---- a line from its end
 
--- from a position on stand these fields and the line end
+-- from a position on stand these fields and an ending
 pub record Tail (most : ℕ) (s : List ℕ) (at next : ℕ) (fs : List Slot) : Type 0 where
   pub bytes : List ℕ
   pub lines : linesOf (drop at s) ≡ record { bytes = bytes; ended = true } ∷ linesOf (drop next s)
@@ -76,10 +75,10 @@ stood : {b : ℕ} {s : List ℕ} {at : ℕ} → Stands b s at → drop at s ≡ 
 stood {b} {s} {at} h = rest-at s at (h .within) ∙ ap (λ (x : ℕ). x ∷ drop (at + 1) s) (h .byte)
 
 module _ {most : ℕ} {s : List ℕ} {at e : ℕ} {f : Slot} (h : at ≤ e) (p : IsField most (between s at e) f) where
-  pub last-field : Stands 10 s e → Tail most s at (e + 1) (f ∷ [])
-  last-field w = record {
+  pub last-field : {next : ℕ} → Ending s e next → Tail most s at next (f ∷ [])
+  last-field {next} w = record {
     bytes = between s at e;
-    lines = ap linesOf (parted s at e h ∙ ap (λ (r : List ℕ). between s at e ++ r) (stood w)) ∙ line-back (between s at e) (drop (e + 1) s) (p .ends);
+    lines = ap linesOf (parted s at e h) ∙ rw append-nil at (lines-grow (between s at e) (drop e s) [] (linesOf (drop next s)) (p .ends) (p .returns) (line-ends w));
     fields = ap (map (slotOf most)) (last-piece (between s at e) (p .commas)) ∙ ap (λ (x : Slot). x ∷ []) (p .field);
   }
 
@@ -88,7 +87,7 @@ module _ {most : ℕ} {s : List ℕ} {at e : ℕ} {f : Slot} (h : at ≤ e) (p :
     bytes = between s at e ++ 44 ∷ t .bytes;
     lines =
         ap linesOf (parted s at e h ∙ ap (λ (r : List ℕ). between s at e ++ r) (stood w))
-        ∙ lines-grow (between s at e) (44 ∷ drop (e + 1) s) (44 ∷ t .bytes) (linesOf (drop next s)) (p .ends) (line-grows 44 (drop (e + 1) s) (t .bytes) (linesOf (drop next s)) comma-goes-on (t .lines));
+        ∙ lines-grow (between s at e) (44 ∷ drop (e + 1) s) (44 ∷ t .bytes) (linesOf (drop next s)) (p .ends) (p .returns) (line-grows 44 (drop (e + 1) s) (t .bytes) (linesOf (drop next s)) comma-goes-on comma-no-return (t .lines));
     fields =
         ap (map (slotOf most)) (piece-back (between s at e) (t .bytes) (p .commas))
         ∙ ap (λ (x : Slot). x ∷ map (slotOf most) (pieces (t .bytes))) (p .field)
@@ -124,7 +123,7 @@ module _ {most : ℕ} {s : List ℕ} {at : ℕ} (b : Begins s at) where
     bytes = getD s at 0 ∷ 44 ∷ t .bytes;
     lines =
         ap linesOf (rest-at s at (b .within) ∙ ap (λ (r : List ℕ). getD s at 0 ∷ r) (stood w))
-        ∙ line-grows (getD s at 0) _ (44 ∷ t .bytes) (linesOf (drop next s)) (b .letter .end) (line-grows 44 _ (t .bytes) (linesOf (drop next s)) comma-goes-on (ap (λ (i : ℕ). linesOf (drop i s)) two ∙ t .lines));
+        ∙ line-grows (getD s at 0) _ (44 ∷ t .bytes) (linesOf (drop next s)) (b .letter .end) (b .letter .return) (line-grows 44 _ (t .bytes) (linesOf (drop next s)) comma-goes-on comma-no-return (ap (λ (i : ℕ). linesOf (drop i s)) two ∙ t .lines));
     letter = letter;
     fields = fields;
     row = row-with most _ (getD s at 0) letter fields;
@@ -139,26 +138,20 @@ module _ {most : ℕ} {s : List ℕ} {at : ℕ} (b : Begins s at) where
       fields : slotsOf most (getD s at 0 ∷ 44 ∷ t .bytes) ≡ fs
       fields = fields-are (getD s at 0) (b .letter .comma) most (t .bytes) fs (t .fields)
 
-  pub letter-alone : Stands 10 s (at + 1) → PlainLine most s at (at + 2) []
+  pub letter-alone : {next : ℕ} → Ending s (at + 1) next → PlainLine most s at next []
   letter-alone w = record {
     bytes = getD s at 0 ∷ [];
-    lines =
-        ap linesOf (rest-at s at (b .within) ∙ ap (λ (r : List ℕ). getD s at 0 ∷ r) (stood w))
-        ∙ line-grows (getD s at 0) _ [] _ (b .letter .end) (line-ends (drop (at + 1 + 1) s))
-        ∙ ap (λ (i : ℕ). record { bytes = getD s at 0 ∷ []; ended = true } ∷ linesOf (drop i s)) two;
+    lines = ap linesOf (rest-at s at (b .within)) ∙ line-grows (getD s at 0) _ [] _ (b .letter .end) (b .letter .return) (line-ends w);
     letter = letter-only (getD s at 0) (b .letter .comma);
     fields = fields-no (getD s at 0) (b .letter .comma) most;
     row = row-with most _ (getD s at 0) (letter-only (getD s at 0) (b .letter .comma)) (fields-no (getD s at 0) (b .letter .comma) most);
   }
-    where
-      two : at + 1 + 1 ≡ at + 2
-      two = omega arith
 
 -- ---- a dash
 
 pub dash-field : (most : ℕ) {s : List ℕ} {at : ℕ} → Stands 45 s at → IsField most (between s at (at + 1)) Dash
 unfolding slotOf isNumber needlessZero digitOf every isDash isOnly isA alike classOf named inDigits
-dash-field most {s} {at} h = let z : at + 1 - at ≡ suc 0 = omega arith in rw (z, stood h) (record { commas = (refl, tt); ends = (refl, tt); field = dashed })
+dash-field most {s} {at} h = let z : at + 1 - at ≡ suc 0 = omega arith in rw (z, stood h) (record { commas = (refl, tt); ends = (refl, tt); returns = (refl, tt); field = dashed })
   where
     dashed : slotOf most (45 ∷ []) ≡ Dash
     dashed = rw (and-false (leb 1 1 && leb 1 most && not false))
@@ -171,6 +164,13 @@ read-to {b} {e} {s} {t} from k h = let z = or-false (leb e from) (not t) h in (l
 
 pub behind : (s : List ℕ) (from e b : ℕ) → (leb e from || not (eqb (getD s e 0) b)) ≡ false → e < length s → (from < e) × Stands b s e
 behind s from e b h l = read-to from (λ w. record { within = l; byte = eqb-true (getD s e 0) b w }) h
+
+-- the same of an ending, which is passed
+pub ended-to : {s : List ℕ} {e next : ℕ} (from : ℕ) → PastEnding s e next → (leb e from || eqb next e) ≡ false → (from < e) × (next ≤ length s) × Ending s e next
+ended-to {s} {e} {next} from p h =
+    let z = or-false (leb e from) (eqb next e) h in
+    let g = went-on p (eqb-false next e (z .1)) in
+    (leb-false e from (z .0), p .within g, p .ending g)
 
 -- ---- a line that is read, and one of another form
 

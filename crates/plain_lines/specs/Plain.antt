@@ -1,4 +1,5 @@
--- Plain lines: a letter, and numbers or dashes behind it, each line ended. What the functions that read them promise.
+-- Plain lines: a letter, and numbers or dashes behind it, each line ended by byte 10 or by 13 and 10. What the functions
+-- that read them promise.
 use Prim.Native.Nat.{ℕ, _+_, _≤_, _<_}
 use mathlib.Core.Path.{_≡_}
 use mathlib.Core.Bool.{true, false}
@@ -7,7 +8,7 @@ use lib.ListN.{length, getD, drop}
 use Rattle.spec.specs.Text.{isA, classOf, linesOf}
 use Rattle.line_forms.specs.Rows.{letterIn, slotsOf, rowOf, aNumberOrDash}
 use Rattle.spec.specs.declared.Class.{Class}
-use Rattle.spec.specs.declared.Class.the-variants.{Comma, LineEnd}
+use Rattle.spec.specs.declared.Class.the-variants.{Comma, LineEnd, Return}
 use Rattle.line_forms.specs.declared.Slot.{Slot}
 use Rattle.line_forms.specs.declared.Slot.the-variants.{Number, Absent}
 use Rattle.line_forms.specs.declared.Row.{Row}
@@ -17,12 +18,12 @@ use Rattle.plain_lines.specs.declared.One.{One}
 use Rattle.plain_lines.specs.declared.Two.{Two}
 use Rattle.plain_lines.specs.declared.Three.{Three}
 
--- the bytes of the longest lines of two and of three fields, where a number has four digits
+-- the bytes of the longest lines of two and of three fields, where a number has four digits and the ending two bytes
 abbrev pub longestTwo : ℕ
-longestTwo = 12
+longestTwo = 13
 
 abbrev pub longestThree : ℕ
-longestThree = 17
+longestThree = 18
 
 -- the number or the dash that starts at a position, if there is one
 pub record ReadsField (most : ℕ) (s : List ℕ) (at : ℕ) (r : FieldFrom) : Type 0 where
@@ -36,10 +37,11 @@ pub record FieldInside (s : List ℕ) (at : ℕ) (r : FieldFrom) : Type 0 where
   pub few : r .end ≤ at + 4
   pub read : (most : ℕ) → 4 ≤ most → ReadsField most s at r
 
--- a byte that is neither a comma nor a line end
+-- a byte that is neither a comma nor one of an ending
 pub record Opens (b : ℕ) : Type 0 where
   pub comma : isA Comma b ≡ false
   pub end : isA LineEnd b ≡ false
+  pub return : isA Return b ≡ false
 
 -- a line begins with such a byte at a position
 pub record Begins (s : List ℕ) (at : ℕ) : Type 0 where

@@ -1,5 +1,5 @@
-// Plain lines, read in one walk of the text: a letter, then numbers or dashes, and the line end. A line that is not of
-// the form asked for is left where it stands, for the readers of `lines` and `fields`.
+// Plain lines, read in one walk of the text: a letter, then numbers or dashes, and the ending, byte 10 or 13 and 10. A
+// line that is not of the form asked for is left where it stands, for the readers of `lines` and `fields`.
 ghost use Prim.Native.Nat.{ℕ, _+_, _≤_};
 ghost use lib.ListN.{length};
 ghost use Rattle.plain_lines.specs.Plain.{longestTwo, longestThree, ReadsField, FieldInside, Begins};
@@ -8,11 +8,13 @@ use digits::number_from;
 use digits::number_inside;
 use digits::stands;
 use line_forms::Slot;
+use lines::past_ending;
+use lines::past_ending_inside;
 
-// The bytes of the longest lines of two and of three fields, where a number has four digits.
-const LONGEST_TWO: usize = 12;
+// The bytes of the longest lines of two and of three fields, where a number has four digits and the ending two bytes.
+const LONGEST_TWO: usize = 13;
 
-const LONGEST_THREE: usize = 17;
+const LONGEST_THREE: usize = 18;
 
 // A number or a dash, and where it ends: where it starts, if there is none.
 pub struct FieldFrom {
@@ -67,10 +69,12 @@ pub fn alone_at(s: &[u8], at: usize) -> usize
     requires { ⌜ Begins (now s) at ⌝ }
     ensures { λ r. ⌜ AloneAt (now (s .entry)) at r ⌝ }
 {
-    if stands(10, s, at + 1) {
-        return at + 2;
+    let end = at + 1;
+    let next = past_ending(s, end);
+    if next == end {
+        return at;
     }
-    at
+    next
 }
 
 // The number of a line with a letter and a number, and where the next line starts; below the same for other forms. A
@@ -89,14 +93,11 @@ pub fn one_at(most: usize, s: &[u8], at: usize) -> One
     }
     let from = at + 2;
     let x = number_from(most, s, from);
-    let end = x.end;
-    if (end <= from) | !stands(10, s, end) {
+    let next = past_ending(s, x.end);
+    if (x.end <= from) | (next == x.end) {
         return One { a: 0, next: at };
     }
-    One {
-        a: x.value,
-        next: end + 1,
-    }
+    One { a: x.value, next }
 }
 
 pub struct Two {
@@ -126,14 +127,14 @@ fn two_near_end(most: usize, s: &[u8], at: usize) -> Two
     }
     let then = comma + 1;
     let y = number_from(most, s, then);
-    let end = y.end;
-    if (end <= then) | !stands(10, s, end) {
+    let next = past_ending(s, y.end);
+    if (y.end <= then) | (next == y.end) {
         return none;
     }
     Two {
         a: x.value,
         b: y.value,
-        next: end + 1,
+        next,
     }
 }
 
@@ -159,13 +160,14 @@ fn two_inside(s: &[u8], at: usize) -> Two
     let then = comma + 1;
     let b = number_inside(s, then);
     let end = b.end;
-    if (end <= then) | (s[end] != 10) {
+    let next = past_ending_inside(s, end);
+    if (end <= then) | (next == end) {
         return none;
     }
     Two {
         a: a.value,
         b: b.value,
-        next: end + 1,
+        next,
     }
 }
 
@@ -214,8 +216,8 @@ fn three_near_end(most: usize, s: &[u8], at: usize) -> Three
     }
     let last = other + 1;
     let z = field_from(most, s, last);
-    let end = z.end;
-    if (end <= last) | !stands(10, s, end) {
+    let next = past_ending(s, z.end);
+    if (z.end <= last) | (next == z.end) {
         return none;
     }
     let b = y.field;
@@ -224,7 +226,7 @@ fn three_near_end(most: usize, s: &[u8], at: usize) -> Three
         a: x.value,
         b,
         c,
-        next: end + 1,
+        next,
     }
 }
 
@@ -256,8 +258,8 @@ fn three_inside(s: &[u8], at: usize) -> Three
     }
     let last = other + 1;
     let z = field_inside(s, last);
-    let end = z.end;
-    if (end <= last) | (s[end] != 10) {
+    let next = past_ending_inside(s, z.end);
+    if (z.end <= last) | (next == z.end) {
         return none;
     }
     let b = y.field;
@@ -266,7 +268,7 @@ fn three_inside(s: &[u8], at: usize) -> Three
         a: x.value,
         b,
         c,
-        next: end + 1,
+        next,
     }
 }
 

@@ -51,23 +51,23 @@ module _ (lim : Limits) (k : ℕ) (b : List ℕ) (N : Net) (R : RunRecord) where
 
 pub opens-event : Opens 69
 unfolding isA alike classOf named inDigits
-opens-event = record { comma = refl; end = refl }
+opens-event = record { comma = refl; end = refl; return = refl }
 
 pub opens-condition : Opens 67
 unfolding isA alike classOf named inDigits
-opens-condition = record { comma = refl; end = refl }
+opens-condition = record { comma = refl; end = refl; return = refl }
 
 opens-before : Opens 66
 unfolding isA alike classOf named inDigits
-opens-before = record { comma = refl; end = refl }
+opens-before = record { comma = refl; end = refl; return = refl }
 
 opens-after : Opens 65
 unfolding isA alike classOf named inDigits
-opens-after = record { comma = refl; end = refl }
+opens-after = record { comma = refl; end = refl; return = refl }
 
 opens-read : Opens 82
 unfolding isA alike classOf named inDigits
-opens-read = record { comma = refl; end = refl }
+opens-read = record { comma = refl; end = refl; return = refl }
 
 pub opens-mark : {x : ℕ} → MarkLetter x → Opens x
 opens-mark (inl e) = subst Opens (sym e) opens-before

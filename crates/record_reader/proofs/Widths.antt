@@ -1,23 +1,25 @@
 -- A condition's line has eight bytes or more, so that a text has at most as many words of marks as bytes: a line of a
--- letter and three fields has a byte for each, a comma before each field, and its end.
-use Prim.Native.Nat.{ℕ, _+_, _*_, _≤_, _<_}
+-- letter and three fields has a byte for each, a comma before each field, and its byte 10. Where the ending has a byte 13
+-- too, the line takes up one byte more than its width.
+use Prim.Native.Nat.{ℕ, zero, suc, _+_, _-_, _*_, _≤_, _<_}
 use Prim.Native.Char.{Char, code}
 use mathlib.Core.Path.{_≡_, refl, sym, ap, _∙_}
 use mathlib.Core.Bool.{Bool, true, false, true≢false, cond}
 use mathlib.Core.Logic.{inl, inr}
-use mathlib.Core.List.{List, [], _∷_}
+use mathlib.Core.List.{List, [], _∷_, map}
 use native.Mathlib.Omega.{arith}
-use lib.ListN.{length, getD, drop, length-append, length-drop}
+use lib.ListN.{length, getD, drop, length-append, length-drop, length-map}
+use lib.Seq.{drop-drop}
 use borrow.Author.Tests.{eqb-true, leb-true}
 use Rattle.spec.specs.Lists.{asCount, sumOf}
 use Rattle.spec.specs.Answer.{Answer, gives, refuses, _>>_, refuse_at_when_}
-use Rattle.spec.specs.Text.{Line, onFirst, linesOf, grow, pieces, classOf, isA, isOnly, isDash, isNumber, mostDigits}
+use Rattle.spec.specs.Text.{Line, onFirst, rawLinesOf, butReturn, withoutReturn, linesOf, grow, pieces, classOf, isA, isOnly, isDash, isNumber, mostDigits}
 use Rattle.spec.specs.Forms.{FieldForm, number, numberOrDash, hasLetter, fieldsOf, isOf, areOf, isLine, numberAt}
 use Rattle.spec.specs.Net.{Net}
 use Rattle.spec.specs.Record.{RunRecord, Condition, Mark}
 use Rattle.spec.specs.Checking.{withEvent, withCondition, withMark, enterEvent, enterCondition, enterMark, conditionOf, markIn, enterLine}
 use Rattle.spec.specs.declared.Class.{Class}
-use Rattle.spec.specs.declared.Class.the-variants.{Comma, Dash, LineEnd}
+use Rattle.spec.specs.declared.Class.the-variants.{Comma, Dash, LineEnd, Return}
 use Rattle.spec.specs.declared.Limits.{Limits}
 use Rattle.spec.specs.declared.MarkKind.the-variants.{Before, After, Read}
 use Rattle.lists.specs.Laws.{and-true, and-three, and-four, or-true, count-true}
@@ -26,26 +28,68 @@ use Rattle.record_columns.specs.Layout.{conditionWords}
 
 -- ---- the lines of a text
 
--- the bytes of a line and of its end
+-- the bytes of a line and the byte 10 behind it
 unfoldable pub width : Line → ℕ
 width l = length (l .bytes) + asCount (l .ended)
 
-lines-wide : (bs : List ℕ) → sumOf width (linesOf bs) ≡ length bs
-unfolding linesOf sumOf onFirst width asCount
-lines-wide [] = refl
-lines-wide (b ∷ bs) = go (isA LineEnd b) (linesOf bs) (lines-wide bs)
+but-short : (bs : List ℕ) → length (butReturn bs) ≤ length bs
+unfolding butReturn
+but-short [] = omega arith
+but-short (b ∷ []) = go (isA Return b)
   where
-    go : (t : Bool) (ls : List Line) → sumOf width ls ≡ length bs → sumOf width (cond t (record { bytes = []; ended = true } ∷ ls) (onFirst b ls)) ≡ length (b ∷ bs)
-    go true ls h = omega arith
-    go false [] h = omega arith
-    go false (l ∷ ls) h = omega arith
+    go : (t : Bool) → length (cond t [] (b ∷ [])) ≤ length (b ∷ [])
+    go true = omega arith
+    go false = omega arith
+but-short (b ∷ c ∷ bs) = omega (arith, but-short (c ∷ bs))
+
+-- a line is no wider without the byte 13 of its ending
+narrower : (l : Line) → width (withoutReturn l) ≤ width l
+unfolding withoutReturn width
+narrower l = go (l .ended) refl
+  where
+    go : (t : Bool) → l .ended ≡ t → width (cond t (record { bytes = butReturn (l .bytes); ended = true }) l) ≤ width l
+    go true e = omega (arith, but-short (l .bytes), ap asCount e)
+    go false e = omega arith
+
+-- the first of these lines is no wider than k and n, if so many lines follow it
+abbrev FirstFits : List Line → ℕ → ℕ → ℕ → Type 0
+FirstFits [] rest k n = Unit {0}
+FirstFits (l ∷ ls) rest k n = length ls ≡ rest → (width l ≤ k) × (width l ≤ n)
+
+-- k bytes further on the lines behind the first are left only if the first ends there or before
+first-fits : (bs : List ℕ) (k : ℕ) → FirstFits (rawLinesOf bs) (length (rawLinesOf (drop k bs))) k (length bs)
+unfolding rawLinesOf onFirst width asCount
+first-fits [] k = tt
+first-fits (b ∷ bs) zero = one-more (rawLinesOf (b ∷ bs))
+  where
+    one-more : (ls : List Line) → FirstFits ls (length ls) 0 (length (b ∷ bs))
+    one-more [] = tt
+    one-more (l ∷ ls) = λ e. absurd (omega arith)
+first-fits (b ∷ bs) (suc k) = go (isA LineEnd b) (rawLinesOf bs) (first-fits bs k)
+  where
+    rest : ℕ
+    rest = length (rawLinesOf (drop k bs))
+
+    go : (t : Bool) (ls : List Line) → FirstFits ls rest k (length bs) → FirstFits (cond t (record { bytes = []; ended = true } ∷ ls) (onFirst b ls)) rest (suc k) (length (b ∷ bs))
+    go true ls h = λ e. (omega arith, omega arith)
+    go false [] h = λ e. (omega arith, omega arith)
+    go false (l ∷ ls) h = λ e. let z = h e in (omega arith, omega arith)
 
 -- the line at a position ends within the text, and before the next
 pub line-ends : {s : List ℕ} {i next : ℕ} (l : LineTo s i next) → i < length s → (i + width (l .line) ≤ next) × (i + width (l .line) ≤ length s)
-unfolding sumOf
-line-ends {s} {i} {next} l h =
-    let e : length (drop i s) ≡ width (l .line) + length (drop next s) = sym (lines-wide (drop i s)) ∙ ap (sumOf width) (l .lines) ∙ ap (λ (n : ℕ). width (l .line) + n) (lines-wide (drop next s)) in
-    (omega (arith, length-drop i s, length-drop next s, l .on, l .within), omega (arith, length-drop i s, length-drop next s, l .on, l .within))
+unfolding linesOf
+line-ends {s} {i} {next} l h = go (rawLinesOf (drop i s)) (rw behind at (first-fits (drop i s) (next - i))) (l .lines)
+  where
+    behind : drop (next - i) (drop i s) ≡ drop next s
+    behind = let z : i + (next - i) ≡ next = omega (arith, l .on) in drop-drop (next - i) i s ∙ ap (λ (k : ℕ). drop k s) z
+
+    go : (ls : List Line) → FirstFits ls (length (rawLinesOf (drop next s))) (next - i) (length (drop i s)) → map withoutReturn ls ≡ l .line ∷ map withoutReturn (rawLinesOf (drop next s)) → (i + width (l .line) ≤ next) × (i + width (l .line) ≤ length s)
+    go [] f e = let z : _≡_ {A = ℕ} 0 1 = cc in absurd (omega arith)
+    go (m ∷ ls) f e =
+        let first : withoutReturn m ≡ l .line = cc in
+        let others : map withoutReturn ls ≡ map withoutReturn (rawLinesOf (drop next s)) = cc in
+        let z = f (sym (length-map ls withoutReturn) ∙ ap length others ∙ length-map (rawLinesOf (drop next s)) withoutReturn) in
+        (omega (arith, z .0, narrower m, ap width first, l .on), omega (arith, z .1, narrower m, ap width first, length-drop i s))
 
 -- ---- the pieces of a line
 

@@ -41,7 +41,7 @@ some-number l e = list-some l "S" e
 -- the letter of a step
 pub opens-step : Opens 83
 unfolding isA alike classOf named inDigits
-opens-step = record { comma = refl; end = refl }
+opens-step = record { comma = refl; end = refl; return = refl }
 
 pub list-step : (b : List ℕ) → isList mostDigits (classOf 83) b ≡ true → isStepLine (lineOf b true) ≡ true
 unfolding isStepLine alike classOf named inDigits

@@ -57,6 +57,9 @@ enum-told-16 c = search needs
 enum-told-17 : tie.Need-enum-told-17
 enum-told-17 c = search needs
 
+enum-told-18 : tie.Need-enum-told-18
+enum-told-18 c = search needs
+
 returns : tie.Need-returns
 returns c = sym (c .before .match .keys1) ∙ place-is-code (c .before .before .args .k)
 
@@ -108,6 +111,9 @@ returns-16 c = sym (c .before .match .keys16) ∙ place-is-code (c .before .befo
 returns-17 : tie.Need-returns-17
 returns-17 c = sym (c .before .match .keys17) ∙ place-is-code (c .before .before .args .k)
 
+returns-18 : tie.Need-returns-18
+returns-18 c = sym (c .before .match .keys18) ∙ place-is-code (c .before .before .args .k)
+
 pub class-code-spec : {M : Type 1} → statement M
 class-code-spec =
     tie.close
@@ -129,6 +135,7 @@ class-code-spec =
     enum-told-15
     enum-told-16
     enum-told-17
+    enum-told-18
     returns
     returns-2
     returns-3
@@ -145,4 +152,5 @@ class-code-spec =
     returns-14
     returns-15
     returns-16
-    returns-17)
+    returns-17
+    returns-18)

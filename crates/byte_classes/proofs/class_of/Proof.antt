@@ -56,6 +56,9 @@ plain-requires-15 c κs = tt
 plain-requires-16 : tie.Need-plain-requires-16
 plain-requires-16 c κs = tt
 
+plain-requires-17 : tie.Need-plain-requires-17
+plain-requires-17 c κs = tt
+
 returns : tie.Need-returns
 unfolding named inDigits classOf digitOf classAndDigit
 returns c = c .plain .ensures ∙ sym (ap classAndDigit (c .before .match .keys1))
@@ -118,11 +121,15 @@ returns-15 c = c .plain15 .ensures ∙ sym (ap classAndDigit (c .before .match .
 
 returns-16 : tie.Need-returns-16
 unfolding named inDigits classOf digitOf classAndDigit
-returns-16 c = digit (c .before .before .before .args .b) (omega arith) (omega arith)
+returns-16 c = c .plain16 .ensures ∙ sym (ap classAndDigit (c .before .match .keys16))
 
 returns-17 : tie.Need-returns-17
 unfolding named inDigits classOf digitOf classAndDigit
-returns-17 c = c .plain16 .ensures
+returns-17 c = digit (c .before .before .before .args .b) (omega arith) (omega arith)
+
+returns-18 : tie.Need-returns-18
+unfolding named inDigits classOf digitOf classAndDigit
+returns-18 c = c .plain17 .ensures
     ∙ foreign (c .before .before .before .args .b)
     (λ p q. ⊎-elim (λ w. not-below (w .taken) p) (λ w. not-below (w .1 .left) q) (c .before .if1 .came)) (c .before .before .match .rest)
 
@@ -146,6 +153,7 @@ class-of-spec =
     plain-requires-14
     plain-requires-15
     plain-requires-16
+    plain-requires-17
     returns
     returns-2
     returns-3
@@ -162,4 +170,5 @@ class-of-spec =
     returns-14
     returns-15
     returns-16
-    returns-17)
+    returns-17
+    returns-18)

@@ -4,6 +4,7 @@ use Prim.Native.Nat.{_-_}
 use native.Mathlib.Omega.{arith}
 use lib.ListN.{length}
 use borrow.Author.Tests.{not-false}
+use Rattle.lines.proofs.Lines.{went-on}
 use Rattle.number_lines.proofs.Listing.{Walked, walk-start, walk-on, listing, no-list}
 use Rattle.number_lines.proofs.list_at.Statement.{statement}
 use Rattle.number_lines.proofs.list_at.Tie as tie
@@ -57,21 +58,18 @@ loop-again c = let n = c .before .before .before .before .before in let i = n .b
 returns-3 : tie.Need-returns-3 Inv-loop μ-loop
 returns-3 c = no-list (c .before .before .before .loop .inv .kept .long)
 
-stands-requires-3 : tie.Need-stands-requires-3 Inv-loop μ-loop
-stands-requires-3 c κs = tt
+past-ending-requires : tie.Need-past-ending-requires Inv-loop μ-loop
+past-ending-requires c κs = tt
 
 returns-4 : tie.Need-returns-4 Inv-loop μ-loop
 returns-4 c = no-list (c .before .before .before .before .before .loop .inv .kept .long)
 
-add-t17 : tie.Need-add-t17 Inv-loop μ-loop
-add-t17 c = omega (arith, c .before .stands3 .ensures (not-false _ (c .if5 .left)) .within)
-
 returns-5 : tie.Need-returns-5 Inv-loop μ-loop
 returns-5 c = let l = c .before .before .before .before .before in let e = l .before in record {
   long = l .loop .inv .kept .long;
-  start = omega (arith, l .loop .inv .few);
-  line = λ h. listing (l .loop .inv) (e .before .stands .ensures (not-false _ (e .if1 .left))) (omega arith) (c .before .stands3 .ensures (not-false _ (c .if5 .left)));
+  start = omega (arith, l .loop .inv .few, c .before .past-ending .ensures .start);
+  line = λ h. listing (l .loop .inv) (e .before .stands .ensures (not-false _ (e .if1 .left))) (omega arith) (c .before .past-ending .ensures) (went-on (c .before .past-ending .ensures) (c .if5 .left));
 }
 
 pub list-at-spec : {M : Type 1} → statement M
-list-at-spec = tie.close (tie.spec Inv-loop μ-loop stands-requires returns add-end loop-holds stands-requires-2 add-from number-from-requires returns-2 put-requires greater-requires add-seen loop-less loop-again returns-3 stands-requires-3 returns-4 add-t17 returns-5)
+list-at-spec = tie.close (tie.spec Inv-loop μ-loop stands-requires returns add-end loop-holds stands-requires-2 add-from number-from-requires returns-2 put-requires greater-requires add-seen loop-less loop-again returns-3 past-ending-requires returns-4 returns-5)

@@ -1,10 +1,9 @@
--- `plain_lines::one_at` meets its contract: the letter, a comma, the number that was read and the line end behind it
+-- `plain_lines::one_at` meets its contract: the letter, a comma, the number that was read and the ending behind it
 -- are the line (`plain-line`). Where one of them is missing, the position stays.
-use Prim.Native.Nat.{_+_, _<_}
+use Prim.Native.Nat.{_+_}
 use native.Mathlib.Omega.{arith}
 use borrow.Author.Tests.{not-false}
-use Rattle.digits.specs.Digits.{Stands}
-use Rattle.plain_lines.proofs.Plain.{last-field, plain-line, read-to, stays}
+use Rattle.plain_lines.proofs.Plain.{last-field, plain-line, ended-to, stays}
 use Rattle.plain_lines.proofs.one_at.Statement.{statement}
 use Rattle.plain_lines.proofs.one_at.Tie as tie
 
@@ -23,24 +22,18 @@ add-from c = omega (arith, c .before .stands .ensures (not-false _ (c .if1 .left
 number-from-requires : tie.Need-number-from-requires
 number-from-requires c κs = (c .before .before .before .pre .0, omega (arith, c .before .stands .ensures (not-false _ (c .if1 .left)) .within))
 
-stands-requires-2 : tie.Need-stands-requires-2
-stands-requires-2 c κs = tt
+past-ending-requires : tie.Need-past-ending-requires
+past-ending-requires c κs = tt
 
 returns-2 : tie.Need-returns-2
-returns-2 c = stays (c .before .before .before .before .before .before .pre .1 .within)
-
--- the number was read, and the line end stands behind it
-number : (j : tie.Else2) → let x = j .before .before in let s = x .before .before .before .before in (s .args .at + 2 < x .number-from .result .end) × Stands 10 (s .args .s .now) (x .number-from .result .end)
-number j = let x = j .before .before in let s = x .before .before .before .before in read-to (s .args .at + 2) (j .before .stands2 .ensures) (j .if2 .left)
-
-add-t8 : tie.Need-add-t8
-add-t8 c = omega (arith, number c .1 .within)
+returns-2 c = stays (c .before .before .before .before .before .before .before .before .pre .1 .within)
 
 returns-3 : tie.Need-returns-3
-returns-3 c = let x = c .before .before in let i = x .before in let n = x .number-from .ensures in record {
-  within = omega (arith, number c .1 .within);
-  line = λ h. plain-line (i .before .before .before .pre .1) (i .before .stands .ensures (not-false _ (i .if1 .left))) (last-field (n .start) (n .number (number c .0)) (number c .1));
-}
+returns-3 c = let p = c .before .before .before in let x = p .before in let i = x .before in let s = i .before .before .before in let n = x .number-from .ensures in
+    let e = ended-to (s .args .at + 2) (p .past-ending .ensures) (c .if2 .left) in record {
+      within = e .1;
+      line = λ h. plain-line (s .pre .1) (i .before .stands .ensures (not-false _ (i .if1 .left))) (last-field (n .start) (n .number (e .0)) (e .2));
+    }
 
 pub one-at-spec : {M : Type 1} → statement M
-one-at-spec = tie.close (tie.spec add-stands stands-requires returns add-from number-from-requires stands-requires-2 returns-2 add-t8 returns-3)
+one-at-spec = tie.close (tie.spec add-stands stands-requires returns add-from number-from-requires past-ending-requires returns-2 returns-3)

@@ -1,11 +1,11 @@
--- `plain_lines::three_near_end` meets its contract: the fields that were read, each with the byte behind it, are the
--- line, put together from its end (`last-field`, `more-fields`, `plain-line`). Where one is missing, the position
--- stays.
+-- `plain_lines::three_near_end` meets its contract: the fields that were read, each with the comma or the ending
+-- behind it, are the line, put together from its end (`last-field`, `more-fields`, `plain-line`). Where one is
+-- missing, the position stays.
 use Prim.Native.Nat.{_+_, _<_}
 use native.Mathlib.Omega.{arith}
 use borrow.Author.Tests.{not-false}
 use Rattle.digits.specs.Digits.{Stands}
-use Rattle.plain_lines.proofs.Plain.{last-field, more-fields, plain-line, read-to, stays-three}
+use Rattle.plain_lines.proofs.Plain.{last-field, more-fields, plain-line, read-to, ended-to, stays-three}
 use Rattle.plain_lines.proofs.three_near_end.Statement.{statement}
 use Rattle.plain_lines.proofs.three_near_end.Tie as tie
 
@@ -56,30 +56,25 @@ add-last c = omega (arith, second c .1 .within)
 field-from-requires-2 : tie.Need-field-from-requires-2
 field-from-requires-2 c κs = (c .before .before .before .before .before .before .before .before .before .pre .0, omega (arith, second c .1 .within))
 
-stands-requires-4 : tie.Need-stands-requires-4
-stands-requires-4 c κs = tt
+past-ending-requires : tie.Need-past-ending-requires
+past-ending-requires c κs = tt
 
 returns-4 : tie.Need-returns-4
-returns-4 c = stays-three (c .before .before .before .before .before .before .before .before .before .before .before .before .pre .1 .within)
+returns-4 c = stays-three (c .before .before .before .before .before .before .before .before .before .before .before .before .before .before .pre .1 .within)
 
--- and the third, and the line end stands behind it
-third : (c : tie.Else4) → let z = c .before .before in let y = z .before .before .before in (y .field-from .result .end + 1 < z .field-from2 .result .end) × Stands 10 (y .before .before .before .before .before .before .before .args .s .now) (z .field-from2 .result .end)
-third c = let y = c .before .before .before .before .before in read-to (y .field-from .result .end + 1) (c .before .stands4 .ensures) (c .if4 .left)
-
-add-t19 : tie.Need-add-t19
-add-t19 c = omega (arith, third c .1 .within)
-
+-- and the third, and an ending stands behind it
 returns-5 : tie.Need-returns-5
-returns-5 c = let z = c .before .before in let k = z .before in let y = k .before .before in let j = y .before in let x = j .before .before in let i = x .before in
-    let n = x .number-from .ensures in let u = y .field-from .ensures in let v = z .field-from2 .ensures in record {
+returns-5 c = let p = c .before .before .before in let z = p .before in let k = z .before in let y = k .before .before in let j = y .before in let x = j .before .before in let i = x .before in
+    let n = x .number-from .ensures in let u = y .field-from .ensures in let v = z .field-from2 .ensures in
+    let e = ended-to (y .field-from .result .end + 1) (p .past-ending .ensures) (c .if4 .left) in record {
       read = record {
-        within = omega (arith, third c .1 .within);
+        within = e .1;
         line = λ h. plain-line (i .before .before .before .pre .1) (i .before .stands .ensures (not-false _ (i .if1 .left)))
-            (more-fields (n .start) (n .number (number j .0)) (number j .1) (more-fields (u .start) (u .field (second k .0)) (second k .1) (last-field (v .start) (v .field (third c .0)) (third c .1))));
+            (more-fields (n .start) (n .number (number j .0)) (number j .1) (more-fields (u .start) (u .field (second k .0)) (second k .1) (last-field (v .start) (v .field (e .0)) (e .2))));
       };
       second = λ h. u .kind (second k .0);
-      third = λ h. v .kind (third c .0);
+      third = λ h. v .kind (e .0);
     }
 
 pub three-near-end-spec : {M : Type 1} → statement M
-three-near-end-spec = tie.close (tie.spec add-stands stands-requires returns add-from number-from-requires stands-requires-2 returns-2 add-then field-from-requires stands-requires-3 returns-3 add-last field-from-requires-2 stands-requires-4 returns-4 add-t19 returns-5)
+three-near-end-spec = tie.close (tie.spec add-stands stands-requires returns add-from number-from-requires stands-requires-2 returns-2 add-then field-from-requires stands-requires-3 returns-3 add-last field-from-requires-2 past-ending-requires returns-4 returns-5)

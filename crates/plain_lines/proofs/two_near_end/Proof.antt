@@ -1,11 +1,11 @@
--- `plain_lines::two_near_end` meets its contract: the fields that were read, each with the byte behind it, are the
--- line, put together from its end (`last-field`, `more-fields`, `plain-line`). Where one is missing, the position
--- stays.
+-- `plain_lines::two_near_end` meets its contract: the fields that were read, each with the comma or the ending
+-- behind it, are the line, put together from its end (`last-field`, `more-fields`, `plain-line`). Where one is
+-- missing, the position stays.
 use Prim.Native.Nat.{_+_, _<_}
 use native.Mathlib.Omega.{arith}
 use borrow.Author.Tests.{not-false}
 use Rattle.digits.specs.Digits.{Stands}
-use Rattle.plain_lines.proofs.Plain.{last-field, more-fields, plain-line, read-to, stays}
+use Rattle.plain_lines.proofs.Plain.{last-field, more-fields, plain-line, read-to, ended-to, stays}
 use Rattle.plain_lines.proofs.two_near_end.Statement.{statement}
 use Rattle.plain_lines.proofs.two_near_end.Tie as tie
 
@@ -40,25 +40,20 @@ add-then c = omega (arith, number c .1 .within)
 number-from-requires-2 : tie.Need-number-from-requires-2
 number-from-requires-2 c κs = (c .before .before .before .before .before .before .pre .0, omega (arith, number c .1 .within))
 
-stands-requires-3 : tie.Need-stands-requires-3
-stands-requires-3 c κs = tt
+past-ending-requires : tie.Need-past-ending-requires
+past-ending-requires c κs = tt
 
 returns-3 : tie.Need-returns-3
-returns-3 c = stays (c .before .before .before .before .before .before .before .before .before .pre .1 .within)
+returns-3 c = stays (c .before .before .before .before .before .before .before .before .before .before .before .pre .1 .within)
 
--- so was the second, and the line end stands behind it
-second : (c : tie.Else3) → let y = c .before .before in let x = y .before .before .before in (x .number-from .result .end + 1 < y .number-from2 .result .end) × Stands 10 (x .before .before .before .before .args .s .now) (y .number-from2 .result .end)
-second c = let x = c .before .before .before .before .before in read-to (x .number-from .result .end + 1) (c .before .stands3 .ensures) (c .if3 .left)
-
-add-t12 : tie.Need-add-t12
-add-t12 c = omega (arith, second c .1 .within)
-
+-- so was the second, and an ending stands behind it
 returns-4 : tie.Need-returns-4
-returns-4 c = let y = c .before .before in let j = y .before in let x = j .before .before in let i = x .before in let n = x .number-from .ensures in let m = y .number-from2 .ensures in record {
-  within = omega (arith, second c .1 .within);
-  line = λ h. plain-line (i .before .before .before .pre .1) (i .before .stands .ensures (not-false _ (i .if1 .left)))
-      (more-fields (n .start) (n .number (number j .0)) (number j .1) (last-field (m .start) (m .number (second c .0)) (second c .1)));
-}
+returns-4 c = let p = c .before .before .before in let y = p .before in let j = y .before in let x = j .before .before in let i = x .before in let n = x .number-from .ensures in let m = y .number-from2 .ensures in
+    let e = ended-to (x .number-from .result .end + 1) (p .past-ending .ensures) (c .if3 .left) in record {
+      within = e .1;
+      line = λ h. plain-line (i .before .before .before .pre .1) (i .before .stands .ensures (not-false _ (i .if1 .left)))
+          (more-fields (n .start) (n .number (number j .0)) (number j .1) (last-field (m .start) (m .number (e .0)) (e .2)));
+    }
 
 pub two-near-end-spec : {M : Type 1} → statement M
-two-near-end-spec = tie.close (tie.spec add-stands stands-requires returns add-from number-from-requires stands-requires-2 returns-2 add-then number-from-requires-2 stands-requires-3 returns-3 add-t12 returns-4)
+two-near-end-spec = tie.close (tie.spec add-stands stands-requires returns add-from number-from-requires stands-requires-2 returns-2 add-then number-from-requires-2 past-ending-requires returns-3 returns-4)
