@@ -1,24 +1,25 @@
--- The first line `=`, byte by byte: each byte that it does not start at goes in front of what is parted behind it.
+-- The first line `=`, byte by byte: each byte that it does not start at goes in front of what is parted behind it. The
+-- lines are raw until the end, where all lose the byte 13 of their ending (`parted-as`).
 use mathlib.Core.Path.{_≡_, refl, sym, ap, _∙_}
 use Prim.Native.Nat.{ℕ, zero, suc, _+_, _-_, _≤_, _<_}
 use native.Mathlib.Numerals.{add-one}
-use native.Mathlib.Decide.{decLe}
 use native.Mathlib.Omega.{arith}
 use mathlib.Core.Bool.{Bool, true, false, _&&_, cond, and-false}
 use mathlib.Core.Option.{Option, none, some}
-use mathlib.Core.List.{List, [], _∷_, _++_}
-use lib.ListN.{length, getD, take, drop, drop-of-length-le, List·getD-eq-default}
+use mathlib.Core.List.{List, [], _∷_, _++_, map}
+use lib.ListN.{length, getD, take, drop, drop-of-length-le}
 use lib.Seq.{getD-drop}
-use lib.Dec.{eqb}
-use borrow.Author.Tests.{eqb-true, ne-eqb}
+use lib.Dec.{eqb, ltb}
+use borrow.Author.Tests.{eqb-true, ne-eqb, lt-ltb, le-ltb, ltb-true}
 use Rattle.spec.specs.Lists.{asCount}
-use Rattle.spec.specs.Text.{Line, linesOf, onFirst, isA}
+use Rattle.spec.specs.Text.{Line, rawLinesOf, butReturn, withoutReturn, linesOf, onFirst, isA}
 use Rattle.spec.specs.Printing.{NetAndLog, isParting, withNetLine, parted}
-use Rattle.spec.specs.declared.Class.the-variants.{LineEnd}
+use Rattle.spec.specs.declared.Class.the-variants.{LineEnd, Return}
 use Rattle.lists.specs.Laws.{and-true, count-cons}
 use Rattle.lists.specs.Along.{take-more, rest-at}
-use Rattle.byte_classes.proofs.Classes.{line-end}
+use Rattle.byte_classes.proofs.Classes.{line-end, return-byte}
 use Rattle.bytes.specs.Counts.{countOf}
+use Rattle.lines.specs.Lines.{Ending, ten, return-ten, pastEnding, PastEnding}
 use Rattle.program_input.specs.Parts.{startsAt, partsAt, partedFrom, withByte, inFront, Running, PartedAt}
 
 -- ---- bytes put in front of what was parted
@@ -37,86 +38,145 @@ front-none (b ∷ s) = rw (front-none s) (go (isA LineEnd b))
     go true = refl
     go false = refl
 
-front-some : (s : List ℕ) (log : List Line) → inFront s (some (record { net = []; log = log })) ≡ some (record { net = linesOf s; log = log })
-unfolding inFront withNetLine withByte linesOf
+front-some : (s : List ℕ) (log : List Line) → inFront s (some (record { net = []; log = log })) ≡ some (record { net = rawLinesOf s; log = log })
+unfolding inFront withNetLine withByte rawLinesOf
 front-some [] log = refl
-front-some (b ∷ s) log = rw (front-some s log) (go (isA LineEnd b) (record { bytes = []; ended = true } ∷ linesOf s) (onFirst b (linesOf s)))
+front-some (b ∷ s) log = rw (front-some s log) (go (isA LineEnd b) (record { bytes = []; ended = true } ∷ rawLinesOf s) (onFirst b (rawLinesOf s)))
   where
     go : (t : Bool) (p q : List Line) → cond {A = Option NetAndLog} t (some (record { net = p; log = log })) (some (record { net = q; log = log })) ≡ some (record { net = cond t p q; log = log })
     go true p q = refl
     go false p q = refl
 
--- ---- one byte
+-- ---- raw lines parted, and the same without the byte 13 of their endings
 
-from-none : (t : Bool) → partedFrom t [] ≡ none
-unfolding partedFrom parted
-from-none true = refl
-from-none false = refl
+abbrev shown : Option NetAndLog → Option NetAndLog
+shown none = none
+shown (some q) = some (record { net = map withoutReturn (q .net); log = map withoutReturn (q .log) })
+
+parted-as : (ls : List Line) → parted (map withoutReturn ls) ≡ shown (partedFrom true ls)
+unfolding parted partedFrom withNetLine
+parted-as [] = refl
+parted-as (l ∷ ls) = rw (parted-as ls) (go (isParting (withoutReturn l)) (partedFrom true ls))
+  where
+    go : (t : Bool) (q : Option NetAndLog)
+        → cond t (some (record { net = []; log = map withoutReturn ls })) (withNetLine (withoutReturn l) (shown q))
+        ≡ shown (cond t (some (record { net = []; log = ls })) (withNetLine l q))
+    go true q = refl
+    go false none = refl
+    go false (some q) = refl
+
+-- ---- one byte
 
 -- in the middle of a line
 grown : (x : ℕ) (ls : List Line) → partedFrom false (onFirst x ls) ≡ withByte x (partedFrom false ls)
-unfolding partedFrom onFirst parted withNetLine withByte
+unfolding partedFrom onFirst withNetLine withByte
 grown x [] = refl
-grown x (l ∷ ls) = go (parted ls)
+grown x (l ∷ ls) = go (partedFrom true ls)
   where
     go : (q : Option NetAndLog) → withNetLine (record { bytes = x ∷ l .bytes; ended = l .ended }) q ≡ withByte x (withNetLine l q)
     go none = refl
     go (some q) = refl
 
-untested : (l : Line) (ls : List Line) → isParting l ≡ false → parted (l ∷ ls) ≡ partedFrom false (l ∷ ls)
-unfolding parted partedFrom
-untested l ls e = rw e
+-- the first line is `=`
+abbrev signs : List Line → Bool
+signs [] = false
+signs (l ∷ ls) = isParting (withoutReturn l)
+
+untested : (ls : List Line) → signs ls ≡ false → partedFrom true ls ≡ partedFrom false ls
+unfolding partedFrom
+untested [] e = refl
+untested (l ∷ ls) e = rw e
+
+apart : (s t : Bool) → (s && t) ≡ false → t ≡ true → s ≡ false
+apart true true e q = e
+apart true false e q = sym q
+apart false t e q = refl
+
+-- an ending stands in front
+abbrev ends : List ℕ → Bool
+ends xs = ltb 0 (pastEnding xs 0)
+
+-- a line of three bytes or more
+long : (x y z : ℕ) (ls : List Line) → signs (onFirst x (onFirst y (onFirst z ls))) ≡ false
+unfolding onFirst isParting withoutReturn butReturn
+long x y z [] = refl
+long x y z (l ∷ ls) = go (l .ended)
+  where
+    go : (t : Bool) → isParting (cond t (record { bytes = x ∷ y ∷ butReturn (z ∷ l .bytes); ended = true }) (record { bytes = x ∷ y ∷ z ∷ l .bytes; ended = t })) ≡ false
+    go true = rw (ne-eqb (length (x ∷ y ∷ butReturn (z ∷ l .bytes))) 1 (λ e. omega arith))
+    go false = refl
+
+-- a line of two bytes or more
+paired : (x y : ℕ) (ys : List ℕ) → (eqb x 61 && ends (y ∷ ys)) ≡ false → signs (onFirst x (onFirst y (rawLinesOf ys))) ≡ false
+unfolding rawLinesOf onFirst isParting withoutReturn butReturn pastEnding
+paired x y [] h = refl
+paired x y (z ∷ zs) h = go (isA LineEnd z) refl
+  where
+    kept : (r : Bool) → isA Return y ≡ r → eqb z 10 ≡ true → (eqb (length (x ∷ cond r [] (y ∷ []))) 1 && eqb x 61) ≡ false
+    kept true q e = let s : y ≡ 13 = eqb-true y 13 (sym (return-byte y) ∙ q) in apart (eqb x 61) _ h (rw (s, e))
+    kept false q e = refl
+
+    go : (t : Bool) → isA LineEnd z ≡ t → signs (onFirst x (onFirst y (cond t (record { bytes = []; ended = true } ∷ rawLinesOf zs) (onFirst z (rawLinesOf zs))))) ≡ false
+    go true q = kept (isA Return y) refl (sym (line-end z) ∙ q)
+    go false q = long x y z (rawLinesOf zs)
 
 -- a line that starts with x, where the line `=` does not
-not-sign : (x : ℕ) (xs : List ℕ) → (eqb x 61 && eqb (getD xs 0 0) 10) ≡ false → parted (onFirst x (linesOf xs)) ≡ partedFrom false (onFirst x (linesOf xs))
-unfolding linesOf onFirst isParting
-not-sign x [] h = untested _ [] refl
+not-sign : (x : ℕ) (xs : List ℕ) → (eqb x 61 && ends xs) ≡ false → signs (onFirst x (rawLinesOf xs)) ≡ false
+unfolding rawLinesOf onFirst isParting withoutReturn butReturn pastEnding
+not-sign x [] h = refl
 not-sign x (y ∷ ys) h = go (isA LineEnd y) refl
   where
-    apart : (s t : Bool) → (s && t) ≡ false → t ≡ true → s ≡ false
-    apart true true e q = e
-    apart true false e q = sym q
-    apart false t e q = refl
+    alone : (r : Bool) → eqb x 61 ≡ false → (eqb (length (cond r [] (x ∷ []))) 1 && eqb (getD (cond r [] (x ∷ [])) 0 0) 61) ≡ false
+    alone true e = refl
+    alone false e = e
 
-    long : (ls : List Line) → parted (onFirst x (onFirst y ls)) ≡ partedFrom false (onFirst x (onFirst y ls))
-    long [] = untested _ [] refl
-    long (l ∷ ls) = untested _ ls (rw (ne-eqb (length (x ∷ y ∷ l .bytes)) 1 (λ e. omega arith), and-false (l .ended)))
+    go : (t : Bool) → isA LineEnd y ≡ t → signs (onFirst x (cond t (record { bytes = []; ended = true } ∷ rawLinesOf ys) (onFirst y (rawLinesOf ys)))) ≡ false
+    go true q = let e : y ≡ 10 = eqb-true y 10 (sym (line-end y) ∙ q) in alone (isA Return x) (apart (eqb x 61) _ h (rw e))
+    go false q = paired x y ys h
 
-    go : (t : Bool) → isA LineEnd y ≡ t
-        → parted (onFirst x (cond t (record { bytes = []; ended = true } ∷ linesOf ys) (onFirst y (linesOf ys))))
-        ≡ partedFrom false (onFirst x (cond t (record { bytes = []; ended = true } ∷ linesOf ys) (onFirst y (linesOf ys))))
-    go true q = untested _ (linesOf ys) (apart (eqb x 61) (eqb y 10) h (sym (line-end y) ∙ q))
-    go false q = long (linesOf ys)
-
-pass : (f : Bool) (x : ℕ) (xs : List ℕ) → (f && (eqb x 61 && eqb (getD xs 0 0) 10)) ≡ false
-    → partedFrom f (linesOf (x ∷ xs)) ≡ inFront (x ∷ []) (partedFrom (eqb x 10) (linesOf xs))
-unfolding linesOf inFront partedFrom parted isParting
+pass : (f : Bool) (x : ℕ) (xs : List ℕ) → (f && (eqb x 61 && ends xs)) ≡ false
+    → partedFrom f (rawLinesOf (x ∷ xs)) ≡ inFront (x ∷ []) (partedFrom (eqb x 10) (rawLinesOf xs))
+unfolding rawLinesOf inFront partedFrom isParting withoutReturn butReturn
 pass f x xs h = rw (← line-end x) (go (isA LineEnd x) f h)
   where
-    go : (t f : Bool) → (f && (eqb x 61 && eqb (getD xs 0 0) 10)) ≡ false
-        → partedFrom f (cond t (record { bytes = []; ended = true } ∷ linesOf xs) (onFirst x (linesOf xs)))
-        ≡ cond t (withNetLine (record { bytes = []; ended = true }) (partedFrom t (linesOf xs))) (withByte x (partedFrom t (linesOf xs)))
+    go : (t f : Bool) → (f && (eqb x 61 && ends xs)) ≡ false
+        → partedFrom f (cond t (record { bytes = []; ended = true } ∷ rawLinesOf xs) (onFirst x (rawLinesOf xs)))
+        ≡ cond t (withNetLine (record { bytes = []; ended = true }) (partedFrom t (rawLinesOf xs))) (withByte x (partedFrom t (rawLinesOf xs)))
     go true true e = refl
     go true false e = refl
-    go false true e = not-sign x xs e ∙ grown x (linesOf xs)
-    go false false e = grown x (linesOf xs)
+    go false true e = untested (onFirst x (rawLinesOf xs)) (not-sign x xs e) ∙ grown x (rawLinesOf xs)
+    go false false e = grown x (rawLinesOf xs)
 
--- the line `=` itself
-sign : (xs : List ℕ) → partedFrom true (linesOf (61 ∷ 10 ∷ xs)) ≡ some (record { net = []; log = linesOf xs })
-unfolding partedFrom linesOf onFirst parted isParting
-sign xs = rw (line-end 61, line-end 10)
+-- the line `=` itself, with byte 13 in its ending or not
+sign : (r : Bool) (xs : List ℕ) → partedFrom true (rawLinesOf (61 ∷ cond r (13 ∷ 10 ∷ xs) (10 ∷ xs))) ≡ some (record { net = []; log = rawLinesOf xs })
+unfolding partedFrom rawLinesOf onFirst isParting withoutReturn butReturn
+sign true xs = rw (line-end 61, line-end 13, line-end 10, return-byte 13)
+sign false xs = rw (line-end 61, line-end 10, return-byte 61)
 
--- a byte that is not 0 stands within the text
-second-in : (s : List ℕ) (i : ℕ) → getD s i 0 ≡ 10 → i < length s
-second-in s i e = elim (decLe (length s) i) [
-  | yes l ↦ absurd (omega (arith, List·getD-eq-default s 0 l))
-  | no l ↦ omega arith
-]
+-- ---- where the bytes stand
 
 none-counted : (t : Bool) → asCount t ≡ 0 → t ≡ false
 unfolding asCount
 none-counted true e = absurd (omega arith)
 none-counted false e = refl
+
+-- an ending at a position stands in front of the rest from there
+ends-at : (s : List ℕ) (k : ℕ) → ends (drop k s) ≡ ltb k (pastEnding s k)
+unfolding pastEnding
+ends-at s k =
+    let z : k + 0 ≡ k = omega arith in
+    let first : getD (drop k s) 0 0 ≡ getD s k 0 = getD-drop k s 0 0 ∙ ap (λ (i : ℕ). getD s i 0) z in
+    rw (first, getD-drop k s 1 0) (go (eqb (getD s k 0) 10) (eqb (getD s k 0) 13 && eqb (getD s (k + 1) 0) 10))
+  where
+    go : (t u : Bool) → ltb 0 (cond t 1 (cond u 2 0)) ≡ ltb k (cond t (k + 1) (cond u (k + 2) k))
+    go true u = sym (lt-ltb k (k + 1) (omega arith))
+    go false true = sym (lt-ltb k (k + 2) (omega arith))
+    go false false = sym (le-ltb k k (omega arith))
+
+-- it has a byte 13 or not
+ending-is : {s : List ℕ} {k n : ℕ} → Ending s k n → (r : Bool) × (drop k s ≡ cond r (13 ∷ 10 ∷ drop n s) (10 ∷ drop n s))
+ending-is (ten e) = (false, e)
+ending-is (return-ten e) = (true, e)
 
 unsigned : (s : List ℕ) (at : ℕ) → eqb (getD s at 0) 61 ≡ false → partsAt s at ≡ false
 unfolding partsAt
@@ -133,8 +193,10 @@ unfolding startsAt partedFrom inFront
 begun input = record { within = omega arith; sofar = refl }
 
 pub nothing : (input : List ℕ) (at : ℕ) → Running input at → length input ≤ at → parted (linesOf input) ≡ none
-unfolding linesOf
-nothing input at g h = g .sofar ∙ rw (drop-of-length-le input h, from-none (startsAt input at)) (front-none (take at input))
+unfolding linesOf rawLinesOf partedFrom
+nothing input at g h =
+    let e : partedFrom true (rawLinesOf input) ≡ none = g .sofar ∙ rw (drop-of-length-le input h) (front-none (take at input)) in
+    parted-as (rawLinesOf input) ∙ ap shown e
 
 module _ (input : List ℕ) (at : ℕ) (g : Running input at) (h : at < length input) where
   -- the line `=` starts elsewhere
@@ -142,30 +204,28 @@ module _ (input : List ℕ) (at : ℕ) (g : Running input at) (h : at < length i
   unfolding partsAt
   turn e =
       let x = getD input at 0 in
-      let z : at + 1 + 0 ≡ at + 1 = omega arith in
-      let second : getD (drop (at + 1) input) 0 0 ≡ getD input (at + 1) 0 = getD-drop (at + 1) input 0 0 ∙ ap (λ (i : ℕ). getD input i 0) z in
-      let here : partedFrom (startsAt input at) (linesOf (drop at input)) ≡ inFront (x ∷ []) (partedFrom (startsAt input (at + 1)) (linesOf (drop (at + 1) input))) =
-      rw (rest-at input at h, starts-next input at) (pass (startsAt input at) x (drop (at + 1) input) (rw second e)) in
+      let here : partedFrom (startsAt input at) (rawLinesOf (drop at input)) ≡ inFront (x ∷ []) (partedFrom (startsAt input (at + 1)) (rawLinesOf (drop (at + 1) input))) =
+      rw (rest-at input at h, starts-next input at) (pass (startsAt input at) x (drop (at + 1) input) (rw (ends-at input (at + 1)) e)) in
       record {
         within = omega arith;
         sofar = g .sofar ∙ ap (inFront (take at input)) here ∙ sym (rw (take-more 0 input at h) (front-append (take at input) (x ∷ []) _));
       }
 
-  -- here starts the line `=`
-  pub found : partsAt input at ≡ true → PartedAt input at (at + 2)
-  unfolding partsAt
-  found e =
-      let a = and-true (startsAt input at) _ e in let b = and-true _ _ (a .1) in
-      let x : getD input at 0 ≡ 61 = eqb-true _ _ (b .0) in
-      let y : getD input (at + 1) 0 ≡ 10 = eqb-true _ _ (b .1) in
-      let m : at + 1 < length input = second-in input (at + 1) y in
-      let n : at + 1 + 1 ≡ at + 2 = omega arith in
-      let rest : drop at input ≡ 61 ∷ 10 ∷ drop (at + 2) input = rest-at input at h ∙ rw (x, rest-at input (at + 1) m, y, n) in
-      record {
-        parts = g .sofar ∙ rw (a .0, rest, sign (drop (at + 2) input)) (front-some (take at input) (linesOf (drop (at + 2) input)));
-        net = omega arith;
-        log = omega arith;
-      }
+  -- here starts the line `=`, and the log behind its ending
+  pub found : partsAt input at ≡ true → {n : ℕ} → PastEnding input (at + 1) n → PartedAt input at n
+  unfolding partsAt linesOf
+  found e {n} p =
+      let a = and-true (startsAt input at) _ e in
+      let b = and-true (eqb (getD input at 0) 61) _ (a .1) in
+      let l : at + 1 < n = rw (p .is) (ltb-true (at + 1) (pastEnding input (at + 1)) (b .1)) in
+      let r = ending-is (p .ending l) in
+      record { parts = parted-as (rawLinesOf input) ∙ ap shown (go (r .0) (a .0) (eqb-true (getD input at 0) 61 (b .0)) (r .1)); net = omega arith; log = p .within l }
+    where
+      go : (r : Bool) → startsAt input at ≡ true → getD input at 0 ≡ 61 → drop (at + 1) input ≡ cond r (13 ∷ 10 ∷ drop n input) (10 ∷ drop n input)
+          → partedFrom true (rawLinesOf input) ≡ some (record { net = rawLinesOf (take at input); log = rawLinesOf (drop n input) })
+      go r s x d =
+          let rest : drop at input ≡ 61 ∷ cond r (13 ∷ 10 ∷ drop n input) (10 ∷ drop n input) = rest-at input at h ∙ rw (x, d) in
+          g .sofar ∙ rw (s, rest, sign r (drop n input)) (front-some (take at input) (rawLinesOf (drop n input)))
 
 -- no byte `=` among the next n
 pub leap : (input : List ℕ) (n at : ℕ) → Running input at → at + n ≤ length input → countOf 61 (take n (drop at input)) ≡ 0 → Running input (at + n)
@@ -187,23 +247,18 @@ unfolding startsAt
 behind-end s zero d = absurd (d refl)
 behind-end s (suc i) d = let e : suc i - 1 ≡ i = omega arith in rw e
 
-module _ (s : List ℕ) (at : ℕ) where
-  pub no-sign : (getD s at 0 ≡ 61 → ⊥) → false ≡ partsAt s at
-  no-sign d = sym (unsigned s at (ne-eqb _ 61 d))
+pub no-sign : (s : List ℕ) (at : ℕ) → (getD s at 0 ≡ 61 → ⊥) → false ≡ partsAt s at
+no-sign s at d = sym (unsigned s at (ne-eqb _ 61 d))
 
-  no-end : eqb (getD s (at + 1) 0) 10 ≡ false → false ≡ partsAt s at
+-- behind the byte `=` an ending was passed, or not
+module _ (s : List ℕ) (at : ℕ) {n : ℕ} (p : PastEnding s (at + 1) n) where
+  pub sign-unended : n ≤ at + 1 → false ≡ partsAt s at
   unfolding partsAt
-  no-end e = sym (rw (e, and-false (eqb (getD s at 0) 61)) (and-false (startsAt s at)))
+  sign-unended l = sym (rw (← p .is, le-ltb (at + 1) n l, and-false (eqb (getD s at 0) 61)) (and-false (startsAt s at)))
 
-  pub sign-last : length s ≤ at + 1 → false ≡ partsAt s at
-  sign-last h = no-end (rw (List·getD-eq-default s 0 h))
-
-  pub sign-alone : (getD s (at + 1) 0 ≡ 10 → ⊥) → false ≡ partsAt s at
-  sign-alone d = no-end (ne-eqb _ 10 d)
-
-  pub sign-ended : getD s at 0 ≡ 61 → getD s (at + 1) 0 ≡ 10 → startsAt s at ≡ partsAt s at
+  pub sign-ended : getD s at 0 ≡ 61 → at + 1 < n → startsAt s at ≡ partsAt s at
   unfolding partsAt
-  sign-ended x y = rw (x, y) (go (startsAt s at))
+  sign-ended x l = rw (← p .is, x, lt-ltb (at + 1) n l) (go (startsAt s at))
     where
       go : (t : Bool) → t ≡ (t && true)
       go true = refl

@@ -2,14 +2,15 @@
 use mathlib.Core.Path.{_≡_}
 use Prim.Native.Nat.{ℕ, zero, suc, _+_, _≤_}
 use Prim.Native.Char.{code}
-use mathlib.Core.Bool.{Bool, true, false, _&&_, cond}
+use mathlib.Core.Bool.{Bool, true, _&&_, cond}
 use mathlib.Core.Option.{Option, none, some}
 use mathlib.Core.List.{List, [], _∷_}
 use lib.ListN.{length, getD, take, drop}
-use lib.Dec.{eqb}
-use Rattle.spec.specs.Text.{Line, linesOf, onFirst, isA}
-use Rattle.spec.specs.Printing.{NetAndLog, withNetLine, parted}
+use lib.Dec.{eqb, ltb}
+use Rattle.spec.specs.Text.{Line, rawLinesOf, withoutReturn, linesOf, onFirst, isA}
+use Rattle.spec.specs.Printing.{NetAndLog, isParting, withNetLine, parted}
 use Rattle.spec.specs.declared.Class.the-variants.{LineEnd}
+use Rattle.lines.specs.Lines.{pastEnding}
 use Rattle.program_input.specs.declared.Parting.{Parting}
 use Rattle.program_input.specs.declared.Parting.the-variants.{At, Nothing}
 
@@ -20,16 +21,18 @@ unfoldable pub startsAt : List ℕ → ℕ → Bool
 startsAt s zero = true
 startsAt s (suc i) = eqb (getD s i 0) 10
 
+-- the byte `=` and an ending
 unfoldable pub partsAt : List ℕ → ℕ → Bool
-partsAt s at = startsAt s at && (eqb (getD s at 0) (code "=") && eqb (getD s (at + 1) 0) 10)
+partsAt s at = startsAt s at && (eqb (getD s at 0) (code "=") && ltb (at + 1) (pastEnding s (at + 1)))
 
--- ---- byte by byte
+-- ---- byte by byte, over raw lines: whether a byte 13 belongs to an ending shows only at the byte behind it
 
--- the lines parted; in the middle of a line the first one is not the line `=`, whatever is left of it
+-- raw lines parted by what they are without the byte 13 of their ending; in the middle of a line the first one is not the
+-- line `=`, whatever is left of it
 unfoldable pub partedFrom : Bool → List Line → Option NetAndLog
-partedFrom true ls = parted ls
-partedFrom false [] = none
-partedFrom false (l ∷ ls) = withNetLine l (parted ls)
+partedFrom start [] = none
+partedFrom start (l ∷ ls) =
+    cond (start && isParting (withoutReturn l)) (some (record { net = []; log = ls })) (withNetLine l (partedFrom true ls))
 
 unfoldable pub withByte : ℕ → Option NetAndLog → Option NetAndLog
 withByte b none = none
@@ -44,8 +47,8 @@ inFront (b ∷ bs) q =
 -- no line `=` starts before a position
 pub record Running (input : List ℕ) (at : ℕ) : Type 0 where
   pub within : at ≤ length input
-  pub sofar : parted (linesOf input)
-      ≡ inFront (take at input) (partedFrom (startsAt input at) (linesOf (drop at input)))
+  pub sofar : partedFrom true (rawLinesOf input)
+      ≡ inFront (take at input) (partedFrom (startsAt input at) (rawLinesOf (drop at input)))
 
 -- ---- the input parted
 

@@ -5,6 +5,7 @@ ghost use lib.ListN.{length};
 ghost use Rattle.program_input.specs.Parts.{startsAt, partsAt, Running, Parts};
 use bytes::CHUNK;
 use bytes::count_at;
+use lines::past_ending;
 
 // Where the net ends and where the log starts, or that no line is `=`.
 pub enum Parting {
@@ -31,11 +32,9 @@ fn parts_at(s: &[u8], at: usize) -> bool
     if s[at] != b'=' {
         return false;
     }
-    let next = at + 1;
-    if s.len() <= next {
-        return false;
-    }
-    if s[next] != 10 {
+    let end = at + 1;
+    let log = past_ending(s, end);
+    if log == end {
         return false;
     }
     starts_at(s, at)
@@ -62,7 +61,8 @@ pub fn part_input(input: &[u8]) -> Parting
     let mut at = skip(input);
     while at < input.len() {
         if parts_at(input, at) {
-            return Parting::At(at, at + 2);
+            let log = past_ending(input, at + 1);
+            return Parting::At(at, log);
         }
         at += 1;
     }

@@ -3,7 +3,7 @@
 use mathlib.Core.Path.{_≡_, refl, sym, ap, _∙_, subst}
 use Prim.Native.Nat.{ℕ, zero, suc, _+_, _-_, _≤_, _<_}
 use mathlib.Core.Bool.{Bool, true, false}
-use mathlib.Core.Option.{none}
+use mathlib.Core.Option.{none, some}
 use mathlib.Core.List.{List, [], _∷_}
 use native.Mathlib.Nat.{zero-add}
 use native.Mathlib.Omega.{arith}
@@ -11,14 +11,14 @@ use lib.ListN.{length, take, drop, getElem?, drop-of-length-le, length-take, len
 use lib.Seq.{drop-drop}
 use borrow.Author.Tests.{lt-ltb, le-ltb}
 use Rattle.spec.specs.Lists.{count}
-use Rattle.spec.specs.Text.{Line, linesOf, onFirst, isA}
+use Rattle.spec.specs.Text.{Line, rawLinesOf, onFirst, isA}
 use Rattle.spec.specs.Answer.{gives, refuses, _>>_, refuse_at_when_, found, returned}
 use Rattle.spec.specs.LineParts.{partsFrom, lineAt, chosenText, refusedLine, partOf}
 use Rattle.spec.specs.declared.Class.the-variants.{LineEnd}
 use Rattle.lists.specs.Laws.{count-true, count-false, count-cons, count-same}
 use Rattle.byte_classes.proofs.Classes.{line-end}
 use Rattle.bytes.specs.Counts.{chunk, countOf}
-use Rattle.lines.specs.Lines.{LineAt}
+use Rattle.lines.specs.Lines.{RawLineAt, LineAt}
 use Rattle.lines.specs.declared.Span.{Span}
 use denote.Ref.{RefT, ptr, now}
 use Rattle.spec.specs.Values.{lineValues}
@@ -37,27 +37,27 @@ on-first t s x n (l ∷ ls) = ap (λ (z : ℕ). getElem? (partsFrom t z ls) n) (
 
 -- behind b bytes of s, which stands at a, n line ends stand in front of the line that m stand in front of
 abbrev Passed : ℕ → List ℕ → ℕ → ℕ → ℕ → ℕ → Type 0
-Passed t s a m n b = getElem? (partsFrom t a (linesOf s)) m ≡ getElem? (partsFrom t (a + b) (linesOf (drop b s))) n
+Passed t s a m n b = getElem? (partsFrom t a (rawLinesOf s)) m ≡ getElem? (partsFrom t (a + b) (rawLinesOf (drop b s))) n
 
 abbrev ends : ℕ → List ℕ → ℕ
 ends b s = count (isA LineEnd) (take b s)
 
 module _ (t x : ℕ) (xs : List ℕ) (a m n b : ℕ) where
-  shifted : getElem? (partsFrom t (suc a + b) (linesOf (drop b xs))) n ≡ getElem? (partsFrom t (a + suc b) (linesOf (drop b xs))) n
-  shifted = ap (λ (z : ℕ). getElem? (partsFrom t z (linesOf (drop b xs))) n) (omega arith)
+  shifted : getElem? (partsFrom t (suc a + b) (rawLinesOf (drop b xs))) n ≡ getElem? (partsFrom t (a + suc b) (rawLinesOf (drop b xs))) n
+  shifted = ap (λ (z : ℕ). getElem? (partsFrom t z (rawLinesOf (drop b xs))) n) (omega arith)
 
   pass-end : isA LineEnd x ≡ true → Passed t xs (suc a) m n b → Passed t (x ∷ xs) a (suc m) n (suc b)
-  unfolding linesOf partsFrom
-  pass-end q r = rw q (ap (λ (z : ℕ). getElem? (partsFrom t z (linesOf xs)) m) (omega arith) ∙ r ∙ shifted)
+  unfolding rawLinesOf partsFrom
+  pass-end q r = rw q (ap (λ (z : ℕ). getElem? (partsFrom t z (rawLinesOf xs)) m) (omega arith) ∙ r ∙ shifted)
 
   pass-byte : isA LineEnd x ≡ false → Passed t xs (suc a) (suc m) n b → Passed t (x ∷ xs) a (suc m) n (suc b)
-  unfolding linesOf
-  pass-byte q r = rw q (on-first t a x m (linesOf xs) ∙ r ∙ shifted)
+  unfolding rawLinesOf
+  pass-byte q r = rw q (on-first t a x m (rawLinesOf xs) ∙ r ∙ shifted)
 
 -- some line end must be left: without one the line may have begun among the bytes
 passed : (t b : ℕ) (s : List ℕ) (a m n : ℕ) → b ≤ length s → m ≡ ends b s + suc n → Passed t s a m (suc n) b
 unfolding count
-passed t zero s a m n h e = let z : m ≡ suc n = omega arith in rw z (ap (λ (i : ℕ). getElem? (partsFrom t i (linesOf s)) (suc n)) (omega arith))
+passed t zero s a m n h e = let z : m ≡ suc n = omega arith in rw z (ap (λ (i : ℕ). getElem? (partsFrom t i (rawLinesOf s)) (suc n)) (omega arith))
 passed t (suc b) [] a m n h e = absurd (omega arith)
 passed t (suc b) (x ∷ xs) a zero n h e = absurd (omega arith)
 passed t (suc b) (x ∷ xs) a (suc m) n h e = go (isA LineEnd x) refl (λ k q. passed t b xs (suc a) k n (omega arith) q)
@@ -83,25 +83,30 @@ begun text (suc k) h = let e : suc k - 1 ≡ k = omega arith in rw e (record { n
 module _ (text : List ℕ) (line left i : ℕ) (g : Running text line left i) where
   -- no line is left
   pub ended : length text ≤ i → (t : ℕ) → lineOf t text line ≡ none
-  unfolding linesOf partsFrom
+  unfolding rawLinesOf partsFrom
   ended h t = g .rest t ∙ rw (drop-of-length-le text h)
 
-  module _ (r : Span) (h : i < length text) (l : LineAt text i r) where
+  module _ (r : Span) (h : i < length text) where
     -- this is the line
-    pub here : left ≡ 0 → Goes text line i (r .end)
+    pub here : LineAt text i r → left ≡ 0 → Goes text line i (r .end)
     unfolding partsFrom
-    here e = record { is = λ t. g .rest t ∙ rw (e, l .lines); order = l .start; inside = l .end }
+    here l e = record {
+      is = λ t. g .rest t ∙ rw (e, l .raws) (ap (λ (x : Line). some (record { text = t; start = i; bytes = x .bytes })) (l .whole));
+      order = l .start;
+      inside = l .end;
+    }
 
     -- the line is a later one
-    pub turn : (left ≡ 0 → ⊥) → Running text line (left - 1) (r .next)
+    pub turn : RawLineAt text i r → (left ≡ 0 → ⊥) → Running text line (left - 1) (r .next)
     unfolding partsFrom
-    turn d =
+    turn l d =
         let e : left ≡ suc (left - 1) = omega (arith, d) in
-        let q : (i + length (take (r .end - i) (drop i text))) + 1 ≡ r .next = omega (arith, span-length i (r .end) text (l .start) (l .end), l .behind, l .start) in
+        let bytes = take (r .end - i) (drop i text) in
+        let q : (i + length bytes) + 1 ≡ r .next = omega (arith, span-length i (r .end) text (l .start) (l .end), l .behind, l .start) in
         record {
-          near = l .next;
-          rest = λ t. g .rest t ∙ rw (l .lines) (ap (getElem? (_ ∷ partsFrom t ((i + length (take (r .end - i) (drop i text))) + 1) (linesOf (drop (r .next) text)))) e
-              ∙ ap (λ (z : ℕ). getElem? (partsFrom t z (linesOf (drop (r .next) text))) (left - 1)) q);
+          near = omega (arith, l .end, l .behind);
+          rest = λ t. g .rest t ∙ rw (l .lines) (ap (getElem? (_ ∷ partsFrom t ((i + length bytes) + 1) (rawLinesOf (drop (r .next) text)))) e
+              ∙ ap (λ (z : ℕ). getElem? (partsFrom t z (rawLinesOf (drop (r .next) text))) (left - 1)) q);
         }
 
   -- the line starts behind the next chunk
@@ -114,8 +119,8 @@ module _ (text : List ℕ) (line left i : ℕ) (g : Running text line left i) wh
         near = omega arith;
         rest = λ t.
             g .rest t ∙ passed t chunk (drop i text) i left (left - c - 1) (simp length-drop (omega arith)) (omega (arith, same))
-            ∙ ap (λ z. getElem? (partsFrom t (i + chunk) (linesOf z)) (suc (left - c - 1))) d
-            ∙ ap (getElem? (partsFrom t (i + chunk) (linesOf (drop (i + chunk) text)))) (sym e);
+            ∙ ap (λ z. getElem? (partsFrom t (i + chunk) (rawLinesOf z)) (suc (left - c - 1))) d
+            ∙ ap (getElem? (partsFrom t (i + chunk) (rawLinesOf (drop (i + chunk) text)))) (sym e);
       }
 
 -- ---- the chosen text, and the answer

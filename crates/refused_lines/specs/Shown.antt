@@ -6,7 +6,7 @@ use mathlib.Core.List.{List}
 use lib.ListN.{length, take, drop, getElem?}
 use denote.Ref.{RefT, ptr}
 use Rattle.spec.specs.Answer.{Answer, gives, refuses}
-use Rattle.spec.specs.Text.{linesOf}
+use Rattle.spec.specs.Text.{rawLinesOf}
 use Rattle.spec.specs.LineParts.{Part, partsFrom, lineAt, chosenText, refusedLine}
 use Rattle.refused_lines.specs.declared.Found.{Found}
 use Rattle.refused_lines.specs.declared.Found.the-variants.{At, Nothing}
@@ -15,13 +15,13 @@ use Rattle.refused_lines.specs.declared.LineAnswer.the-variants.{Shown, 
 
 -- line k of a text, as a part of text t
 abbrev pub lineOf : ℕ → List ℕ → ℕ → Option Part
-lineOf t text k = lineAt (partsFrom t 0 (linesOf text)) k
+lineOf t text k = lineAt (partsFrom t 0 (rawLinesOf text)) k
 
 -- the line with a number is the one that `left` line ends stand in front of, from a position on; a position behind the
 -- text tells only that there is no such line
 pub record Running (text : List ℕ) (line left at : ℕ) : Type 0 where
   pub near : at ≤ length text + 1
-  pub rest : (t : ℕ) → lineOf t text line ≡ getElem? (partsFrom t at (linesOf (drop at text))) left
+  pub rest : (t : ℕ) → lineOf t text line ≡ getElem? (partsFrom t at (rawLinesOf (drop at text))) left
 
 -- line k of a text goes from s to e
 pub record Goes (text : List ℕ) (k s e : ℕ) : Type 0 where

@@ -9,6 +9,7 @@ ghost use Rattle.refused_lines.specs.Shown.{Running, Finds, FindsChosen,
 use bytes::CHUNK;
 use bytes::count_at;
 use lines::line_at;
+use lines::raw_line_at;
 
 // From where to where a line goes in its text, without its end.
 pub enum Found {
@@ -58,12 +59,13 @@ fn find_line(text: &[u8], line: usize) -> Found
     let mut left = start.left;
     let mut at = start.at;
     while at < text.len() {
-        let l = line_at(text, at);
         if left == 0 {
+            let l = line_at(text, at);
             return Found::At(at, l.end);
         }
+        let passed = raw_line_at(text, at);
         left -= 1;
-        at = l.next;
+        at = passed.next;
     }
     Found::Nothing
 }

@@ -24,13 +24,17 @@ loop-holds c = c .skip .ensures
 parts-at-requires : tie.Need-parts-at-requires Inv-loop μ-loop
 parts-at-requires c κs = c .loop-test .taken
 
-add-t6 : tie.Need-add-t6 Inv-loop μ-loop
-add-t6 c = omega arith
+add-past-ending : tie.Need-add-past-ending Inv-loop μ-loop
+add-past-ending c = omega arith
+
+past-ending-requires : tie.Need-past-ending-requires Inv-loop μ-loop
+past-ending-requires c κs = tt
 
 returns : tie.Need-returns Inv-loop μ-loop
 returns c =
-    let t = c .before in
-    found _ _ (t .before .before .loop .inv) (t .before .loop-test .taken) (sym (t .parts-at .ensures) ∙ c .if1 .taken)
+    let i = c .before in
+    let t = i .before in
+    found _ _ (t .before .before .loop .inv) (t .before .loop-test .taken) (sym (t .parts-at .ensures) ∙ i .if1 .taken) (c .past-ending .ensures)
 
 add-at : tie.Need-add-at Inv-loop μ-loop
 add-at c = omega arith
@@ -55,7 +59,8 @@ part-input-spec =
     skip-requires
     loop-holds
     parts-at-requires
-    add-t6
+    add-past-ending
+    past-ending-requires
     returns
     add-at
     loop-less

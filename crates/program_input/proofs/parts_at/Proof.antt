@@ -1,8 +1,9 @@
--- `program_input::parts_at` meets its contract: a line `=` starts where the byte is `=`, the next one is a line end, and a
+-- `program_input::parts_at` meets its contract: a line `=` starts where the byte is `=`, an ending stands behind it, and a
 -- line starts there; each test that fails rules it out.
 use mathlib.Core.Path.{_∙_}
 use native.Mathlib.Omega.{arith}
-use Rattle.program_input.proofs.Laws.{no-sign, sign-last, sign-alone, sign-ended}
+use Rattle.lines.proofs.Lines.{went-on}
+use Rattle.program_input.proofs.Laws.{no-sign, sign-unended, sign-ended}
 use Rattle.program_input.proofs.parts_at.Statement.{statement}
 use Rattle.program_input.proofs.parts_at.Tie as tie
 
@@ -12,35 +13,23 @@ shared-slice-read-if1 c = omega arith
 returns : tie.Need-returns
 returns c = no-sign _ _ (c .if1 .taken)
 
-add-next : tie.Need-add-next
-add-next c = omega arith
+add-end : tie.Need-add-end
+add-end c = omega arith
+
+past-ending-requires : tie.Need-past-ending-requires
+past-ending-requires c κs = tt
 
 returns-2 : tie.Need-returns-2
-returns-2 c = sign-last _ _ (c .if2 .taken)
-
-shared-slice-read-if3 : tie.Need-shared-slice-read-if3
-shared-slice-read-if3 c = omega arith
-
-returns-3 : tie.Need-returns-3
-returns-3 c = sign-alone _ _ (c .if3 .taken)
+returns-2 c = sign-unended _ _ (c .before .past-ending .ensures) (omega (arith, c .if2 .taken))
 
 starts-at-requires : tie.Need-starts-at-requires
-starts-at-requires c κs = c .before .before .before .before .before .before .pre
+starts-at-requires c κs = omega arith
 
-returns-4 : tie.Need-returns-4
-returns-4 c =
-    let e3 = c .before in
-    c .starts-at .ensures ∙ sign-ended _ _ (e3 .before .before .before .if1 .left) (e3 .if3 .left)
+returns-3 : tie.Need-returns-3
+returns-3 c =
+    let e = c .before in
+    let p = e .before in
+    c .starts-at .ensures ∙ sign-ended _ _ (p .past-ending .ensures) (p .before .if1 .left) (went-on (p .past-ending .ensures) (e .if2 .left))
 
 pub parts-at-spec : {M : Type 1} → statement M
-parts-at-spec =
-    tie.close
-    (tie.spec
-    shared-slice-read-if1
-    returns
-    add-next
-    returns-2
-    shared-slice-read-if3
-    returns-3
-    starts-at-requires
-    returns-4)
+parts-at-spec = tie.close (tie.spec shared-slice-read-if1 returns add-end past-ending-requires returns-2 starts-at-requires returns-3)
