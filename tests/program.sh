@@ -65,6 +65,7 @@ lines() { printf '%s\n' "$@"; }
 repeat() { local i; for ((i = 0; i < $1; i++)); do echo "$2"; done; }
 step() { printf 'S'; local i; for ((i = 0; i < $1; i++)); do printf ',%d' "$2"; done; echo; } # COUNT TRANSITION
 whole() { cat "$1"; echo '='; cat "$2"; } # NET LOG
+returned() { sed 's/$/\r/'; } # byte 13 before the byte 10 of every line
 size() { wc -c < "$1"; }
 
 # ---- the examples
@@ -78,6 +79,9 @@ each_example() {
     whole "$net" "$log" > "$input"
     agrees "$log under $net"
     same "$out" "$out" "$work/printed"
+    whole "$net" "$log" | tr -d '\r' | returned > "$input"
+    agrees "$log under $net with 13 10"
+    same "$out with 13 10" "$out" "$work/printed"
   done
   for log in examples/*/*.log; do holds "$log has an output" test -f "${log%.log}.out"; done
 }
@@ -92,12 +96,12 @@ cases() {
 }
 
 # An input that ends at any byte, as a log does on a drive that loses power.
-each_cut() { # NET LOG
+each_cut() { # NET LOG [FILTER]
   local k
-  whole "$1" "$2" > "$work/full"
+  whole "$1" "$2" | "${3:-cat}" > "$work/full"
   for ((k = 0; k <= $(size "$work/full"); k++)); do
     head -c "$k" "$work/full" > "$input"
-    agrees "$2 cut at byte $k"
+    agrees "$2 ${3:-} cut at byte $k"
   done
 }
 
@@ -174,12 +178,40 @@ partings() {
   : > "$input"; gives "empty input" X,10,0
   cat examples/drive/net > "$input"; gives "no line =" X,10,0
   printf '=' > "$input"; gives "a line = without its end" X,10,0
-  printf '=\r\n' > "$input"; gives "a line = with byte 13" X,10,0
   printf '==\n= \n =\n' > "$input"; gives "lines like =" X,10,0
   printf '=\n' > "$input"; gives "an empty net and an empty log" Z,0,0,0,0
   printf '=\n=\n' > "$input"; gives "a second line =" X,21,1
   printf 'P,1=\n=\n' > "$input"; gives "= behind a field" X,11,1
   printf 'P,1\nP,0\nT\nI,0,0\n=\n' > "$input"; gives "a transition without output" X,15,0
+}
+
+# ---- lines that end in 13 and 10
+
+# Byte 13 before a line end belongs to it; anywhere else the line is malformed.
+returns() {
+  printf '=\r\n' > "$input"; gives "= 13 10" Z,0,0,0,0
+  printf '=\r\r\n' > "$input"; gives "= 13 13 10" X,10,0
+  printf '=\r' > "$input"; gives "= 13 without 10" X,10,0
+  printf '\r=\r\n' > "$input"; gives "13 = 13 10" X,10,0
+  printf '=\r\n=\r\n' > "$input"; gives "= 13 10 again" X,21,1
+  printf '\r\n=\n' > "$input"; gives "an empty line 13 10" X,11,1
+  printf '=\n\r\n' > "$input"; gives "10 13 10" X,21,1
+  printf 'P,1\r\nP,0\nT\r\nI,0,0\nO,0,1\r\n=\nS,0\r\n' > "$input"; gives "both endings" Z,1,2,0,1
+  printf 'P,1\r\nT\r\n=\r\n' > "$input"; gives "a transition without arcs" X,15,0
+  { loop | returned; printf 'S,0\r\nS,0\r'; } > "$input"; gives "cut between 13 and 10" X,21,2
+  { loop; printf 'S,0\nS,0\r\r\n'; } > "$input"; gives "13 13 10" X,21,2
+  { loop; printf 'S,0\nS\r,0\n'; } > "$input"; gives "13 inside a line" X,21,2
+  { repeat 13106 P,0 | returned; echo '='; } > "$input"; gives "65,532 bytes with 13 10" X,12,33
+  { repeat 13107 P,0 | returned; echo '='; } > "$input"; gives "65,537 bytes with 13 10" X,10,0
+}
+
+each_return() { # byte 13 at every place of an input
+  local k
+  { loop | returned; lines S,0 S,0; } > "$work/full"
+  for ((k = 0; k <= $(size "$work/full"); k++)); do
+    { head -c "$k" "$work/full"; printf '\r'; tail -c "+$((k + 1))" "$work/full"; } > "$input"
+    agrees "byte 13 put in at byte $k"
+  done
 }
 
 # ---- reading and writing
@@ -337,8 +369,50 @@ script_bytes() {
   printf 'S,0\nS,\000\377\r\\ x\nS,1\n' > "$work/log"
   runs 1 ./record examples/drive/net "$work/log"; prints X,21,2
   says "$malformed" "line 2 of the log ($work/log): S,\\x00\\xFF\\x0D\\x5C x"
+  printf 'S,0\r\r\n' > "$work/log"
+  runs 1 ./record examples/drive/net "$work/log"; prints X,21,1; says "$malformed" "line 1 of the log ($work/log): S,0\\x0D"
   { printf 'S,'; repeat 300 9; } | tr -d '\n' > "$work/log"
   runs 1 ./record examples/drive/net "$work/log"; prints X,21,1; mentions "999 (and so on) (cut off: no line end)"
+}
+
+# The script finds lines whichever their ending, and shows one without it.
+script_returns() {
+  runs 0 ./record examples/bench/net examples/bench/a.log; same "13 10 in both files" examples/drive/a.out "$work/out"; quiet
+  runs 0 ./record examples/bench/net examples/drive/a.log; same "13 10 in the net" examples/drive/a.out "$work/out"; quiet
+  runs 0 ./record examples/drive/net examples/bench/a.log; same "13 10 in the log" examples/drive/a.out "$work/out"; quiet
+  runs 1 ./record examples/bench/net examples/bench/mixed.log; prints X,25,2
+  says "$inhibited" "line 2 of the log (examples/bench/mixed.log): S,2"
+  runs 1 ./record examples/bench/net examples/bench/cut.log; prints X,21,3
+  says "$malformed" "line 3 of the log (examples/bench/cut.log): S,2\\x0D (cut off: no line end)"
+  { cat examples/bench/net; printf '=\r\n'; cat examples/bench/mixed.log; printf '=\n'; } > "$work/whole"
+  runs 1 ./record "$work/whole"; prints X,25,2; says "$inhibited" "line 2 of the log (line 18 of $work/whole): S,2"
+  runs 2 ./record "$work/whole" examples/drive/a.log; silent; mentions 'has a line `=`'
+  printf 'S,0\nS,9\r,\r\n' > "$work/log"
+  runs 1 ./record examples/bench/net "$work/log"; prints X,21,2; says "$malformed" "line 2 of the log ($work/log): S,9\\x0D,"
+  printf '\r\n' > "$work/log"
+  runs 1 ./record examples/bench/net "$work/log"; prints X,21,1; says "$malformed" "line 1 of the log ($work/log): "
+  printf '\r' > "$work/log"
+  runs 1 ./record examples/bench/net "$work/log"; prints X,21,1; says "$malformed" "line 1 of the log ($work/log): \\x0D (cut off: no line end)"
+  script_returned_nets
+}
+
+script_returned_nets() {
+  printf 'P,1\r\nT\nP,0\r\nT\r\nI,0,0\r\nO,0,1\r\nT\n' > "$work/net"
+  runs 1 ./record "$work/net" examples/bench/a.log; prints X,15,1
+  says "refused, 15: the transition lacks an input or an output" "transition 1, line 4 of the net ($work/net)"
+  printf 'P,1\r\nT\r\nT,0\r\n' > "$work/net"
+  runs 1 ./record "$work/net" examples/bench/a.log; prints X,11,3; says "refused, 11: malformed line" "line 3 of the net ($work/net): T,0"
+  printf 'P,1\r\nT\r' > "$work/net"
+  runs 2 ./record "$work/net" examples/bench/a.log; silent; mentions "is cut off"
+}
+
+# Of a long line 200 bytes are shown, and its ending is none of them.
+script_long_lines() {
+  nines() { printf 'S,'; repeat "$1" 9 | tr -d '\n'; }
+  { nines 198; printf '\r\n'; } > "$work/log"
+  runs 1 ./record examples/bench/net "$work/log"; prints X,21,1; says "$malformed" "line 1 of the log ($work/log): $(nines 198)"
+  { nines 199; printf '\r\n'; } > "$work/log"
+  runs 1 ./record examples/bench/net "$work/log"; prints X,21,1; says "$malformed" "line 1 of the log ($work/log): $(nines 198) (and so on)"
 }
 
 script_misuse() {
@@ -410,12 +484,15 @@ cases
 each_cut examples/drive/net examples/drive/a.log
 each_cut examples/cache/net examples/cache/shifts.log
 each_cut examples/temperature/net examples/temperature/flush.log
+each_cut examples/drive/net examples/drive/a.log returned
 each_byte
 net_limits
 run_limits
 readers
 input_limits
 partings
+returns
+each_return
 unreadable
 unwritable
 slowly
@@ -426,6 +503,8 @@ script_answers
 script_nets
 script_names
 script_bytes
+script_returns
+script_long_lines
 script_misuse
 holds "README.md" tests/readme.sh record "$tree"
 script_builds

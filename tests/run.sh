@@ -3,8 +3,8 @@
 # long it took:
 #   unit tests    the simulator against written-out cases and literal renderings; the tests against faults put into it
 #   c             include/pti.h and the library from C; it needs no other library and has no variables, so calls may overlap
-#   comparison    library and simulator on written-out, fixed and generated cases, every lent byte included; and on cases of
-#                 document 01 alone, with the simulator's requests turned off
+#   comparison    library and simulator on written-out, fixed and generated cases, every lent byte included; on cases of before
+#                 each request, with the simulator as it was then; and the library with itself under other line ends
 #   brute force   demand 3 on every run of small nets, all arrangements of each
 #   guarded       the comparison again with pages around every lent part that may not be touched, and the stack of each call
 #   peer          the unverified program that the library is measured against, held to the same comparison by document 01 alone

@@ -1,5 +1,5 @@
 /* The C interface from C: the header compiles by itself, its sizes suffice, and the drive net of document 01 comes out as
- * printed there, and a read arc as written out here. Exits 0 if all is so; else it says what is not. */
+ * printed there, and a read arc and both line ends as written out here. Exits 0 if all is so; else it says what is not. */
 #include "pti.h"
 #include <stdio.h>
 #include <string.h>
@@ -75,12 +75,32 @@ static void readers(void)
     expect("51", pti_read_net(TEXT("P,1\nT\nO,0,0\nR,0,0\nI,0,0\n")), 51, 5, 0, 0, 0);
 }
 
+/* Lines that end in 13 and 10, or in 10; what is written has 10 alone. */
+static void returns(void)
+{
+    static const char mixed[] = "P,1\r\nP,0\nT\r\nI,0,0\nO,0,1\r\n";
+    static const char built[] = "E,0\nC,0,-,0\nC,1,0,-\n";
+    char input[512];
+    expect("both endings", pti_read_net(TEXT(mixed)), 0, 0, 2, 1, 0);
+    expect("13 13 10", pti_read_net(TEXT("P,1\r\nP,1\r\r\n")), 11, 2, 0, 0, 0);
+    expect("cut behind 13", pti_read_net(TEXT("P,1\r\nP,1\r")), 11, 2, 0, 0, 0);
+    expect("13 10 in a log", pti_build(TEXT(mixed), TEXT("S,0\r\n"), out, PTI_RECORD_BYTES), 0, 0, sizeof(built) - 1, 0, 0);
+    holds("byte 10 alone is written", memcmp(out, built, sizeof(built) - 1) == 0);
+    expect("13 10 in a record", pti_check(TEXT(mixed), TEXT("E,0\r\nC,0,-,0\nC,1,0,-\r\n"), out, PTI_TABLE_BYTES), 0, 0, 1, 2, 0);
+    expect("13 10 in an arrangement", pti_replay(TEXT(mixed), TEXT(built), TEXT("G,0\r\n"), rows, PTI_ROW_COUNTS), 0, 0, 1, 0, 0);
+    expect("shown without 13 10", pti_refused_line(TEXT(mixed), TEXT("S,0\r\nS,12\r\n"), 1, 2), 0, 0, 5, 4, 0);
+    expect("shown with a 13 that ends nothing", pti_refused_line(TEXT(mixed), TEXT("S,0\r\nS,1\r"), 1, 2), 0, 0, 5, 4, 0);
+    sprintf(input, "%s=\r\nS,0\r\n", mixed);
+    expect("= 13 10", pti_program((const uint8_t *)input, strlen(input), out), 0, 0, sizeof(built) - 1 + 10, 0, 0);
+}
+
 int main(void)
 {
     build_and_check();
     replay_and_arrange();
     lines_and_program();
     readers();
+    returns();
     if (!wrong)
         puts("c: the drive net comes out as printed");
     return wrong;

@@ -48,7 +48,7 @@ try() { # NAME COMMAND...
 
 each_log() { # PROGRAM
   local log
-  for log in drive/{a,b,c,d,e,cut} crossed/{together,after} temperature/{flush,together,warm}; do
+  for log in drive/{a,b,c,d,e,cut} crossed/{together,after} temperature/{flush,together,warm} bench/{a,mixed,cut}; do
     try "${log/\//.}" "$1" "examples/${log%/*}/net" "examples/$log.log"
   done
   try net "$1" "$work/net" examples/drive/a.log

@@ -1,7 +1,7 @@
 //! One call of one operation: what goes in, how it is run on a subject, and what comes out, every lent byte included.
 
 use crate::answer::Answer;
-use crate::sim::{ARRANGEMENT_ROOM, PROGRAM_ROOM, RECORD_ROOM, ROWS_ROOM, TABLE_ROOM};
+use crate::sim::{Requests, ARRANGEMENT_ROOM, PROGRAM_ROOM, RECORD_ROOM, ROWS_ROOM, TABLE_ROOM};
 use std::sync::OnceLock;
 
 /// What has the operations: the library, or the simulator.
@@ -100,10 +100,11 @@ pub struct Case {
 }
 
 impl Case {
-    /// Does no text make use of a request of document 02? Then the answer is what it was before.
-    pub fn of_document_01(&self) -> bool {
-        let lines = self.texts.iter().flat_map(|text| text.split(|byte| *byte == 10));
-        !lines.into_iter().any(|line| line.starts_with(b"R"))
+    /// Does no text make use of a request of document 02 but these? Then the answer is what it is with these alone.
+    pub fn within(&self, requests: Requests) -> bool {
+        let reads = |text: &[u8]| text.split(|byte| *byte == 10).any(|line| line.starts_with(b"R"));
+        let returns = |text: &[u8]| text.windows(2).any(|two| two == b"\r\n");
+        self.texts.iter().all(|text| (requests.read_arcs || !reads(text)) && (requests.carriage_returns || !returns(text)))
     }
 
     /// With a buffer of the stated size.
@@ -194,8 +195,10 @@ pub fn lent<T>(held: &mut [T]) -> &mut [T] {
 /// a cut line would be ended, and more lines would follow.
 const BEHIND: &[u8] = b"0\nT\nS,0\nE,0\nG,0\n=\n";
 
+/// Behind a 13 or a `=` stands byte 10 at once, which would make a line end or the program's line of it.
 fn lend(text: &[u8]) -> Vec<u8> {
-    [text, BEHIND].concat()
+    let behind = if matches!(text.last(), Some(13 | b'=')) { &BEHIND[1..] } else { BEHIND };
+    [text, behind].concat()
 }
 
 /// The program's buffer has one size.
@@ -217,7 +220,7 @@ fn call(subject: &dyn Subject, case: &Case, texts: &[&[u8]], out: &mut [u8], row
 
 pub fn run(subject: &dyn Subject, case: &Case) -> Outcome {
     let held: Vec<Vec<u8>> = case.texts.iter().map(|text| lend(text)).collect();
-    let texts: Vec<&[u8]> = held.iter().map(|text| &text[..text.len() - BEHIND.len()]).collect();
+    let texts: Vec<&[u8]> = held.iter().zip(&case.texts).map(|(held, text)| &held[..text.len()]).collect();
     let (mut bytes, mut counts) = fresh(case);
     let answer = call(subject, case, &texts, lent(&mut bytes), lent(&mut counts));
     let texts_unchanged = case.texts.iter().zip(&held).all(|(text, held)| *held == lend(text));

@@ -1,7 +1,9 @@
 //! The comparison: a subject, the library, against the vectors and against a reference, the simulator.
 
+use crate::answer::Answer;
 use crate::case::{difference, run, Case, Operation, Outcome, Subject};
 use crate::rng::Rng;
+use crate::sim::Requests;
 use crate::{corpus, gen, vectors};
 use std::collections::{BTreeMap, BTreeSet};
 
@@ -11,31 +13,34 @@ pub enum Source {
     Vectors,
     Fixed,
     Generated,
-    /// Generated of document 01 alone, by the generators as they were before its requests.
+    /// By the generators as they were before each request of document 02, by turns.
     Base,
+    /// By the generators as they were before 2026-02, each case with two choices of line ends.
+    Endings,
 }
 
 impl Source {
-    pub const ALL: [Source; 4] = [Source::Vectors, Source::Fixed, Source::Generated, Source::Base];
+    pub const ALL: [Source; 5] = [Source::Vectors, Source::Fixed, Source::Generated, Source::Base, Source::Endings];
     /// For a subject that has document 01 alone.
     pub const OF_DOCUMENT_01: [Source; 3] = [Source::Vectors, Source::Fixed, Source::Base];
 
     pub fn name(self) -> &'static str {
-        ["vectors", "fixed", "generated", "base"][self as usize]
+        ["vectors", "fixed", "generated", "base", "endings"][self as usize]
     }
 }
 
-/// What a subject is held to: with the requests of document 02, and, on cases that make no use of them, without.
+/// What a subject is held to: with the requests of document 02, and, on cases that make no use of a request and the later ones,
+/// as it was before that request.
 #[derive(Clone, Copy)]
 pub struct Reference<'a> {
     pub now: &'a dyn Subject,
-    pub base: &'a dyn Subject,
+    pub before: [&'a dyn Subject; Requests::BEFORE.len()],
 }
 
 pub struct Plan {
     pub sources: Vec<Source>,
-    /// Generated cases, besides the others. Of document 01 alone there are a quarter as many, or as many for a subject that
-    /// has nothing else.
+    /// Generated cases, besides the others. By earlier generators there are a quarter as many, or as many for a subject that has
+    /// document 01 alone; with two choices of line ends, a tenth.
     pub cases: usize,
     pub seed: u64,
     /// After so many differences nothing more is run.
@@ -74,6 +79,7 @@ pub fn compare(subject: &dyn Subject, reference: Reference, plan: &Plan) -> bool
             Source::Fixed => comparison.fixed(),
             Source::Generated => comparison.rounds(),
             Source::Base => comparison.base_rounds(),
+            Source::Endings => comparison.endings(),
         }
         println!("{}: {} cases", source.name(), comparison.cases - before);
     }
@@ -86,6 +92,11 @@ impl Comparison<'_> {
         self.plan.sources == Source::OF_DOCUMENT_01
     }
 
+    /// Is the case one that the subject knows of?
+    fn takes(&self, case: &Case) -> bool {
+        !self.of_document_01() || case.within(Requests::BEFORE[0])
+    }
+
     fn done(&self) -> bool {
         self.differences >= self.plan.enough
     }
@@ -96,7 +107,7 @@ impl Comparison<'_> {
             if self.done() {
                 return;
             }
-            if self.of_document_01() && !vector.case.of_document_01() {
+            if !self.takes(&vector.case) {
                 continue;
             }
             let found = run(self.subject, &vector.case);
@@ -109,7 +120,7 @@ impl Comparison<'_> {
 
     fn fixed(&mut self) {
         for (number, case) in corpus::all().iter().enumerate() {
-            if !self.of_document_01() || case.of_document_01() {
+            if self.takes(case) {
                 self.one(&format!("fixed case {number}"), case, self.reference.now);
             }
         }
@@ -131,11 +142,29 @@ impl Comparison<'_> {
     fn base_rounds(&mut self) {
         let before = self.cases;
         let mut round = 0;
-        let most = if self.of_document_01() { self.plan.cases } else { self.plan.cases / 4 };
+        let (most, turns) = if self.of_document_01() { (self.plan.cases, 1) } else { (self.plan.cases / 4, Requests::BEFORE.len()) };
         while self.cases < before + most && !self.done() {
             let mut rng = self.next_round(round);
-            for case in gen::base_round(&mut rng).iter().filter(|case| case.of_document_01()) {
-                self.one(&format!("seed {}, base round {round}", self.plan.seed), case, self.reference.base);
+            let turn = round as usize % turns;
+            for case in gen::round_with(&mut rng, Requests::BEFORE[turn]).iter().filter(|case| case.within(Requests::BEFORE[turn])) {
+                self.one(&format!("seed {}, base round {round}", self.plan.seed), case, self.reference.before[turn]);
+            }
+            round += 1;
+        }
+    }
+
+    /// The subject alone: with other line ends it gives the same answer.
+    fn endings(&mut self) {
+        let before = self.cases;
+        let mut round = 0;
+        while self.cases < before + self.plan.cases / 10 && !self.done() {
+            let mut rng = self.next_round(round);
+            for (plain, other) in gen::two_endings(&mut rng) {
+                let found = run(self.subject, &plain);
+                self.count(plain.operation, &found);
+                if let Some(what) = other_answer((&plain, &found), (&other, &run(self.subject, &other))) {
+                    self.tell(&format!("seed {}, endings {round}, {} with other line ends", self.plan.seed, self.subject.name()), &what, &other);
+                }
             }
             round += 1;
         }
@@ -202,6 +231,20 @@ impl Comparison<'_> {
     }
 }
 
+/// What differs between the outcomes of a case and of the same with other line ends. A refused line starts elsewhere where there
+/// are other endings above it; its bytes are the same.
+fn other_answer((plain, found): (&Case, &Outcome), (other, again): (&Case, &Outcome)) -> Option<String> {
+    if plain.operation != Operation::RefusedLine || !found.answer.accepted() {
+        return difference(found, again);
+    }
+    let part = |case: &Case, answer: Answer| case.texts[usize::from(case.choice)].get(answer.a as usize..)?.get(..answer.b as usize).map(<[u8]>::to_vec);
+    if part(plain, found.answer).is_none() || part(plain, found.answer) != part(other, again.answer) {
+        return Some(format!("parts {:?} and {:?}", found.answer, again.answer));
+    }
+    let moved = Outcome { answer: Answer { a: found.answer.a, ..again.answer }, ..again.clone() };
+    difference(found, &moved)
+}
+
 fn differs(subject: &dyn Subject, reference: &dyn Subject, case: &Case) -> Option<String> {
     difference(&run(subject, case), &run(reference, case))
 }
@@ -253,13 +296,15 @@ impl Shrinking<'_> {
 mod tests {
     use super::*;
     use crate::case::lent;
-    use crate::sim::{BASE, EVENTS, SIMULATOR};
+    use crate::sim::{BEFORE, EVENTS, SIMULATOR};
+
+    const REFERENCE: Reference = Reference { now: &SIMULATOR, before: [&BEFORE[0], &BEFORE[1]] };
 
     /// The simulator against itself: no difference, and the generator alone meets every refusal of every operation.
     #[test]
     fn generator_meets_every_refusal() {
         let plan = Plan { sources: vec![Source::Generated], cases: 60_000, seed: 7, enough: 1, trace: false };
-        let mut comparison = Comparison { subject: &SIMULATOR, reference: Reference { now: &SIMULATOR, base: &BASE }, plan: &plan, cases: 0, differences: 0, met: BTreeMap::new() };
+        let mut comparison = Comparison { subject: &SIMULATOR, reference: REFERENCE, plan: &plan, cases: 0, differences: 0, met: BTreeMap::new() };
         comparison.rounds();
         comparison.base_rounds();
         assert_eq!(comparison.differences, 0);
@@ -268,6 +313,18 @@ mod tests {
                 assert!(comparison.is_met(operation, number), "{} {number}", operation.name());
             }
         }
+    }
+
+    /// A subject that knows one line end alone is seen by other line ends in every operation, the simulator in none.
+    #[test]
+    fn other_line_ends_tell_subjects_apart() {
+        let seen = |subject: &dyn Subject| -> BTreeSet<Operation> {
+            let pairs = (0..400).flat_map(|round| gen::two_endings(&mut Rng::for_round(9, round)));
+            let differs = |(plain, other): &(Case, Case)| other_answer((plain, &run(subject, plain)), (other, &run(subject, other))).is_some();
+            pairs.filter(differs).map(|(plain, _)| plain.operation).collect()
+        };
+        assert_eq!(seen(&SIMULATOR), BTreeSet::new());
+        assert_eq!(seen(&BEFORE[1]), BTreeSet::from(Operation::ALL));
     }
 
     /// Orders of every kind are met: with weak pairs only one way, both ways, strict pairs, and with none.

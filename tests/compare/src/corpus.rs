@@ -1,5 +1,7 @@
 //! Fixed cases without an answer written out: texts damaged at every byte, and the limits from both sides.
 
+mod returns;
+
 use crate::case::{lent, run, Case, Operation};
 use crate::gen::{build, BYTES, NUMBERS};
 use crate::sim::SIMULATOR;
@@ -25,6 +27,7 @@ pub fn all() -> Vec<Case> {
     reading_limits(&mut cases);
     lines_asked(&mut cases);
     long_texts(&mut cases);
+    returns::add(&mut cases);
     cases
 }
 

@@ -7,16 +7,18 @@ mod logs;
 mod nets;
 mod readers;
 mod records;
+mod returns;
 
 use crate::case::{run, Case, Operation};
 use crate::model::{log_text, NetPlan};
 use crate::rng::Rng;
-use crate::sim::{SIMULATOR, LONGEST_INPUT, RECORD_ROOM};
+use crate::sim::{Requests, SIMULATOR, LONGEST_INPUT, RECORD_ROOM};
 
 pub use damage::{damage, BYTES, NUMBERS};
 pub use logs::play;
 pub use nets::net;
 pub use records::change;
+pub use returns::{every_end, two_endings};
 
 /// How large the nets and runs of a round are at most.
 #[derive(Clone, Copy)]
@@ -64,12 +66,16 @@ fn net_and_log(rng: &mut Rng, reads: bool) -> (NetPlan, Size, Vec<Vec<usize>>) {
 
 /// The cases of a round.
 pub fn round(rng: &mut Rng) -> Vec<Case> {
-    cases(rng, true)
+    round_with(rng, Requests::ALL)
 }
 
-/// A round of document 01 alone, without read arcs.
-pub fn base_round(rng: &mut Rng) -> Vec<Case> {
-    cases(rng, false)
+/// A round as it was when these requests were taken in and no other. Byte 13 is put in last, so that the draws before it stay.
+pub fn round_with(rng: &mut Rng, requests: Requests) -> Vec<Case> {
+    let mut cases = cases(rng, requests.read_arcs);
+    if requests.carriage_returns {
+        cases.iter_mut().for_each(|case| returns::put(rng, case));
+    }
+    cases
 }
 
 fn cases(rng: &mut Rng, reads: bool) -> Vec<Case> {

@@ -20,7 +20,7 @@ use case::Subject;
 use std::io::{Read, Write};
 use std::process::ExitCode;
 
-const USAGE: &str = "usage: compare compare [--cases N] [--seed S] [--only vectors|fixed|generated|base] [--first] [--trace]
+const USAGE: &str = "usage: compare compare [--cases N] [--seed S] [--only vectors|fixed|generated|base|endings] [--first] [--trace]
        compare guarded [--cases N] [--seed S]
        compare brute [--nets N] [--runs N] [--seed S]
        compare bench
@@ -33,7 +33,7 @@ Built without the feature lib and without --subject, brute and bench judge the s
 const NO_LIBRARY: &str = "there is no library in this build to compare with the simulator: \
 build with --features lib and PTI_LIB_DIR set to the folder of libpti.a (tests/run.sh does), or name one by --subject";
 
-const SIMULATOR: compare::Reference = compare::Reference { now: &sim::SIMULATOR, base: &sim::BASE };
+const SIMULATOR: compare::Reference = compare::Reference { now: &sim::SIMULATOR, before: [&sim::BEFORE[0], &sim::BEFORE[1]] };
 
 fn library() -> Option<&'static dyn Subject> {
     #[cfg(feature = "lib")]
@@ -71,7 +71,7 @@ fn run(words: &[String]) -> Result<bool, String> {
                 trace: options.flag("--trace"),
             };
             options.none_left()?;
-            let reference = reference.map_or(SIMULATOR, |loaded| compare::Reference { now: loaded, base: loaded });
+            let reference = reference.map_or(SIMULATOR, |loaded| compare::Reference { now: loaded, before: [loaded; sim::Requests::BEFORE.len()] });
             Ok(compare::compare(subject.or(library()).ok_or(NO_LIBRARY)?, reference, &plan))
         }
         "guarded" => {

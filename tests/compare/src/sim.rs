@@ -71,6 +71,14 @@ fn room(have: usize, need: usize, number: u64) -> Result<(), Refusal> {
 pub struct Requests {
     /// 2026-01: lines `R` in nets and records.
     pub read_arcs: bool,
+    /// 2026-02: 13 and 10 end a line too.
+    pub carriage_returns: bool,
+}
+
+impl Requests {
+    pub const ALL: Requests = Requests { read_arcs: true, carriage_returns: true };
+    /// What was taken in before each of them.
+    pub const BEFORE: [Requests; 2] = [Requests { read_arcs: false, carriage_returns: false }, Requests { read_arcs: true, carriage_returns: false }];
 }
 
 /// The net, the record and its order, when none of 11 to 15, 51 and 31 to 39 is met.
@@ -109,7 +117,7 @@ fn try_check(requests: Requests, net: &[u8], record: &[u8], table: &mut [u8]) ->
 fn try_replay(requests: Requests, net: &[u8], record: &[u8], arrangement: &[u8], rows: &mut [u16]) -> Result<Answer, Refusal> {
     room(rows.len(), ROWS_ROOM, 40)?;
     let (_, record, order) = accepted(requests, net, record)?;
-    let lines = replaying::read(&order, arrangement)?;
+    let lines = replaying::read(requests, &order, arrangement)?;
     rows[..ROWS_ROOM].fill(0);
     for (k, row) in replaying::rows(&record, &lines).iter().enumerate() {
         rows[PLACES * k..PLACES * (k + 1)].copy_from_slice(row);
@@ -130,14 +138,19 @@ pub struct Simulator {
 }
 
 /// With every request taken in: what the library is held to.
-pub const SIMULATOR: Simulator = Simulator { requests: Requests { read_arcs: true } };
+pub const SIMULATOR: Simulator = Simulator { requests: Requests::ALL };
 
-/// With every request turned off: what the library is held to where no text makes use of one.
-pub const BASE: Simulator = Simulator { requests: Requests { read_arcs: false } };
+/// As it was before each request: what the library is held to where no text makes use of that one or a later one. Before the
+/// first it is document 01.
+pub const BEFORE: [Simulator; 2] = [Simulator { requests: Requests::BEFORE[0] }, Simulator { requests: Requests::BEFORE[1] }];
 
 impl Subject for Simulator {
     fn name(&self) -> &'static str {
-        if self.requests == SIMULATOR.requests { "simulator" } else { "simulator without requests" }
+        match self.requests {
+            Requests::ALL => "simulator",
+            Requests { read_arcs: true, .. } => "simulator without carriage returns",
+            _ => "simulator without requests",
+        }
     }
 
     fn read_net(&self, net: &[u8]) -> Answer {
@@ -161,7 +174,7 @@ impl Subject for Simulator {
     }
 
     fn refused_line(&self, net: &[u8], second: &[u8], choice: u8, line: u64) -> Answer {
-        answer(refused::find(net, second, choice, line))
+        answer(refused::find(self.requests, net, second, choice, line))
     }
 
     fn program(&self, input: &[u8], out: &mut [u8; PROGRAM_ROOM]) -> Answer {

@@ -10,6 +10,7 @@ mod nets;
 mod programs;
 mod readers;
 mod records;
+mod returns;
 
 use crate::answer::Answer;
 use crate::case::{fresh, lent, Case, Operation, Outcome};
@@ -217,5 +218,6 @@ pub fn all() -> Vec<Vector> {
     buffers::add(&mut book);
     programs::add(&mut book);
     readers::add(&mut book);
+    returns::add(&mut book);
     book.vectors
 }

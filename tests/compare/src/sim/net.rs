@@ -24,7 +24,7 @@ pub struct Net {
 
 pub fn read(requests: Requests, text: &[u8]) -> Result<Net, Refusal> {
     let mut net = Net { requests, ..Net::default() };
-    for line in lines(text) {
+    for line in lines(requests, text) {
         let number = match words(&line) {
             Some(words) => net.declare(&words),
             None => 11,

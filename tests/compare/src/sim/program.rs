@@ -11,7 +11,7 @@ pub fn run(requests: Requests, input: &[u8], out: &mut [u8; PROGRAM_ROOM]) -> An
 }
 
 fn printed(requests: Requests, input: &[u8]) -> Result<String, Refusal> {
-    let (net, log) = parts(input)?;
+    let (net, log) = parts(requests, input)?;
     let parsed = net::read(requests, net)?;
     let text = run::read(&parsed, log)?.record(&parsed).text();
     let (_, record, order) = accepted(requests, net, text.as_bytes())?;
@@ -21,12 +21,12 @@ fn printed(requests: Requests, input: &[u8]) -> Result<String, Refusal> {
 }
 
 /// Net and log, parted by the first line that is `=` and ended.
-fn parts(input: &[u8]) -> Result<(&[u8], &[u8]), Refusal> {
+fn parts(requests: Requests, input: &[u8]) -> Result<(&[u8], &[u8]), Refusal> {
     if input.len() > LONGEST_INPUT {
         return refuse(10, 0);
     }
-    match lines(input).iter().find(|line| line.bytes == b"=" && line.ended) {
-        Some(line) => Ok((&input[..line.start], &input[line.start + 2..])),
+    match lines(requests, input).iter().find(|line| line.bytes == b"=" && line.ended()) {
+        Some(line) => Ok((&input[..line.start], &input[line.next()..])),
         None => refuse(10, 0),
     }
 }

@@ -73,7 +73,7 @@ enum Item {
 
 pub fn read(net: &Net, text: &[u8]) -> Result<Record, Refusal> {
     let mut reader = Reader::default();
-    for line in lines(text) {
+    for line in lines(net.requests, text) {
         let number = match words(&line).and_then(|words| item(net, words)) {
             Some(item) => reader.take(net, item),
             None => 31,

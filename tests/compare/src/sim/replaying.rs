@@ -3,13 +3,13 @@
 use super::order::Order;
 use super::record::Record;
 use super::text::{lines, numbers_after};
-use super::{refuse, Refusal, PLACES};
+use super::{refuse, Refusal, Requests, PLACES};
 
 /// The events of each line of an arrangement that keeps the order and has each event once.
-pub fn read(order: &Order, text: &[u8]) -> Result<Vec<Vec<usize>>, Refusal> {
+pub fn read(requests: Requests, order: &Order, text: &[u8]) -> Result<Vec<Vec<usize>>, Refusal> {
     let mut arranged = Vec::new();
     let mut line_of = vec![None; order.events()];
-    for (index, line) in lines(text).iter().enumerate() {
+    for (index, line) in lines(requests, text).iter().enumerate() {
         let Some(events) = numbers_after('G', line) else {
             return refuse(41, line.number);
         };

@@ -27,7 +27,7 @@ struct Tally {
 pub fn read(net: &Net, log: &[u8]) -> Result<Run, Refusal> {
     let mut tally = Tally::start(net);
     let mut steps = Vec::new();
-    for line in lines(log) {
+    for line in lines(net.requests, log) {
         let Some(step) = numbers_after('S', &line) else {
             return refuse(21, line.number);
         };

@@ -1,10 +1,11 @@
 //! The simulator against the vectors, and against literal renderings of the rules for which it takes a short cut.
 
-use crate::case::{difference, lent, run, Case, Operation};
+use crate::answer::Answer;
+use crate::case::{difference, lent, run, Case, Operation, Subject};
 use crate::gen::{self, Size, SMALL};
 use crate::model::{log_text, ConditionPlan, MarkPlan, NetPlan, RecordPlan};
 use crate::rng::Rng;
-use crate::sim::{BASE, EVENTS, SIMULATOR};
+use crate::sim::{Requests, Simulator, BEFORE, EVENTS, SIMULATOR};
 use crate::{corpus, vectors};
 
 #[test]
@@ -136,36 +137,74 @@ fn levels_text(levels: &[usize]) -> String {
     (0..lines).map(|level| format!("G{}\n", line(level))).collect()
 }
 
-/// Where no text makes use of a request, the simulator with the requests turned off gives the same outcome as with them.
+/// Where no text makes use of a request or of a later one, the simulator as it was before gives the same outcome as it does now.
 #[test]
 fn requests_turned_off_change_nothing_else() {
     let vectors = vectors::all().into_iter().map(|vector| vector.case);
-    let generated = (0..6_000).flat_map(|round| gen::base_round(&mut Rng::for_round(15, round)));
-    let mut same = 0;
-    for case in vectors.chain(corpus::all()).chain(generated).filter(|case| case.of_document_01()) {
-        let found = difference(&run(&SIMULATOR, &case), &run(&BASE, &case));
+    let generated = (0..6_000).flat_map(|round| gen::round_with(&mut Rng::for_round(15, round), Requests::BEFORE[round as usize % 2]));
+    let mut same = [0; BEFORE.len()];
+    // Of the fixed cases those of document 01 are enough, and of each case the first request that it has no use of: the comparison
+    // tries more.
+    let fixed = corpus::all().into_iter().filter(|case| case.within(Requests::BEFORE[0]));
+    for case in vectors.chain(fixed).chain(generated) {
+        let Some(first) = (0..BEFORE.len()).find(|turn| case.within(Requests::BEFORE[*turn])) else {
+            continue;
+        };
+        let found = difference(&run(&SIMULATOR, &case), &run(&BEFORE[first], &case));
         assert!(found.is_none(), "{}\n{case}", found.unwrap_or_default());
-        same += 1;
+        same[first] += 1;
     }
-    assert!(same > 100_000, "{same} cases of document 01");
+    assert!(same[0] > 100_000 && same[1] > 5_000, "{same:?} cases");
 }
 
-/// The generators without read arcs make no line of a request but by damage.
+/// The generators without a request make nothing of it but by damage.
 #[test]
-fn base_rounds_are_of_document_01() {
-    let cases = (0..6_000).flat_map(|round| gen::base_round(&mut Rng::for_round(15, round)));
-    let (base, other): (Vec<Case>, Vec<Case>) = cases.partition(|case| case.of_document_01());
-    assert!(base.len() > 50 * other.len(), "{} cases of document 01 and {} others", base.len(), other.len());
+fn earlier_rounds_make_no_use_of_later_requests() {
+    for requests in Requests::BEFORE {
+        let cases = (0..3_000).flat_map(|round| gen::round_with(&mut Rng::for_round(15, round), requests));
+        let (within, other): (Vec<Case>, Vec<Case>) = cases.partition(|case| case.within(requests));
+        assert!(within.len() > 50 * other.len(), "{} cases within {requests:?} and {} others", within.len(), other.len());
+    }
+}
+
+fn refusal(subject: &Simulator, operation: Operation, texts: &[&[u8]]) -> (u64, u64) {
+    run(subject, &Case::new(operation, texts)).refusal()
 }
 
 /// Turned off, an R line is malformed, in a net and in a record.
 #[test]
 fn requests_turned_off_know_no_reads() {
     let reading = vectors::Text::from("P,1 P,1 T I,0,0 O,0,0 R,1,0").0;
-    let answer = |subject, operation, texts: &[&[u8]]| run(subject, &Case::new(operation, texts)).refusal();
-    assert_eq!(answer(&SIMULATOR, Operation::ReadNet, &[&reading]), (0, 0));
-    assert_eq!(answer(&BASE, Operation::ReadNet, &[&reading]), (11, 6));
+    assert_eq!(refusal(&SIMULATOR, Operation::ReadNet, &[&reading]), (0, 0));
+    assert_eq!(refusal(&BEFORE[0], Operation::ReadNet, &[&reading]), (11, 6));
     let record = vectors::Text::from("C,0,-,- R,0,0").0;
-    assert_eq!(answer(&SIMULATOR, Operation::Check, &[b"P,1\n", &record]), (33, 2));
-    assert_eq!(answer(&BASE, Operation::Check, &[b"P,1\n", &record]), (31, 2));
+    assert_eq!(refusal(&SIMULATOR, Operation::Check, &[b"P,1\n", &record]), (33, 2));
+    assert_eq!(refusal(&BEFORE[0], Operation::Check, &[b"P,1\n", &record]), (31, 2));
+}
+
+/// Turned off, byte 13 is foreign wherever it stands, and a line's last byte where it stands before byte 10.
+#[test]
+fn requests_turned_off_know_no_returns() {
+    let net = b"P,1\nT\nI,0,0\nO,0,0\n";
+    for before in &BEFORE {
+        assert_eq!(refusal(before, Operation::ReadNet, &[b"P,1\nP,1\r\n"]), (11, 2));
+        assert_eq!(refusal(before, Operation::Build, &[net, b"S,0\r\n"]), (21, 1));
+        assert_eq!(refusal(before, Operation::Check, &[b"P,1\n", b"C,0,-,-\r\n"]), (31, 1));
+        assert_eq!(refusal(before, Operation::Replay, &[b"", b"", b"G,0\r\n"]), (41, 1));
+        assert_eq!(refusal(before, Operation::Program, &[b"=\r\n"]), (10, 0));
+        assert_eq!(refusal(before, Operation::Program, &[b"=\n\r\n"]), (21, 1));
+        assert_eq!(before.refused_line(b"ab\r\nc\r\n", b"", 0, 2), Answer::gives(4, 2, 0));
+    }
+}
+
+/// A text with 13 10 for some of its bytes 10 has the outcome that the text had before there was the request.
+#[test]
+fn either_ending_is_read_as_one() {
+    for round in 0..2_000 {
+        for (plain, other) in gen::two_endings(&mut Rng::for_round(16, round)) {
+            if plain.operation != Operation::RefusedLine {
+                assert_eq!(difference(&run(&SIMULATOR, &other), &run(&BEFORE[1], &plain)), None, "{other}");
+            }
+        }
+    }
 }

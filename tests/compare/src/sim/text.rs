@@ -1,33 +1,55 @@
 //! Lines, fields and numbers.
 
+use super::Requests;
 use std::collections::HashMap;
 use std::sync::OnceLock;
 
-pub const LINE_END: u8 = 10;
-
-/// A piece of a text up to byte 10. The last piece may lack it.
+/// A piece of a text up to its ending. The last piece may lack one.
 #[derive(Clone, Copy, Debug, PartialEq, Eq)]
 pub struct Line<'a> {
     /// From 1.
     pub number: u64,
     /// Where the line starts in its text.
     pub start: usize,
-    /// Without byte 10.
+    /// Without the ending.
     pub bytes: &'a [u8],
-    pub ended: bool,
+    /// Nothing if the piece lacks one.
+    pub ending: &'a [u8],
+}
+
+impl Line<'_> {
+    pub fn ended(&self) -> bool {
+        !self.ending.is_empty()
+    }
+
+    /// Where the next line starts.
+    pub fn next(&self) -> usize {
+        self.start + self.bytes.len() + self.ending.len()
+    }
 }
 
 /// All lines of a text, an unended last piece among them. Empty text has none.
-pub fn lines(text: &[u8]) -> Vec<Line<'_>> {
+pub fn lines(requests: Requests, text: &[u8]) -> Vec<Line<'_>> {
+    let mut found: Vec<Line> = Vec::new();
     let mut start = 0;
-    let mut found = Vec::new();
-    for piece in text.split_inclusive(|byte| *byte == LINE_END) {
-        let ended = piece.ends_with(&[LINE_END]);
-        let bytes = piece.strip_suffix(&[LINE_END]).unwrap_or(piece);
-        found.push(Line { number: found.len() as u64 + 1, start, bytes, ended });
-        start += piece.len();
+    while start < text.len() {
+        let end = (start..text.len()).find(|at| !ending(requests, &text[*at..]).is_empty()).unwrap_or(text.len());
+        let line = Line { number: found.len() as u64 + 1, start, bytes: &text[start..end], ending: ending(requests, &text[end..]) };
+        start = line.next();
+        found.push(line);
     }
     found
+}
+
+/// The ending that a text begins with: byte 10, or 13 and 10. Nothing if it begins otherwise: then its first byte belongs to a
+/// line, byte 13 too, and no field has room for one.
+fn ending(requests: Requests, text: &[u8]) -> &[u8] {
+    let length = match text {
+        [13, 10, ..] if requests.carriage_returns => 2,
+        [10, ..] => 1,
+        _ => 0,
+    };
+    &text[..length]
 }
 
 #[derive(Clone, Copy, Debug, PartialEq, Eq)]
@@ -46,7 +68,7 @@ pub struct Words {
 /// Nothing if the line is malformed in any text: unended, no single capital letter in front, or a field that is
 /// neither a number nor a dash.
 pub fn words(line: &Line) -> Option<Words> {
-    if !line.ended {
+    if !line.ended() {
         return None;
     }
     let mut pieces = line.bytes.split(|byte| *byte == b',');

@@ -28,8 +28,6 @@ fn texts(book: &mut Book) {
     book.built("16: empty net, empty log", "", "", "");
     let case = Case::new(Operation::Build, &[b"P,1\n", b"\n"]);
     book.add("4: empty log line", case, Answer::refuses(21, 1), Written::Nothing);
-    let case = Case::new(Operation::Build, &[b"P,1\nT\nI,0,0\nO,0,0\n", b"S,0\r\n"]);
-    book.add("8: byte 13", case, Answer::refuses(21, 1), Written::Nothing);
 }
 
 fn order_of_refusals(book: &mut Book) {

@@ -29,8 +29,8 @@ fn lines(book: &mut Book) {
         let case = Case::new(Operation::ReadNet, &[wrong]);
         book.add("4: empty line", case, Answer::refuses(11, line), Written::Nothing);
     }
-    let foreign: [&[u8]; 12] = [
-        b"p,1\n", b"P,1\r\n", b"P, 1\n", b" P,1\n", b"P,1 \n", b"\xef\xbb\xbfP,1\n", b"P;1\n", b"\"P\",1\n", b"P,\0\n", b"=\n", b"\xff\n", b"P,1\x0b\n",
+    let foreign: [&[u8]; 11] = [
+        b"p,1\n", b"P, 1\n", b" P,1\n", b"P,1 \n", b"\xef\xbb\xbfP,1\n", b"P;1\n", b"\"P\",1\n", b"P,\0\n", b"=\n", b"\xff\n", b"P,1\x0b\n",
     ];
     for wrong in foreign {
         let case = Case::new(Operation::ReadNet, &[wrong]);

@@ -18,8 +18,8 @@ fn lines(book: &mut Book) {
     book.line("69: unended only piece", ["P,~", ""], (0, 1), 0, 2);
     book.line("69: empty line", [b"\n".to_vec(), Vec::new()], (0, 1), 0, 0);
     book.line("69: empty line between", [Vec::new(), b"ab\n\ncd".to_vec()], (1, 2), 3, 0);
-    book.line("any bytes", [b"\xff\0 \r\n=".to_vec(), Vec::new()], (0, 1), 0, 4);
-    book.line("any bytes, unended", [b"\xff\0 \r\n=".to_vec(), Vec::new()], (0, 2), 5, 1);
+    book.line("any bytes", [b"\xff\0 \t\n=".to_vec(), Vec::new()], (0, 1), 0, 4);
+    book.line("any bytes, unended", [b"\xff\0 \t\n=".to_vec(), Vec::new()], (0, 2), 5, 1);
 }
 
 fn no_lines(book: &mut Book) {
@@ -44,7 +44,7 @@ fn parting(book: &mut Book) {
     book.printed("no = line", "P,1 S,0", "X,10,0");
     book.printed("72: the first counts", &format!("{DRIVE} = ="), "X,21,1");
     book.printed("73: lines of the log", &format!("{DRIVE} = S,0 S,0"), "X,24,2");
-    for no_parting in [&b"==\n"[..], b"=,\n", b" =\n", b"= \n", b"=\r\n", b"P,1\n=", b"P,1=\n"] {
+    for no_parting in [&b"==\n"[..], b"=,\n", b" =\n", b"= \n", b"P,1\n=", b"P,1=\n"] {
         book.printed("no = line", no_parting.to_vec(), "X,10,0");
     }
     book.printed("an empty line first", b"\n=\n".to_vec(), "X,11,1");
