@@ -2,7 +2,8 @@
  *
  * Texts and buffers are lent for the length of a call: a pointer and a length. No pointer is null; an empty text is any
  * pointer that is not null with length 0. A buffer may overlap no text and no other buffer. A refused call writes to no
- * buffer; past what an accepted one writes, a buffer keeps its contents. The numbers and spots are those of document 01:
+ * buffer; past what an accepted one writes, a buffer keeps its contents. A line of a text that is read ends with byte 10 or with
+ * bytes 13 and 10, and a text may have both; what is written has byte 10 alone. The numbers and spots are those of document 01:
  * number and spot are 0 where a call is accepted, and a, b and c are 0 where it is refused, and where nothing is said of them.
  */
 #ifndef PTI_H
@@ -41,7 +42,7 @@ pti_answer pti_replay(const uint8_t *net, size_t net_len, const uint8_t *record,
 /* Writes the shortest arrangement. a: bytes written, b: lines. Refusals 50, the net's, 31 to 39. */
 pti_answer pti_arrange(const uint8_t *net, size_t net_len, const uint8_t *record, size_t record_len, uint8_t *out, size_t out_len);
 
-/* Where a line stands, of the net text (choice 0) or the second text (choice 1), without byte 10.
+/* Where a line stands, of the net text (choice 0) or the second text (choice 1), without its ending, 10 or 13 and 10.
  * a: its start in the chosen text, b: its length; both 0 when refused. Refusal 46. */
 pti_answer pti_refused_line(const uint8_t *net, size_t net_len, const uint8_t *second, size_t second_len, uint8_t choice, size_t line);
 
