@@ -1,40 +1,50 @@
--- Laws on the first byte of a class, and on positions: a byte of another class is passed, and one byte more stands
--- before the first. Assumes nothing.
+-- Laws on the first byte that passes a test, and on positions: a byte that does not pass it is passed over, and one byte
+-- more stands before the first. Assumes nothing.
 use Prim.Native.Nat.{ℕ, suc, _+_, _-_, _≤_, _<_}
-use mathlib.Core.Path.{_≡_, refl, _∙_}
-use mathlib.Core.Bool.{Bool, true, false}
-use mathlib.Core.List.{List, _∷_}
+use mathlib.Core.Path.{_≡_, refl, sym, ap, _∙_}
+use mathlib.Core.Bool.{Bool, true, false, cond}
+use mathlib.Core.List.{List, [], _∷_}
 use native.Mathlib.Omega.{arith}
 use lib.ListN.{length, getD, drop, drop-of-length-le, length-drop}
 use lib.Seq.{drop-drop}
-use lib.Dec.{ltb}
+use lib.Dec.{eqb, ltb}
 use borrow.Author.Tests.{lt-ltb, le-ltb, ltb-true, ltb-false}
 use Rattle.lists.specs.Along.{rest-at}
 use Rattle.spec.specs.Text.{isA}
 use Rattle.spec.specs.declared.Class.{Class}
-use Rattle.byte_classes.specs.Scan.{before}
+use Rattle.byte_classes.specs.Scan.{beforeFirst, before, beforeByte}
 
-module _ (k : Class) (s : List ℕ) (i : ℕ) where
-  pub before-here : i < length s → isA k (getD s i 0) ≡ true → i ≡ i + before k (drop i s)
-  unfolding before
+module _ (p : ℕ → Bool) (s : List ℕ) (i : ℕ) where
+  pub before-here : i < length s → p (getD s i 0) ≡ true → i ≡ i + beforeFirst p (drop i s)
+  unfolding beforeFirst
   before-here h e = rw (rest-at s i h, e) (omega arith)
 
-  pub before-on : i < length s → isA k (getD s i 0) ≡ false → i + 1 + before k (drop (i + 1) s) ≡ i + before k (drop i s)
-  unfolding before
+  pub before-on : i < length s → p (getD s i 0) ≡ false → i + 1 + beforeFirst p (drop (i + 1) s) ≡ i + beforeFirst p (drop i s)
+  unfolding beforeFirst
   before-on h e = rw (rest-at s i h, e) (omega arith)
 
-  pub before-end : length s ≤ i → i ≡ i + before k (drop i s)
-  unfolding before
+  pub before-end : length s ≤ i → i ≡ i + beforeFirst p (drop i s)
+  unfolding beforeFirst
   before-end h = rw (drop-of-length-le s h) (omega arith)
 
-module _ (k : Class) (b : ℕ) (bs : List ℕ) where
-  pub before-zero : isA k b ≡ true → before k (b ∷ bs) ≡ 0
-  unfolding before
+module _ (p : ℕ → Bool) (b : ℕ) (bs : List ℕ) where
+  pub before-zero : p b ≡ true → beforeFirst p (b ∷ bs) ≡ 0
+  unfolding beforeFirst
   before-zero e = rw e
 
-  pub before-suc : isA k b ≡ false → before k (b ∷ bs) ≡ suc (before k bs)
-  unfolding before
+  pub before-suc : p b ≡ false → beforeFirst p (b ∷ bs) ≡ suc (beforeFirst p bs)
+  unfolding beforeFirst
   before-suc e = rw e
+
+-- two tests that agree are first passed by the same byte
+first-agrees : (p q : ℕ → Bool) → ((b : ℕ) → p b ≡ q b) → (bs : List ℕ) → beforeFirst p bs ≡ beforeFirst q bs
+unfolding beforeFirst
+first-agrees p q e [] = refl
+first-agrees p q e (b ∷ bs) = rw (e b) (ap (cond (q b) 0) (ap suc (first-agrees p q e bs)))
+
+-- so the first byte b is the first of a class that has this byte alone
+pub first-of-class : (k : Class) (b : ℕ) → ((x : ℕ) → isA k x ≡ eqb x b) → (at r : ℕ) (bs : List ℕ) → r ≡ at + beforeByte b bs → r ≡ at + before k bs
+first-of-class k b only at r bs e = e ∙ ap (λ (n : ℕ). at + n) (sym (first-agrees (isA k) (λ x. eqb x b) only bs))
 
 -- ---- at a position
 

@@ -1,10 +1,10 @@
 // What each byte of a text is.
 ghost use mathlib.Core.Path.{_≡_};
-ghost use Prim.Native.Nat.{_≤_};
-ghost use lib.ListN.{length};
+ghost use Prim.Native.Nat.{_+_, _≤_};
+ghost use lib.ListN.{length, drop};
 ghost use Rattle.spec.specs.Text.{classAndDigit, digitOf, isA};
 ghost use Rattle.spec.specs.Classes.{classCode, alike};
-ghost use Rattle.byte_classes.specs.Scan.{plainByte, EndsAt};
+ghost use Rattle.byte_classes.specs.Scan.{plainByte, beforeByte};
 use spec::ByteClass;
 use spec::Class;
 
@@ -94,11 +94,11 @@ pub fn digit_value(b: u8) -> usize
     c.digit as usize
 }
 
-// Where the bytes that start at a position meet the first one b, or end. It is said of a class that has this byte alone: a
-// byte is compared, as its class would be looked up for every byte that is passed.
+// Where the bytes that start at a position meet the first one b, or end. A byte is compared, as its class would be
+// looked up for every byte that is passed.
 pub fn end_of(b: u8, s: &[u8], at: usize) -> usize
     requires { ⌜ at ≤ length (now s) ⌝ }
-    ensures { λ r. ⌜ EndsAt b (now (s .entry)) at r × (r ≤ length (now (s .entry))) ⌝ }
+    ensures { λ r. ⌜ (r ≡ at + beforeByte b (drop at (now (s .entry)))) × (r ≤ length (now (s .entry))) ⌝ }
 {
     let mut i = at;
     while i < s.len() {

@@ -15,7 +15,7 @@ use Rattle.spec.specs.Text.{isA, Line, onFirst, rawLinesOf, butReturn, withoutR
 use Rattle.spec.specs.declared.Class.the-variants.{LineEnd, Return}
 use Rattle.lists.specs.Along.{rest-at, take-more}
 use Rattle.lists.specs.LineEnds.{but-last, unended-kept, ended-as}
-use Rattle.byte_classes.specs.Scan.{before}
+use Rattle.byte_classes.specs.Scan.{beforeFirst, before}
 use Rattle.byte_classes.proofs.Scans.{before-zero, before-suc, within, beyond, width}
 use Rattle.lines.specs.Lines.{endFrom, spanTo, lineOf, LineTo, RawLineAt, LineAt, ten, return-ten, pastEnding, PastEnding}
 use Rattle.lines.specs.declared.Span.{Span}
@@ -37,7 +37,7 @@ module _ (b : ℕ) (bs : List ℕ) where
   line-grows n ls r e = rw (e, r, leb·suc-suc (suc n) (length bs))
 
 line-last : (b : ℕ) → isA LineEnd b ≡ false → rawLinesOf (b ∷ []) ≡ firstLine (b ∷ []) (suc (before LineEnd [])) ∷ rawLinesOf []
-unfolding rawLinesOf onFirst before
+unfolding rawLinesOf onFirst beforeFirst
 line-last b e = rw e
 
 lines-first : (bs : List ℕ) → 0 < length bs → rawLinesOf bs ≡ firstLine bs (before LineEnd bs) ∷ rawLinesOf (drop (suc (before LineEnd bs)) bs)
@@ -45,9 +45,9 @@ lines-first [] h = absurd (omega arith)
 lines-first (b ∷ bs) h = go bs (isA LineEnd b) refl (λ p. lines-first bs p)
   where
     go : (xs : List ℕ) (t : Bool) → isA LineEnd b ≡ t → (0 < length xs → rawLinesOf xs ≡ firstLine xs (before LineEnd xs) ∷ rawLinesOf (drop (suc (before LineEnd xs)) xs)) → rawLinesOf (b ∷ xs) ≡ firstLine (b ∷ xs) (before LineEnd (b ∷ xs)) ∷ rawLinesOf (drop (suc (before LineEnd (b ∷ xs))) (b ∷ xs))
-    go xs true e r = rw (before-zero LineEnd b xs e) (line-ends b xs e)
-    go [] false e r = rw (before-suc LineEnd b [] e) (line-last b e)
-    go (x ∷ xs) false e r = rw (before-suc LineEnd b (x ∷ xs) e) (line-grows b (x ∷ xs) (before LineEnd (x ∷ xs)) _ (r (omega arith)) e)
+    go xs true e r = rw (before-zero (isA LineEnd) b xs e) (line-ends b xs e)
+    go [] false e r = rw (before-suc (isA LineEnd) b [] e) (line-last b e)
+    go (x ∷ xs) false e r = rw (before-suc (isA LineEnd) b (x ∷ xs) e) (line-grows b (x ∷ xs) (before LineEnd (x ∷ xs)) _ (r (omega arith)) e)
 
 pub line-here : (s : List ℕ) (at e : ℕ) → at < length s → e ≡ at + before LineEnd (drop at s) → rawLinesOf (drop at s) ≡ record { bytes = take (e - at) (drop at s); ended = ltb e (length s) } ∷ rawLinesOf (drop (e + 1) s)
 line-here s at e h q =
