@@ -70,8 +70,9 @@ pub record StatedSizes (b : Buffers) : Type 0 where
   pub rows : 4128 ≤ length (b .rows)
 
 -- The calls on the net text of N and the record text of R, and on any text of an arrangement, whichever endings its
--- lines have; `new` is what they left. "Every arrangement that keeps the order is, read as transitions, an enabled step sequence of the net; replay
--- writes that sequence's markings for its lines, and all such arrangements end in the same marking."
+-- lines have; `new` is what they left. "Every arrangement that keeps the order is, read as transitions, an enabled step
+-- sequence of the net; replay writes that sequence's markings for its lines, and all such arrangements end in the same
+-- marking."
 pub record OrderOfCalls (arrangement : List ℕ) (N : Net) (R : RunRecord) (r : Calls) (new : Buffers) : Type 0 where
   pub net : NetCounted N (r .net)
   pub checks : Checked R (r .check) (new .table)

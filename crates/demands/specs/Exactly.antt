@@ -37,7 +37,8 @@ ReadsExactly net r =
 -- "With an accepted net and buffers of the stated sizes, a well-formed log of known transitions becomes a record
 -- exactly when each step is enabled in its turn and the limits hold, and the record is the one document 01 names."
 pub record BuildsExactly (net log old : List ℕ) (r : Numbers) (new : List ℕ) : Type 0 where
-  pub builds : (N : Net) (steps : List (List ℕ)) → readNet net ≡ gives N → plainEnds log ≡ logBytes steps → 48256 ≤ length old
+  pub builds : (N : Net) (steps : List (List ℕ)) → readNet net ≡ gives N → plainEnds log ≡ logBytes steps
+      → 48256 ≤ length old
       → Exactly (EnabledSequence N steps × WithinLimits N steps) byteValues (λ b. b) (recordBytes (recordFor N steps))
       old r new
   pub nothing-else : r .number ≡ 0 → (48256 ≤ length old) × IsAccepted net × IsTextOf logBytes (plainEnds log)
@@ -56,8 +57,9 @@ pub record ArrangesExactly (net text old : List ℕ) (r : Numbers) (new : List �
 
 -- and by replay, which besides accepts an arrangement exactly when it keeps the order
 pub record ReplaysExactly (net text arrangement old : List ℕ) (r : Numbers) (new : List ℕ) : Type 0 where
-  pub replays : (N : Net) (R : RunRecord) (lines : List (List ℕ)) → readNet net ≡ gives N → plainEnds text ≡ recordBytes R
-      → plainEnds arrangement ≡ arrangementBytes lines → 4128 ≤ length old
+  pub replays : (N : Net) (R : RunRecord) (lines : List (List ℕ)) → readNet net ≡ gives N
+      → plainEnds text ≡ recordBytes R → plainEnds arrangement ≡ arrangementBytes lines → 4128 ≤ length old
       → Exactly (IsProcess N R × KeepsOrder R lines) replayValues (λ x. x .counts) (replayedOf N R lines) old r new
   pub nothing-else : r .number ≡ 0
-      → (4128 ≤ length old) × IsAccepted net × IsTextOf recordBytes (plainEnds text) × IsTextOf arrangementBytes (plainEnds arrangement)
+      → (4128 ≤ length old) × IsAccepted net × IsTextOf recordBytes (plainEnds text)
+      × IsTextOf arrangementBytes (plainEnds arrangement)

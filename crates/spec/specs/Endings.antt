@@ -37,7 +37,8 @@ pub record SameButEndings (s t : List ℕ) : Type 0 where
 
 -- ---- "A text with no byte 13 outside its endings must give the same answer with either ending from each reader"
 
--- the refused line by its choice and its bytes: where it starts in its text is the one thing that the endings above it move
+-- the refused line by its choice and its bytes: where it starts in its text is the one thing that the endings above it
+-- move
 abbrev pub shownOf : Answer Part → Answer (ℕ × List ℕ)
 shownOf (gives p) = gives (p .text, p .bytes)
 shownOf (refuses n s) = refuses n s
@@ -64,10 +65,11 @@ pub record EitherEnding : Type 0 where
   -- "The refused line is shown without its ending": the same bytes of the same choice.
   pub shows : (n m s t : List ℕ) (choice k : ℕ) → SameButEndings n m → SameButEndings s t
       → shownOf (refusedLine n s choice k) ≡ shownOf (refusedLine m t choice k)
-  -- "A byte 13 elsewhere is malformed.": a line that has one is refused as such by each reader, whatever stood above it, and
-  -- is not the line `=`.
+  -- "A byte 13 elsewhere is malformed.": a line that has one is refused as such by each reader, whatever stood above it,
+  -- and is not the line `=`.
   pub in-nets : (l : Line) → In 13 (l .bytes) → (k : ℕ) (N : Net) → addLine k l N ≡ refuses 11 k
-  pub in-logs : (l : Line) → In 13 (l .bytes) → (lim : Limits) (N : Net) (k : ℕ) (r : Run) → logLine lim N k l r ≡ refuses 21 k
+  pub in-logs : (l : Line) → In 13 (l .bytes) → (lim : Limits) (N : Net) (k : ℕ) (r : Run)
+      → logLine lim N k l r ≡ refuses 21 k
   pub in-records : (l : Line) → In 13 (l .bytes) → (lim : Limits) (N : Net) (k : ℕ) (R : RunRecord)
       → enterLine lim N k l R ≡ refuses 31 k
   pub in-arrangements : (l : Line) → In 13 (l .bytes) → (R : RunRecord) (k : ℕ) (gs : List (List ℕ))

@@ -53,7 +53,8 @@ pub record IsProcess (N : Net) (R : RunRecord) : Type 0 where
   pub wellFormed : WellFormed N R
   pub process : Process N R
 
--- 2026-02: each line of the text may end in byte 10 or in 13 and 10; it has no byte 13 elsewhere, as what is written has none
+-- 2026-02: each line of the text may end in byte 10 or in 13 and 10; it has no byte 13 elsewhere, as what is written has
+-- none
 pub record Exactness : Type 0 where
   pub reads : (text : List ℕ) (N : Net) → (readNet text ≡ gives N) ↔ IsNet (plainEnds text) N
   pub builds : (net : List ℕ) (N : Net) → readNet net ≡ gives N
@@ -65,7 +66,8 @@ pub record Exactness : Type 0 where
   pub replays : (net : List ℕ) (N : Net) → readNet net ≡ gives N
       → (text : List ℕ) (R : RunRecord) → readRecord bench N text ≡ gives R
       → (arrangement : List ℕ) (lines : List (List ℕ))
-      → (readArrangement R arrangement ≡ gives lines) ↔ ((plainEnds arrangement ≡ arrangementBytes lines) × KeepsOrder R lines)
+      → (readArrangement R arrangement ≡ gives lines)
+      ↔ ((plainEnds arrangement ≡ arrangementBytes lines) × KeepsOrder R lines)
 
 -- ---- of each operation, and of a given list of declarations, sequence, record or arrangement. "With an accepted net
 -- and buffers of the stated sizes" its text is accepted exactly when it is what it should be, and what is then given
@@ -108,7 +110,8 @@ pub record NothingElse : Type 0 where
   pub arranges : (net text : List ℕ) (room : ℕ) (a : Arranged) → arrange net text room ≡ gives a
       → (768 ≤ room) × IsAccepted net × IsTextOf recordBytes (plainEnds text)
   pub replays : (net text arrangement : List ℕ) (room : ℕ) (x : Replayed) → replay net text arrangement room ≡ gives x
-      → (4128 ≤ room) × IsAccepted net × IsTextOf recordBytes (plainEnds text) × IsTextOf arrangementBytes (plainEnds arrangement)
+      → (4128 ≤ room) × IsAccepted net × IsTextOf recordBytes (plainEnds text)
+      × IsTextOf arrangementBytes (plainEnds arrangement)
 
 -- ---- two with the same text are the same, where their numbers have at most four digits
 
