@@ -1,14 +1,13 @@
 -- Laws on the classes of bytes: a byte is a digit by its range, else what the first entry of the list that has it
 -- says, else foreign.
 use Prim.Native.Nat.{ℕ, _-_, _≤_, _<_}
-use mathlib.Core.Path.{_≡_, refl, sym, ap, _∙_}
-use mathlib.Core.Bool.{Bool, true, false, not, _&&_, _||_, cond}
+use mathlib.Core.Path.{_≡_, refl, sym, ap}
+use mathlib.Core.Bool.{Bool, true, false, _&&_, cond}
 use mathlib.Core.List.{List, [], _∷_}
-use native.Mathlib.Decide.{ℕ-discrete}
 use native.Mathlib.Omega.{arith}
 use denote.Enum.Declared.{tagOf}
 use lib.Dec.{leb, eqb}
-use borrow.Author.Tests.{le-leb, leb-true, eq-eqb, eqb-true, ne-eqb}
+use borrow.Author.Tests.{le-leb, leb-true, ne-eqb}
 use Rattle.spec.specs.Lists.{every}
 use Rattle.spec.specs.declared.Class.{Class}
 use Rattle.spec.specs.declared.Class.the-variants.{Digit, Comma, Dash, LineEnd, LetterP, LetterT, LetterI, LetterO, LetterH, LetterS, LetterE, LetterC, LetterB, LetterA, LetterG, LetterR, Return, Foreign}
@@ -16,7 +15,7 @@ use Rattle.spec.specs.declared.ByteClass.{ByteClass}
 use Rattle.spec.specs.Text.{named, classNames, inDigits, classOf, digitOf, classAndDigit, isA}
 use Rattle.spec.specs.Classes.{classCode, alike}
 use Rattle.spec.proofs.Class
-use Rattle.lists.specs.Laws.{and-true}
+use Rattle.lists.specs.OneByte.{alone, only-byte}
 use Rattle.byte_classes.specs.Scan.{plainByte}
 
 pub not-below : {a b : ℕ} → a < b → b ≤ a → ⊥
@@ -105,50 +104,14 @@ module _ {r : ByteClass} (b : ℕ) (e : r ≡ classAndDigit b) where
 
 -- ---- the comma, the line end and the return are one byte each
 
--- a name that is not the class's, but for byte c
-abbrev onlyFor : Class → ℕ → ℕ × Class → Bool
-onlyFor k c n = eqb (n .0) c || not (alike (n .1) k)
-
--- a list that names the class for no byte but c names it for no other byte
-named-not : (k : Class) (c b : ℕ) (ns : List (ℕ × Class)) → alike Foreign k ≡ false → every (onlyFor k c) ns ≡ true → (b ≡ c → ⊥) → alike (named b ns) k ≡ false
-unfolding named every
-named-not k c b [] f h d = f
-named-not k c b (n ∷ ns) f h d =
-    let a = and-true (onlyFor k c n) (every (onlyFor k c) ns) h in go (eqb b (n .0)) refl (a .0) (named-not k c b ns f (a .1) d)
-  where
-    here : (s t : Bool) → eqb (n .0) c ≡ s → (s || not t) ≡ true → (n .0 ≡ c → ⊥) → t ≡ false
-    here true t q e u = absurd (u (eqb-true (n .0) c q))
-    here false true q e u = sym e
-    here false false q e u = refl
-
-    go : (t : Bool) → eqb b (n .0) ≡ t → onlyFor k c n ≡ true → alike (named b ns) k ≡ false → alike (cond t (n .1) (named b ns)) k ≡ false
-    go true q a r = here (eqb (n .0) c) (alike (n .1) k) refl a (λ e. d (eqb-true b (n .0) q ∙ e))
-    go false q a r = r
-
--- so a byte other than c is not of that class
-other-byte : (k : Class) (c : ℕ) → alike Digit k ≡ false → alike Foreign k ≡ false → every (onlyFor k c) classNames ≡ true → (b : ℕ) → (b ≡ c → ⊥) → isA k b ≡ false
-unfolding isA classOf
-other-byte k c g f h b d = go (inDigits b)
-  where
-    go : (t : Bool) → alike (cond t Digit (named b classNames)) k ≡ false
-    go true = g
-    go false = named-not k c b classNames f h d
-
--- a class that byte c has, and no other byte
-only-byte : (k : Class) (c : ℕ) → isA k c ≡ true → ((b : ℕ) → (b ≡ c → ⊥) → isA k b ≡ false) → (b : ℕ) → isA k b ≡ eqb b c
-only-byte k c i o b = elim (ℕ-discrete b c) [
-  | yes e ↦ ap (isA k) e ∙ i ∙ sym (eq-eqb b c e)
-  | no d ↦ o b d ∙ sym (ne-eqb b c d)
-]
-
 pub comma-byte : (b : ℕ) → isA Comma b ≡ eqb b 44
-unfolding isA alike classOf named inDigits every
-comma-byte b = only-byte Comma 44 refl (other-byte Comma 44 refl refl refl) b
+unfolding alone every alike classOf named inDigits
+comma-byte = only-byte 44 refl
 
 pub line-end : (b : ℕ) → isA LineEnd b ≡ eqb b 10
-unfolding isA alike classOf named inDigits every
-line-end b = only-byte LineEnd 10 refl (other-byte LineEnd 10 refl refl refl) b
+unfolding alone every alike classOf named inDigits
+line-end = only-byte 10 refl
 
 pub return-byte : (b : ℕ) → isA Return b ≡ eqb b 13
-unfolding isA alike classOf named inDigits every
-return-byte b = only-byte Return 13 refl (other-byte Return 13 refl refl refl) b
+unfolding alone every alike classOf named inDigits
+return-byte = only-byte 13 refl

@@ -1,4 +1,5 @@
 pub mod Laws
+pub mod OneByte
 pub mod LineEnds
 pub mod Search
 pub mod Arrays

@@ -71,7 +71,7 @@ return-goes-on : isA LineEnd 13 ≡ false
 unfolding isA alike classOf named inDigits
 return-goes-on = refl
 
-return-is : isA Return 13 ≡ true
+pub return-is : isA Return 13 ≡ true
 unfolding isA alike classOf named inDigits
 return-is = refl
 

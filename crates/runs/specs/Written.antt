@@ -5,9 +5,9 @@ use mathlib.Core.Logic.{inl, inr}
 use Prim.Native.Nat.{ℕ}
 use Prim.Native.Char.{Char, code}
 use native.Mathlib.Omega.{arith}
-use mathlib.Core.Bool.{true, false}
+use mathlib.Core.Bool.{false}
 use mathlib.Core.List.{List, [], _∷_, _++_, map, List·Memᴰ·append-cases, List·Memᴰ·not-nil, List·Memᴰ·eq-of-singleton}
-use Rattle.spec.specs.Lists.{In, flat}
+use Rattle.spec.specs.Lists.{flat}
 use Rattle.spec.specs.Answer.{Answer, gives, refuses}
 use Rattle.spec.specs.Classes.{alike}
 use Rattle.spec.specs.Text.{named, inDigits, classOf, isA, linesOf, lineWith}
@@ -23,15 +23,12 @@ use Rattle.spec.specs.declared.Field.{Field}
 use Rattle.spec.specs.declared.MarkKind.{MarkKind}
 use Rattle.spec.specs.declared.MarkKind.the-variants.{Before, After, Read as ReadMark}
 use Rattle.lists.specs.Laws.{clash}
+use Rattle.lists.specs.LineEnds.{return-is}
 use Rattle.runs.specs.Fields.{Lacks, body}
 use Rattle.runs.specs.Texts.{returns-none}
 use Rattle.runs.specs.Endings.{plain-itself, written-as}
 
 -- ---- bytes of no class Return
-
-return-is : isA Return 13 ≡ true
-unfolding isA alike classOf named inDigits
-return-is = refl
 
 pub lacks-none : (bs : List ℕ) → Lacks Return bs → NoReturn bs
 lacks-none bs h b m e = clash return-is (sym (ap (isA Return) e) ∙ h b m)
