@@ -12,7 +12,7 @@ use lib.Seq.{getD-take}
 use borrow.Author.Tests.{le-leb, lt-leb, lt-ltb}
 use Rattle.spec.specs.Lists.{In, any, flat, isIn}
 use Rattle.spec.specs.Answer.{Answer, gives, refuses, _>>_, refuse_at_when_}
-use Rattle.spec.specs.Text.{Line, linesOf, byLines, isA, classOf, named, inDigits, mostDigits}
+use Rattle.spec.specs.Text.{Line, linesOf, byLines, classOf, named, inDigits, mostDigits}
 use Rattle.line_forms.specs.Rows.{isList, valuesOf}
 use Rattle.line_forms.proofs.Ties.{list-line, list-some, numbers-are}
 use Rattle.spec.specs.Classes.{alike}
@@ -20,11 +20,12 @@ use Rattle.spec.specs.Record.{RunRecord}
 use Rattle.spec.specs.Replaying.{isGroupLine, repeats, breaks, groupsLine}
 use Rattle.spec.specs.declared.Class.the-variants.{LetterG}
 use Rattle.lists.specs.Laws.{at-in, all-below, flat-snoc}
+use Rattle.byte_entries.specs.Entries.{classBy}
 use Rattle.lines.specs.Agree.{giving, refusing}
 use Rattle.lines.specs.Lines.{lineOf, LineAt}
 use Rattle.lines.specs.declared.Span.{Span}
 use Rattle.lines.proofs.ByLines.{line-taken, line-refused, lines-done}
-use Rattle.plain_lines.specs.Plain.{Opens}
+use Rattle.plain_lines.specs.Plain.{LetterEntry}
 use Rattle.number_lines.specs.Numbers.{Begins, Listing, ListAt}
 use Rattle.number_lines.specs.declared.Listed.{Listed}
 use Rattle.number_lines.proofs.Lines.{few-known}
@@ -44,16 +45,17 @@ pub group-line : (l : List ℕ) (ended : Bool) → (ended && isList mostDigits L
 unfolding isGroupLine alike classOf named inDigits
 group-line l ended = sym (list-line "G" refl (lineOf l ended))
 
-pub opens-group : Opens 71
-unfolding isA alike classOf named inDigits
-opens-group = record { comma = refl; end = refl; return = refl }
+-- its letter, by its entry
+pub letter-group : LetterEntry 23
+unfolding alike classBy
+letter-group = record { comma = refl; end = refl; return = refl }
 
-g-class : classOf 71 ≡ LetterG
-unfolding classOf named inDigits
+g-class : classBy 23 ≡ LetterG
+unfolding classBy
 g-class = refl
 
-module _ {text : List ℕ} {i : ℕ} {f : Listed} {xs : List ℕ} (r : ListAt (classOf 71) text i f xs) (h : i < f .next) where
-  listing : Listing (classOf 71) text i f xs
+module _ {text : List ℕ} {i : ℕ} {f : Listed} {xs : List ℕ} (r : ListAt (classBy 23) text i f xs) (h : i < f .next) where
+  listing : Listing (classBy 23) text i f xs
   listing = r .line h
 
   formed : isGroupLine (lineOf (listing .bytes) true) ≡ true

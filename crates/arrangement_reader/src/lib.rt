@@ -4,7 +4,8 @@ ghost use mathlib.Core.Path.{_≡_};
 ghost use mathlib.Core.Bool.{cond};
 ghost use Prim.Native.Nat.{_-_, _<_, _≤_};
 ghost use lib.ListN.{length, take, drop, replicate};
-ghost use Rattle.lines.specs.Lines.{lineOf};
+ghost use Rattle.byte_classes.specs.Table.{byteTable};
+ghost use Rattle.lines.specs.Lines.{lineOf, EndedTo};
 ghost use Rattle.reach.specs.Rows.{Good};
 ghost use Rattle.arrangement_reader.specs.Lined.{eventCount, linedSize, Enterable, EntersFrom, Addable};
 ghost use Rattle.arrangement_reader.specs.Lined.{AddsLine, AnyTaken, Meets, Unites, pathOf, Lacks, WithLacking};
@@ -17,6 +18,10 @@ use bit_sets::meet;
 use bit_sets::none;
 use bit_sets::one;
 use bit_sets::union;
+use byte_classes::byte_table;
+use byte_entries::LETTER_G;
+use lines::Cursor;
+use lines::ended_to;
 use lines::line_at;
 use machine_numbers::wide;
 use number_lines::NUMBERS;
@@ -111,6 +116,7 @@ pub fn lines_in(a: ArrangementAnswer) -> usize
 
 // 41 and 42 of a line, with its numbers, if there is room for them in an array.
 fn known_line(
+    table: &[u8; 256],
     k: usize,
     l: &[u8],
     ended: bool,
@@ -118,40 +124,51 @@ fn known_line(
     next: usize,
     events: &mut [u8; NUMBERS],
 ) -> Known
-    requires { ⌜ (n ≤ eventCount) × (length (now events) ≡ eventCount) ⌝ }
+    requires { ⌜ (now table ≡ byteTable) × (n ≤ eventCount) × (length (now events) ≡ eventCount) ⌝ }
     ensures { λ r. ⌜ KnownLine n k (lineOf (now (l .entry)) ended) next r (now (events .exit)) ⌝ }
 {
-    if !is_list_line(Class::LetterG, l, ended) {
+    if !is_list_line(table, Class::LetterG, l, ended) {
         return line_known(ArrangementAnswer::Malformed(k), 0, next);
     }
-    if any_unknown(l, n) {
+    if any_unknown(table, l, n) {
         return line_known(ArrangementAnswer::Unknown(k), 0, next);
     }
-    let count = count_numbers(l);
+    let count = count_numbers(table, l);
     if NUMBERS < count {
         return line_known(ArrangementAnswer::Keeps(k), count, next);
     }
-    let xs = numbers(l);
+    let xs = numbers(table, l);
     *events = xs;
     line_known(ArrangementAnswer::Keeps(k), count, next)
 }
 
-// 41 and 42 of the line that starts at a position. A plain line is read in one walk; any other goes to the readers of
-// lines and fields, and so does every malformed one.
-fn known_at(k: usize, text: &[u8], at: usize, n: usize, events: &mut [u8; NUMBERS]) -> Known
-    requires { ⌜ (at < length (now text)) × (n ≤ eventCount) × (length (now events) ≡ eventCount) ⌝ }
-    ensures { λ r. ⌜ KnownAt n k (now (text .entry)) at r (now (events .exit)) ⌝ }
+// 41 and 42 of the line at a cursor. A plain line, where a line end is ahead, is read in one walk; any other goes to
+// the readers of lines and fields, and so does every malformed one.
+fn known_at(
+    table: &[u8; 256],
+    text: &[u8],
+    c: Cursor,
+    n: usize,
+    events: &mut [u8; NUMBERS],
+) -> Known
+    requires { ⌜ (now table ≡ byteTable) × (c .at < length (now text)) × EndedTo (now text) (c .ended)
+        × (n ≤ eventCount) × (length (now events) ≡ eventCount) ⌝ }
+    ensures { λ r. ⌜ KnownAt n (c .line) (now (text .entry)) (c .at) r (now (events .exit)) ⌝ }
 {
-    let f = list_at(b'G', text, at, events);
-    if at < f.next {
-        if n <= f.high {
-            return line_known(ArrangementAnswer::Unknown(k), 0, f.next);
+    let k = c.line;
+    let at = c.at;
+    if at < c.ended {
+        let f = list_at(table, LETTER_G, text, at, events);
+        if at < f.next {
+            if n <= f.high {
+                return line_known(ArrangementAnswer::Unknown(k), 0, f.next);
+            }
+            return line_known(ArrangementAnswer::Keeps(k), f.count, f.next);
         }
-        return line_known(ArrangementAnswer::Keeps(k), f.count, f.next);
     }
-    let line = line_at(text, at);
+    let line = line_at(table, text, at);
     let end = line.end;
-    known_line(k, &text[at..end], line.ended, n, line.next, events)
+    known_line(table, k, &text[at..end], line.ended, n, line.next, events)
 }
 
 // 43: each event of line k is entered; whether one of them has a line already, as it is with more than there are.
@@ -205,11 +222,14 @@ pub fn read_lines(
     requires { ⌜ (n ≤ eventCount) × (now stands ≡ replicate eventCount 0) × (now lined ≡ replicate linedSize 0) ⌝ }
     ensures { λ r. ⌜ ReadsLines n (now (text .entry)) r (now (stands .exit)) (now (lined .exit)) ⌝ }
 {
+    let table = byte_table();
+    let ended = ended_to(&table, text);
     let mut events = [0u8; NUMBERS];
     let mut k: usize = 1;
     let mut at: usize = 0;
     while at < text.len() {
-        let line = known_at(k, text, at, n, &mut events);
+        let here = Cursor { line: k, at, ended };
+        let line = known_at(&table, text, here, n, &mut events);
         let answer = line.answer;
         let count = line.count;
         if !goes(answer) {

@@ -1,2 +1,1 @@
-pub mod Classes
-pub mod Scans
+pub mod Tabulated

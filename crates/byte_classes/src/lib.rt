@@ -1,46 +1,72 @@
-// What each byte of a text is.
+// What each byte of a text is, by a table of 256 entries.
 ghost use mathlib.Core.Path.{_≡_};
 ghost use Prim.Native.Nat.{_+_, _≤_};
 ghost use lib.ListN.{length, drop};
-ghost use Rattle.spec.specs.Text.{classAndDigit, digitOf, isA};
 ghost use Rattle.spec.specs.Classes.{classCode, alike};
-ghost use Rattle.byte_classes.specs.Scan.{plainByte, beforeByte};
-use spec::ByteClass;
+ghost use Rattle.byte_entries.specs.Entries.{entryOf, classBy, isEntry, beforeFirst};
+ghost use Rattle.byte_classes.specs.Table.{byteTable};
+use byte_entries::COMMA;
+use byte_entries::DASH;
+use byte_entries::LETTER_A;
+use byte_entries::LETTER_B;
+use byte_entries::LETTER_C;
+use byte_entries::LETTER_E;
+use byte_entries::LETTER_G;
+use byte_entries::LETTER_H;
+use byte_entries::LETTER_I;
+use byte_entries::LETTER_O;
+use byte_entries::LETTER_P;
+use byte_entries::LETTER_R;
+use byte_entries::LETTER_S;
+use byte_entries::LETTER_T;
+use byte_entries::LINE_END;
+use byte_entries::RETURN;
 use spec::Class;
+pub use table::LINE_END_BYTE;
+use table::TABLE;
 
-// A byte that is no digit.
-fn plain(class: Class) -> ByteClass
-    ensures { λ r. ⌜ r ≡ plainByte class ⌝ }
+mod table;
+
+// The table, made once for a text and lent to all that reads it: a constant is built anew wherever it is named.
+pub fn byte_table() -> [u8; 256]
+    ensures { λ r. ⌜ r ≡ byteTable ⌝ }
 {
-    ByteClass { class, digit: 0 }
+    TABLE
 }
 
-// What a byte is: its class, and its value as a digit.
-pub fn class_of(b: u8) -> ByteClass
-    ensures { λ r. ⌜ r ≡ classAndDigit b ⌝ }
+// What a byte is: the value of a digit, or the number of another class.
+pub fn entry_of(table: &[u8; 256], b: u8) -> u8
+    requires { ⌜ now table ≡ byteTable ⌝ }
+    ensures { λ r. ⌜ r ≡ entryOf b ⌝ }
 {
-    match b {
-        b'0'..=b'9' => ByteClass {
-            class: Class::Digit,
-            digit: b - b'0',
-        },
-        b',' => plain(Class::Comma),
-        b'-' => plain(Class::Dash),
-        10 => plain(Class::LineEnd),
-        b'P' => plain(Class::LetterP),
-        b'T' => plain(Class::LetterT),
-        b'I' => plain(Class::LetterI),
-        b'O' => plain(Class::LetterO),
-        b'H' => plain(Class::LetterH),
-        b'S' => plain(Class::LetterS),
-        b'E' => plain(Class::LetterE),
-        b'C' => plain(Class::LetterC),
-        b'B' => plain(Class::LetterB),
-        b'A' => plain(Class::LetterA),
-        b'G' => plain(Class::LetterG),
-        b'R' => plain(Class::LetterR),
-        13 => plain(Class::Return),
-        _ => plain(Class::Foreign),
+    table[b as usize]
+}
+
+// The class that an entry stands for.
+pub fn class_of(entry: u8) -> Class
+    ensures { λ r. ⌜ r ≡ classBy entry ⌝ }
+{
+    if entry < 10 {
+        return Class::Digit;
+    }
+    match entry {
+        COMMA => Class::Comma,
+        DASH => Class::Dash,
+        LINE_END => Class::LineEnd,
+        LETTER_P => Class::LetterP,
+        LETTER_T => Class::LetterT,
+        LETTER_I => Class::LetterI,
+        LETTER_O => Class::LetterO,
+        LETTER_H => Class::LetterH,
+        LETTER_S => Class::LetterS,
+        LETTER_E => Class::LetterE,
+        LETTER_C => Class::LetterC,
+        LETTER_B => Class::LetterB,
+        LETTER_A => Class::LetterA,
+        LETTER_G => Class::LetterG,
+        LETTER_R => Class::LetterR,
+        RETURN => Class::Return,
+        _ => Class::Foreign,
     }
 }
 
@@ -77,32 +103,14 @@ pub fn alike(k: Class, l: Class) -> bool
     class_code(k) == class_code(l)
 }
 
-// Whether a byte is of a class.
-pub fn is_a(k: Class, b: u8) -> bool
-    ensures { λ r. ⌜ r ≡ isA k b ⌝ }
-{
-    let c = class_of(b);
-    let class = c.class;
-    alike(class, k)
-}
-
-// The value of a digit, and 0 of any other byte.
-pub fn digit_value(b: u8) -> usize
-    ensures { λ r. ⌜ (r ≡ digitOf b) × (r ≤ 9) ⌝ }
-{
-    let c = class_of(b);
-    c.digit as usize
-}
-
-// Where the bytes that start at a position meet the first one b, or end. A byte is compared, as its class would be
-// looked up for every byte that is passed.
-pub fn end_of(b: u8, s: &[u8], at: usize) -> usize
-    requires { ⌜ at ≤ length (now s) ⌝ }
-    ensures { λ r. ⌜ (r ≡ at + beforeByte b (drop at (now (s .entry)))) × (r ≤ length (now (s .entry))) ⌝ }
+// Where the bytes that start at a position meet the first one with this entry, or end.
+pub fn end_of(table: &[u8; 256], entry: u8, s: &[u8], at: usize) -> usize
+    requires { ⌜ (now table ≡ byteTable) × (at ≤ length (now s)) ⌝ }
+    ensures { λ r. ⌜ (r ≡ at + beforeFirst (isEntry entry) (drop at (now (s .entry)))) × (r ≤ length (now (s .entry))) ⌝ }
 {
     let mut i = at;
     while i < s.len() {
-        if s[i] == b {
+        if entry_of(table, s[i]) == entry {
             return i;
         }
         i += 1;

@@ -2,22 +2,25 @@
 -- which a byte 13 of its ending is taken.
 -- Assumes nothing.
 use Prim.Native.Nat.{ℕ, suc, _+_, _-_, _≤_, _<_}
-use mathlib.Core.Path.{_≡_, refl, sym, ap, _∙_}
+use mathlib.Core.Path.{_≡_, refl, sym, ap, subst, _∙_}
 use mathlib.Core.Bool.{Bool, true, false, _&&_, and-false, cond}
 use mathlib.Core.List.{List, [], _∷_, _++_}
 use native.Mathlib.Numerals.{add-one}
 use native.Mathlib.Omega.{arith}
 use lib.ListN.{length, getD, drop, take, length-drop, List·getD-eq-default}
 use lib.Seq.{getD-drop}
-use lib.Dec.{eqb, ltb, leb·suc-suc}
-use borrow.Author.Tests.{lt-ltb, ne-eqb}
+use lib.Dec.{lit<, eqb, ltb, leb·suc-suc}
+use borrow.Author.Tests.{lt-ltb, eq-eqb, ne-eqb, eqb-true}
+use native.Mathlib.Decide.{ℕ-discrete}
 use Rattle.spec.specs.Text.{isA, Line, onFirst, rawLinesOf, butReturn, withoutReturn, linesOf}
 use Rattle.spec.specs.declared.Class.the-variants.{LineEnd, Return}
 use Rattle.lists.specs.Along.{rest-at, take-more}
 use Rattle.lists.specs.LineEnds.{but-last, unended-kept, ended-as}
-use Rattle.byte_classes.specs.Scan.{beforeFirst, before}
-use Rattle.byte_classes.proofs.Scans.{before-zero, before-suc, within, beyond, width}
-use Rattle.lines.specs.Lines.{endFrom, spanTo, lineOf, LineTo, RawLineAt, LineAt, ten, return-ten, pastEnding, PastEnding}
+use Rattle.byte_entries.specs.Entries.{entryOf, beforeFirst, before}
+use Rattle.byte_entries.proofs.Classes.{class-told, line-end, return-byte}
+use Rattle.byte_entries.proofs.Scans.{before-zero, before-suc, within, beyond, width}
+use Rattle.lines.specs.Lines.{endFrom, spanTo, lineOf, LineTo, RawLineAt, LineAt, ten, return-ten, pastEnding, PastEnding, pastBy, Ahead, EndedTo}
+use Rattle.lists.specs.Laws.{clash}
 use Rattle.lines.specs.declared.Span.{Span}
 
 -- the bytes between two positions
@@ -140,6 +143,46 @@ module _ {s : List ℕ} {at : ℕ} where
       let g : drop (at + 1) s ≡ 10 ∷ drop (at + 2) s = rest-at s (at + 1) l ∙ rw (f, n) in
       record { is = rw (e, f); start = omega arith; within = λ m. omega arith; ending = λ m. return-ten (rest-at s at (omega arith) ∙ rw (e, g)) }
 
+-- the entries of a line end and of a return say what the byte is
+pub ten-told : (b : ℕ) → eqb (entryOf b) 12 ≡ eqb b 10
+ten-told b = class-told b LineEnd (lit< tt) ∙ line-end b
+
+return-told : (b : ℕ) → eqb (entryOf b) 25 ≡ eqb b 13
+return-told b = class-told b Return (lit< tt) ∙ return-byte b
+
+pub end-entry : (b : ℕ) → entryOf b ≡ 12 → isA LineEnd b ≡ true
+end-entry b e = sym (class-told b LineEnd (lit< tt)) ∙ eq-eqb (entryOf b) 12 e
+
+pub no-end-entry : (b : ℕ) → (entryOf b ≡ 12 → ⊥) → isA LineEnd b ≡ false
+no-end-entry b d = sym (class-told b LineEnd (lit< tt)) ∙ ne-eqb (entryOf b) 12 d
+
+pub return-entry : (b : ℕ) → entryOf b ≡ 25 → isA Return b ≡ true
+return-entry b e = sym (class-told b Return (lit< tt)) ∙ eq-eqb (entryOf b) 25 e
+
+pub no-return-entry : (b : ℕ) → (entryOf b ≡ 25 → ⊥) → isA Return b ≡ false
+no-return-entry b d = sym (class-told b Return (lit< tt)) ∙ ne-eqb (entryOf b) 25 d
+
+-- an ending by the entry of the byte at its position
+module _ (s : List ℕ) (at : ℕ) {e : ℕ} (q : e ≡ entryOf (getD s at 0)) (l : at < length s) (m : e ≡ 25 → at + 1 < length s) where
+  by-entry : pastBy e s at ≡ pastEnding s at
+  unfolding pastBy pastEnding
+  by-entry = rw (q, ten-told (getD s at 0), return-told (getD s at 0), ten-told (getD s (at + 1) 0))
+
+  pub past-told : PastEnding s at (pastBy e s at)
+  past-told = rw by-entry (elim (ℕ-discrete (getD s at 0) 10) [
+    | yes a ↦ found (ten-passed l a)
+    | no a ↦ elim (ℕ-discrete (getD s at 0) 13) [
+      | no b ↦ found (other-byte a b)
+      | yes b ↦ elim (ℕ-discrete (getD s (at + 1) 0) 10) [
+        | no c ↦ found (return-alone a c)
+        | yes c ↦ found (return-passed (m (q ∙ eqb-true _ 25 (return-told (getD s at 0) ∙ eq-eqb _ 13 b))) b c)
+      ]
+    ]
+  ])
+    where
+      found : {n : ℕ} → PastEnding s at n → PastEnding s at (pastEnding s at)
+      found {n} p = subst (PastEnding s at) (p .is) p
+
 -- an ending was passed where the position did not stay
 pub went-on : {s : List ℕ} {at next : ℕ} → PastEnding s at next → (next ≡ at → ⊥) → at < next
 went-on p d = omega (arith, p .start, d)
@@ -147,3 +190,26 @@ went-on p d = omega (arith, p .start, d)
 -- the line that was found, and the next one
 abbrev pub line-to : {s : List ℕ} {at : ℕ} {r : Span} → LineAt s at r → LineTo s at (r .next)
 line-to {s} {at} {r} h = record { line = lineOf (take (r .end - at) (drop at s)) (r .ended); lines = h .lines; on = omega (arith, h .start, h .on); within = h .next }
+
+-- ---- a line end ahead
+
+module _ {s : List ℕ} {i : ℕ} (a : Ahead s i) where
+  pub here : i < length s
+  here = omega (arith, a .from, a .within)
+
+  -- a byte that ends no line is passed
+  pub on : isA LineEnd (getD s i 0) ≡ false → Ahead s (i + 1)
+  on e = record { place = a .place; from = further; within = a .within; ends = a .ends }
+    where
+      further : i + 1 ≤ a .place
+      further = elim (ℕ-discrete (a .place) i) [
+        | yes q ↦ clash (subst (λ (j : ℕ). isA LineEnd (getD s j 0) ≡ true) q (a .ends)) e
+        | no d ↦ omega (arith, a .from, d)
+      ]
+
+  pub on-by : {e : ℕ} → e ≡ entryOf (getD s i 0) → (e ≡ 12 → ⊥) → Ahead s (i + 1)
+  on-by q d = on (no-end-entry (getD s i 0) (λ z. d (q ∙ z)))
+
+-- up to where a text is made of ended lines
+pub ahead-of : {s : List ℕ} {r : ℕ} → EndedTo s r → (i : ℕ) → i < r → Ahead s i
+ahead-of {s} {r} h i l = record { place = r - 1; from = omega arith; within = omega (arith, h .within); ends = h .ends (omega arith) }

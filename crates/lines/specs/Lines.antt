@@ -1,14 +1,16 @@
 -- The line at a position of a text, and what the functions that find it and its ending promise.
 use Prim.Native.Nat.{ℕ, _+_, _-_, _≤_, _<_}
 use mathlib.Core.Path.{_≡_}
-use mathlib.Core.Bool.{Bool, _&&_, cond}
+use mathlib.Core.Bool.{Bool, true, false, _&&_, cond}
 use mathlib.Core.List.{List, _∷_}
 use lib.ListN.{length, getD, drop, take}
 use lib.Dec.{eqb, ltb}
-use Rattle.spec.specs.Text.{Line, rawLinesOf, withoutReturn, linesOf}
+use Rattle.spec.specs.Text.{isA, Line, rawLinesOf, withoutReturn, linesOf}
 use Rattle.spec.specs.declared.Class.the-variants.{LineEnd}
-use Rattle.byte_classes.specs.Scan.{before}
+use Rattle.byte_entries.specs.Entries.{entryOf, before}
 use Rattle.lines.specs.declared.Span.{Span}
+use Rattle.lines.specs.declared.Cursor.{Cursor}
+use Rattle.lines.specs.declared.Opening.{Opening}
 
 -- where the byte 10 stands that ends the line which starts at a position
 abbrev pub endFrom : List ℕ → ℕ → ℕ
@@ -66,3 +68,32 @@ pub record PastEnding (s : List ℕ) (at next : ℕ) : Type 0 where
   pub start : at ≤ next
   pub within : at < next → next ≤ length s
   pub ending : at < next → Ending s at next
+
+-- the same by the entry of the byte at the position, 12 of a line end and 25 of a return, or by another in its place
+unfoldable pub pastBy : ℕ → List ℕ → ℕ → ℕ
+pastBy e s at = cond (eqb e 12) (at + 1) (cond (eqb e 25 && eqb (entryOf (getD s (at + 1) 0)) 12) (at + 2) at)
+
+-- ---- where a line begins
+
+-- a line end stands at a position or behind it
+pub record Ahead (s : List ℕ) (at : ℕ) : Type 0 where
+  pub place : ℕ
+  pub from : at ≤ place
+  pub within : place < length s
+  pub ends : isA LineEnd (getD s place 0) ≡ true
+
+-- behind the last line end
+pub record EndedTo (s : List ℕ) (r : ℕ) : Type 0 where
+  pub within : r ≤ length s
+  pub ends : 0 < r → isA LineEnd (getD s (r - 1) 0) ≡ true
+  pub last : (i : ℕ) → r ≤ i → i < length s → isA LineEnd (getD s i 0) ≡ false
+
+-- the entries of the first two bytes of a line, if it is ended and has so many
+abbrev pub openingOf : List ℕ → Cursor → Opening
+openingOf s c =
+    cond (ltb (c .at + 1) (c .ended)) (record { letter = entryOf (getD s (c .at) 0); behind = entryOf (getD s (c .at + 1) 0) })
+    (record { letter = 26; behind = 26 })
+
+-- a letter and a comma
+abbrev pub opensWith : ℕ → Opening → Bool
+opensWith k o = eqb (o .letter) k && eqb (o .behind) 10

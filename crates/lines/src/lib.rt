@@ -2,8 +2,15 @@
 ghost use mathlib.Core.Path.{_≡_};
 ghost use Prim.Native.Nat.{_+_, _<_, _≤_, max};
 ghost use lib.ListN.{length};
-ghost use Rattle.lines.specs.Lines.{endFrom, spanTo, RawLineAt, LineAt, PastEnding};
+ghost use Rattle.byte_classes.specs.Table.{byteTable};
+ghost use Rattle.lines.specs.Lines.{endFrom, spanTo, RawLineAt, LineAt, pastBy, EndedTo, openingOf, opensWith};
+use byte_classes::byte_table;
 use byte_classes::end_of;
+use byte_classes::entry_of;
+use byte_entries::COMMA;
+use byte_entries::FOREIGN;
+use byte_entries::LINE_END;
+use byte_entries::RETURN;
 
 // A line of a text: it ends before `end`, and the next one starts at `next`.
 pub struct Span {
@@ -22,12 +29,14 @@ pub struct Reader<'a> {
     pub at: usize,
 }
 
-// Where the line ends that starts at a place.
+// Where the line ends that starts at a place. The table is made here, since none comes with a reader: lines in their form
+// do not come this way.
 fn find_end(s: &[u8], at: usize) -> usize
     requires { ⌜ at ≤ length (now s) ⌝ }
     ensures { λ r. ⌜ (r ≡ endFrom (now (s .entry)) at) × (r ≤ length (now (s .entry))) ⌝ }
 {
-    end_of(10, s, at)
+    let table = byte_table();
+    end_of(&table, LINE_END, s, at)
 }
 
 // The later of two places.
@@ -86,8 +95,8 @@ pub fn raw_line_at(s: &[u8], at: usize) -> Span
 // ---- line endings: byte 10, or 13 and 10
 
 // The line that starts at a position. A byte 13 in front of its byte 10 belongs to the ending.
-pub fn line_at(s: &[u8], at: usize) -> Span
-    requires { ⌜ at < length (now s) ⌝ }
+pub fn line_at(table: &[u8; 256], s: &[u8], at: usize) -> Span
+    requires { ⌜ (now table ≡ byteTable) × (at < length (now s)) ⌝ }
     ensures { λ r. ⌜ LineAt (now (s .entry)) at r ⌝ }
 {
     let raw = raw_line_at(s, at);
@@ -95,7 +104,7 @@ pub fn line_at(s: &[u8], at: usize) -> Span
     if !raw.ended | (end <= at) {
         return raw;
     }
-    if s[end - 1] != 13 {
+    if entry_of(table, s[end - 1]) != RETURN {
         return raw;
     }
     Span {
@@ -105,42 +114,76 @@ pub fn line_at(s: &[u8], at: usize) -> Span
     }
 }
 
-// Where the next line starts if an ending stands at a position; else the position.
-pub fn past_ending(s: &[u8], at: usize) -> usize
-    ensures { λ r. ⌜ PastEnding (now (s .entry)) at r ⌝ }
+// Where the next line starts if an ending stands at a position, of which the entry is known; else the position.
+pub fn past_ending(table: &[u8; 256], s: &[u8], entry: u8, at: usize) -> usize
+    requires { ⌜ (now table ≡ byteTable) × (entry ≡ 25 → at + 1 < length (now s)) × (at ≤ length (now s)) ⌝ }
+    ensures { λ r. ⌜ r ≡ pastBy entry (now (s .entry)) at ⌝ }
 {
-    if s.len() <= at {
-        return at;
-    }
-    if s[at] == 10 {
+    if entry == LINE_END {
         return at + 1;
     }
-    if s[at] != 13 {
+    if entry != RETURN {
         return at;
     }
-    let next = at + 1;
-    if s.len() <= next {
-        return at;
-    }
-    if s[next] != 10 {
+    if entry_of(table, s[at + 1]) != LINE_END {
         return at;
     }
     at + 2
 }
 
-// The same where two bytes stand at the position: no length is tested.
-pub fn past_ending_inside(s: &[u8], at: usize) -> usize
-    requires { ⌜ at + 2 ≤ length (now s) ⌝ }
-    ensures { λ r. ⌜ PastEnding (now (s .entry)) at r ⌝ }
+// ---- where a line begins
+
+// How far a text is made of ended lines: behind its last line end. Up to there a reader meets a line end before the text
+// ends, so that it tests no length.
+pub fn ended_to(table: &[u8; 256], s: &[u8]) -> usize
+    requires { ⌜ now table ≡ byteTable ⌝ }
+    ensures { λ r. ⌜ EndedTo (now (s .entry)) r ⌝ }
 {
-    if s[at] == 10 {
-        return at + 1;
+    let mut r = s.len();
+    while 0 < r {
+        if entry_of(table, s[r - 1]) == LINE_END {
+            return r;
+        }
+        r -= 1;
     }
-    if s[at] != 13 {
-        return at;
+    r
+}
+
+// The number of a line, where it starts, and how far the text is made of ended lines.
+pub struct Cursor {
+    pub line: usize,
+    pub at: usize,
+    pub ended: usize,
+}
+
+// The entries of the first two bytes of a line.
+pub struct Opening {
+    pub letter: u8,
+    pub behind: u8,
+}
+
+// Those of the line at a cursor; of a line that is empty or not ended nothing is told.
+pub fn open_at(table: &[u8; 256], s: &[u8], c: Cursor) -> Opening
+    requires { ⌜ (now table ≡ byteTable) × (c .at < length (now s)) × (c .ended ≤ length (now s)) ⌝ }
+    ensures { λ r. ⌜ r ≡ openingOf (now (s .entry)) c ⌝ }
+{
+    let first = c.at;
+    let second = first + 1;
+    if c.ended <= second {
+        return Opening {
+            letter: FOREIGN,
+            behind: FOREIGN,
+        };
     }
-    if s[at + 1] != 10 {
-        return at;
+    Opening {
+        letter: entry_of(table, s[first]),
+        behind: entry_of(table, s[second]),
     }
-    at + 2
+}
+
+// Whether a line begins with a letter and a comma.
+pub fn opens_with(letter: u8, o: Opening) -> bool
+    ensures { λ r. ⌜ r ≡ opensWith letter o ⌝ }
+{
+    (o.letter == letter) & (o.behind == COMMA)
 }

@@ -2,8 +2,11 @@
 ghost use mathlib.Core.Path.{_≡_};
 ghost use Rattle.logs.specs.LogRun.{positionOf, Begun, PlayedLog, Beginnable, BeginsAt};
 use arc_sets::SETS;
+use byte_classes::byte_table;
 use conditions::Extent;
 use history::start;
+use lines::Cursor;
+use lines::ended_to;
 use log_steps::LogAnswer;
 use log_steps::LogRefusal;
 use log_steps::Played;
@@ -47,11 +50,18 @@ pub fn play_log(
         (now (rec .entry)) (now (steps .entry)) (now (counts .entry)) (now (marking .entry))
         s (now (rec .exit)) (now (steps .exit)) (now (counts .exit)) ⌝ }
 {
+    let table = byte_table();
+    let ended = ended_to(&table, log);
     let mut step = [0u8; STEP];
     let mut run = x;
     let mut at: usize = 0;
     while at < log.len() {
-        let line = judge_line(log, at, sets, position(run), marking, &mut step);
+        let here = Cursor {
+            line: run.line,
+            at,
+            ended,
+        };
+        let line = judge_line(&table, log, here, sets, position(run), marking, &mut step);
         let judged = line.answer;
         if let StepAnswer::Refused(why) = judged {
             return refused(LogRefusal::Step(why), run);

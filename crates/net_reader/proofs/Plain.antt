@@ -1,12 +1,14 @@
 -- Lines of a net text, by their rows, and what plain lines add.
-use Prim.Native.Nat.{ℕ, _-_, _<_}
-use mathlib.Core.Path.{_≡_, refl, _∙_}
+use Prim.Native.Nat.{ℕ, _-_, _*_, _≤_, _<_}
+use mathlib.Core.Path.{_≡_, refl, sym, _∙_}
 use mathlib.Core.Logic.{inl, inr}
+use native.Mathlib.Omega.{arith}
+use lib.Dec.{lit<}
 use mathlib.Core.Bool.{Bool, true, false}
 use mathlib.Core.List.{List, [], _∷_}
 use lib.ListN.{getD, drop, take}
 use Rattle.spec.specs.Answer.{Answer, refuses}
-use Rattle.spec.specs.Text.{named, inDigits, classOf, isA, mostDigits}
+use Rattle.spec.specs.Text.{named, inDigits, classOf, mostDigits}
 use Rattle.spec.specs.Forms.{isLine}
 use Rattle.line_forms.specs.Rows.{rowOf, isAlone, isOne, isTwo}
 use Rattle.line_forms.proofs.Ties.{alone-line, one-line, two-line, number-at}
@@ -17,10 +19,17 @@ use Rattle.line_forms.specs.declared.Slot.the-variants.{Number}
 use Rattle.lines.specs.Lines.{lineOf, LineAt}
 use Rattle.lines.specs.declared.Span.{Span}
 use Rattle.lines.proofs.Lines.{line-to}
-use Rattle.plain_lines.specs.Plain.{Opens, PlainLine, MayRead}
+use Rattle.spec.specs.declared.Class.{Class}
+use Rattle.spec.specs.declared.Class.the-variants.{LetterP, LetterT, LetterI, LetterO, LetterH, LetterR}
+use Rattle.byte_entries.specs.Entries.{entryOf, classBy}
+use Rattle.byte_entries.proofs.Classes.{entry-class}
+use Rattle.lines.specs.declared.Opening.{Opening}
+use Rattle.plain_lines.specs.Plain.{LetterEntry, rowWith, PlainLine, MayRead}
 use Rattle.plain_lines.proofs.Plain.{plain-to}
-use Rattle.net.specs.NetArrays.{Arrays, Steps}
-use Rattle.net_reader.specs.Reads.{addRow, ArcLetter, addLetter, Takes}
+use Rattle.spec.specs.declared.ArcKind.{ArcKind}
+use Rattle.spec.specs.declared.ArcKind.the-variants.{Input, Output, Inhibitor, Read}
+use Rattle.net.specs.NetArrays.{kindCount, readsAt, offsetOf, Arrays, Steps}
+use Rattle.net_reader.specs.Reads.{addRow, ArcEntry, ArcLetter, kindBy, addLetter, Takes}
 use Rattle.net.specs.declared.Size.{Size}
 use Rattle.net.specs.declared.Stepped.{Stepped}
 
@@ -43,37 +52,70 @@ module _ (k : ℕ) (b : List ℕ) (n : NetD) where
 
 -- ---- plain lines
 
-pub opens-place : Opens 80
-unfolding isA alike classOf named inDigits
-opens-place = record { comma = refl; end = refl; return = refl }
+-- the letters of a net may begin a line
+pub place-entry : {e : ℕ} → e ≡ 13 → LetterEntry e
+unfolding alike classBy
+place-entry q = rw q (record { comma = refl; end = refl; return = refl })
 
-pub opens-transition : Opens 84
-unfolding isA alike classOf named inDigits
-opens-transition = record { comma = refl; end = refl; return = refl }
+pub transition-entry : {e : ℕ} → e ≡ 14 → LetterEntry e
+unfolding alike classBy
+transition-entry q = rw q (record { comma = refl; end = refl; return = refl })
 
--- no letter of arcs is a comma or a byte of an ending
-pub opens-arc : (b : ℕ) → ArcLetter b → Opens b
-unfolding isA alike classOf named inDigits
-opens-arc b (inl e) = rw e (record { comma = refl; end = refl; return = refl })
-opens-arc b (inr (inl e)) = rw e (record { comma = refl; end = refl; return = refl })
-opens-arc b (inr (inr (inl e))) = rw e (record { comma = refl; end = refl; return = refl })
-opens-arc b (inr (inr (inr e))) = rw e (record { comma = refl; end = refl; return = refl })
+pub arc-entry : {o : Opening} → ArcLetter o → LetterEntry (o .letter)
+unfolding alike classBy
+arc-entry {o} a = go (a .letter)
+  where
+    go : ArcEntry (o .letter) → LetterEntry (o .letter)
+    go (inl q) = rw q (record { comma = refl; end = refl; return = refl })
+    go (inr (inl q)) = rw q (record { comma = refl; end = refl; return = refl })
+    go (inr (inr (inl q))) = rw q (record { comma = refl; end = refl; return = refl })
+    go (inr (inr (inr q))) = rw q (record { comma = refl; end = refl; return = refl })
+
+pub arc-tells : {o : Opening} → ArcLetter o → o .letter ≡ 26 → ⊥
+arc-tells {o} a z = go (a .letter)
+  where
+    go : ArcEntry (o .letter) → ⊥
+    go (inl q) = omega arith
+    go (inr (inl q)) = omega arith
+    go (inr (inr (inl q))) = omega arith
+    go (inr (inr (inr q))) = omega arith
 
 module _ (k : ℕ) {text : List ℕ} {i next : ℕ} (m : NetD) where
-  pub place-line : {v : ℕ} (l : PlainLine 4 text i next (Number v ∷ [])) → getD text i 0 ≡ 80 → addLine k (lineOf (l .bytes) true) m ≡ addPlace k v m
-  unfolding addRow isAlone isOne isTwo alike classOf named inDigits
-  place-line l e = row-added k (l .bytes) m ∙ rw (l .row, e)
+  pub place-line : {v : ℕ} (l : PlainLine 4 text i next (Number v ∷ [])) → entryOf (getD text i 0) ≡ 13 → addLine k (lineOf (l .bytes) true) m ≡ addPlace k v m
+  unfolding addRow isAlone isOne isTwo alike
+  place-line l e = row-added k (l .bytes) m ∙ rw (l .row, entry-class (getD text i 0) LetterP (lit< tt) e)
 
-  pub transition-line : (l : PlainLine 4 text i next []) → getD text i 0 ≡ 84 → addLine k (lineOf (l .bytes) true) m ≡ addTransition k m
-  unfolding addRow isAlone isOne isTwo alike classOf named inDigits
-  transition-line l e = row-added k (l .bytes) m ∙ rw (l .row, e)
+  pub transition-line : (l : PlainLine 4 text i next []) → entryOf (getD text i 0) ≡ 14 → addLine k (lineOf (l .bytes) true) m ≡ addTransition k m
+  unfolding addRow isAlone isOne isTwo alike
+  transition-line l e = row-added k (l .bytes) m ∙ rw (l .row, entry-class (getD text i 0) LetterT (lit< tt) e)
 
-  pub arc-line : {a b : ℕ} (l : PlainLine 4 text i next (Number a ∷ Number b ∷ [])) → ArcLetter (getD text i 0) → addLine k (lineOf (l .bytes) true) m ≡ addLetter (getD text i 0) k a b m
-  unfolding addRow addLetter isAlone isOne isTwo alike classOf named inDigits
-  arc-line l (inl e) = row-added k (l .bytes) m ∙ rw (l .row, e)
-  arc-line l (inr (inl e)) = row-added k (l .bytes) m ∙ rw (l .row, e)
-  arc-line l (inr (inr (inl e))) = row-added k (l .bytes) m ∙ rw (l .row, e)
-  arc-line l (inr (inr (inr e))) = row-added k (l .bytes) m ∙ rw (l .row, e)
+  pub arc-line : {a b : ℕ} {o : Opening} (l : PlainLine 4 text i next (Number a ∷ Number b ∷ [])) → o .letter ≡ entryOf (getD text i 0) → ArcLetter o → addLine k (lineOf (l .bytes) true) m ≡ addLetter (o .letter) k a b m
+  unfolding addRow addLetter kindBy isAlone isOne isTwo alike
+  arc-line {a} {b} {o} l e x = go (x .letter)
+    where
+      by-class : (c : Class) → classOf (getD text i 0) ≡ c → addLine k (lineOf (l .bytes) true) m ≡ addRow k (rowWith c (Number a ∷ Number b ∷ [])) m
+      by-class c q = row-added k (l .bytes) m ∙ rw (l .row, q)
+
+      go : ArcEntry (o .letter) → addLine k (lineOf (l .bytes) true) m ≡ addLetter (o .letter) k a b m
+      go (inl q) = by-class LetterI (entry-class (getD text i 0) LetterI (lit< tt) (sym e ∙ q)) ∙ rw q
+      go (inr (inl q)) = by-class LetterO (entry-class (getD text i 0) LetterO (lit< tt) (sym e ∙ q)) ∙ rw q
+      go (inr (inr (inl q))) = by-class LetterH (entry-class (getD text i 0) LetterH (lit< tt) (sym e ∙ q)) ∙ rw q
+      go (inr (inr (inr q))) = by-class LetterR (entry-class (getD text i 0) LetterR (lit< tt) (sym e ∙ q)) ∙ rw q
+
+-- the arcs of each kind stand within their array
+pub offset-within : (x : ArcKind) → offsetOf x ≤ readsAt
+offset-within Input = omega arith
+offset-within Output = omega arith
+offset-within Inhibitor = omega arith
+offset-within Read = omega arith
+
+-- those of the first three kinds one behind the other
+pub kind-place : (e : ℕ) → ArcEntry e → (e ≡ 24 → ⊥) → (15 ≤ e) × (e ≤ 17) × ((e - 15) * kindCount ≡ offsetOf (kindBy e))
+unfolding kindBy
+kind-place e (inl q) d = (omega arith, omega arith, rw q)
+kind-place e (inr (inl q)) d = (omega arith, omega arith, rw q)
+kind-place e (inr (inr (inl q))) d = (omega arith, omega arith, rw q)
+kind-place e (inr (inr (inr q))) d = absurd (d q)
 
 -- ---- a line that is added
 

@@ -1,6 +1,5 @@
 -- What the functions of the reader promise.
 use Prim.Native.Nat.{ℕ, _+_, _*_}
-use Prim.Native.Char.{code}
 use mathlib.Core.Path.{_≡_}
 use mathlib.Core.Logic.{_⊎_}
 use mathlib.Core.Bool.{Bool, not, _||_, cond}
@@ -11,6 +10,7 @@ use Rattle.lists.specs.Mapped.{Mapped}
 use Rattle.spec.specs.Answer.{Answer, gives, refuses, _>>=_, returned}
 use Rattle.lines.specs.Agree.{Agrees}
 use Rattle.lines.specs.Lines.{LineTo}
+use Rattle.lines.specs.declared.Opening.{Opening}
 use Rattle.spec.specs.Lists.{any, upTo}
 use Rattle.spec.specs.Text.{linesOf, byLines}
 use Rattle.spec.specs.Net.{Net as NetD, addPlace, addTransition, addArc, addLine, emptyNet, whole, readNet}
@@ -19,6 +19,7 @@ use Rattle.line_forms.specs.declared.Row.{Row}
 use Rattle.spec.specs.Values.{netValues}
 use Rattle.net.specs.declared.Net.{Net}
 use Rattle.spec.specs.declared.Class.the-variants.{LetterP, LetterT, LetterI, LetterO, LetterH, LetterR}
+use Rattle.spec.specs.declared.ArcKind.{ArcKind}
 use Rattle.spec.specs.declared.ArcKind.the-variants.{Input, Output, Inhibitor, Read}
 use Rattle.net.specs.declared.Size.{Size}
 use Rattle.net.specs.declared.Stepped.{Stepped}
@@ -44,17 +45,22 @@ addRow k r n =
     (cond (isTwo LetterR r) (addArc Read k (valueOf (r .first)) (valueOf (r .second)) n)
     (refuses 11 k))))))
 
--- the byte is a letter of arcs
-abbrev pub ArcLetter : ℕ → Type 0
-ArcLetter b = (b ≡ code "I") ⊎ (b ≡ code "O") ⊎ (b ≡ code "H") ⊎ (b ≡ code "R")
+-- the entry of a letter of arcs: I, O, H or R
+abbrev pub ArcEntry : ℕ → Type 0
+ArcEntry e = (e ≡ 15) ⊎ (e ≡ 16) ⊎ (e ≡ 17) ⊎ (e ≡ 24)
 
--- what line k adds with a letter of arcs and two numbers
+-- a line begins with such a letter and a comma
+pub record ArcLetter (o : Opening) : Type 0 where
+  pub letter : ArcEntry (o .letter)
+  pub comma : o .behind ≡ 10
+
+-- the kind of arc that a letter of the four stands for, by its entry
+unfoldable pub kindBy : ℕ → ArcKind
+kindBy e = cond (eqb e 16) Output (cond (eqb e 17) Inhibitor (cond (eqb e 24) Read Input))
+
+-- what line k adds with such a letter and two numbers: an output's place is the second
 unfoldable pub addLetter : ℕ → ℕ → ℕ → ℕ → NetD → Answer NetD
-addLetter b k v w n =
-    cond (eqb b (code "I")) (addArc Input k v w n)
-    (cond (eqb b (code "O")) (addArc Output k w v n)
-    (cond (eqb b (code "H")) (addArc Inhibitor k v w n)
-    (addArc Read k v w n)))
+addLetter e k v w n = cond (eqb e 16) (addArc Output k w v n) (addArc (kindBy e) k v w n)
 
 -- it is added, whatever the tokens are
 abbrev pub AddsLetter : ℕ → ℕ → ℕ → ℕ → Size → List ℕ → Stepped → List ℕ → Type 0

@@ -4,19 +4,32 @@ ghost use mathlib.Core.Bool.{true};
 ghost use Prim.Native.Nat.{_+_, _≤_, _<_};
 ghost use lib.ListN.{length};
 ghost use Rattle.columns.specs.Columns.{column};
-ghost use Rattle.spec.specs.Net.{addLine};
-ghost use Rattle.lines.specs.Lines.{lineOf};
+ghost use Rattle.byte_classes.specs.Table.{byteTable};
+ghost use Rattle.lines.specs.Lines.{EndedTo};
 ghost use Rattle.net.specs.NetArrays.{kindCount, readsAt, inputsIn, outputsIn};
-ghost use Rattle.net.specs.NetArrays.{goesOf, arraysAt, Fits, Few, Steps};
-ghost use Rattle.net_reader.specs.Reads.{addRow, ArcLetter, AddsLetter, Blank, anyCell, lacksOf, Takes};
+ghost use Rattle.net.specs.NetArrays.{offsetOf, goesOf, arraysAt, Fits, Few, Steps};
+ghost use Rattle.net_reader.specs.Reads.{addRow, ArcEntry, ArcLetter, kindBy, AddsLetter, Blank, anyCell, lacksOf, Takes};
 ghost use Rattle.net_reader.specs.Reads.{ReadsLines, Finishes, noNet, ReadsInto, Reads, Answers, Copies};
+use byte_classes::byte_table;
+use byte_entries::COMMA;
+use byte_entries::LETTER_H;
+use byte_entries::LETTER_I;
+use byte_entries::LETTER_O;
+use byte_entries::LETTER_P;
+use byte_entries::LETTER_R;
+use byte_entries::LETTER_T;
 use fields::row_of;
 use line_forms::Row;
 use line_forms::is_alone;
 use line_forms::is_one;
 use line_forms::is_two;
 use line_forms::number_in;
+use lines::Cursor;
+use lines::Opening;
+use lines::ended_to;
 use lines::line_at;
+use lines::open_at;
+use lines::opens_with;
 use net::ARCS;
 use net::INHIBITORS;
 use net::INPUTS;
@@ -71,45 +84,42 @@ fn add_row(k: usize, r: Row, s: Size, tokens: &mut [u16; TOKENS], arcs: &mut [u8
     refused(NetRefusal::Malformed(k), s)
 }
 
-// A line is added, if it is ended.
-fn add_line(
-    k: usize,
-    l: &[u8],
-    ended: bool,
-    s: Size,
-    tokens: &mut [u16; TOKENS],
-    arcs: &mut [u8; ARCS],
-) -> Stepped
-    requires { ⌜ Fits s ⌝ }
-    ensures { λ q. ⌜ Steps s (arraysAt (now (tokens .entry)) (now (arcs .entry)))
-        (addLine k (lineOf (now (l .entry)) ended)) q (arraysAt (now (tokens .exit)) (now (arcs .exit))) ⌝ }
-{
-    if !ended {
-        return refused(NetRefusal::Malformed(k), s);
-    }
-    add_row(k, row_of(4, l), s, tokens, arcs)
-}
-
 // A line that was added, and where the next one starts.
 pub struct Took {
     pub step: Stepped,
     pub next: usize,
 }
 
-// Whether the letter is one of the four kinds of arcs.
-fn arc_letter(b: u8) -> bool
-    ensures { λ r. ⌜ (r ≡ true → ArcLetter b) ⌝ }
+// Whether a line begins with the letter of one of the four kinds of arcs, and a comma.
+fn arc_letter(o: Opening) -> bool
+    ensures { λ r. ⌜ (r ≡ true → ArcLetter o) ⌝ }
 {
-    if b == b'I' {
+    if o.behind != COMMA {
+        return false;
+    }
+    if o.letter == LETTER_I {
         return true;
     }
-    if b == b'O' {
+    if o.letter == LETTER_O {
         return true;
     }
-    if b == b'H' {
+    if o.letter == LETTER_H {
         return true;
     }
-    b == b'R'
+    o.letter == LETTER_R
+}
+
+// Where the arcs of a letter's kind stand: those of the letters I, O and H one behind the other, as their entries do. It is
+// computed and not chosen by branches, as it changes from line to line and no machine foresees it.
+fn arc_kind(letter: u8) -> usize
+    requires { ⌜ ArcEntry letter ⌝ }
+    ensures { λ r. ⌜ r ≡ offsetOf (kindBy letter) ⌝ }
+{
+    if letter == LETTER_R {
+        return READS;
+    }
+    let place = letter - LETTER_I;
+    place as usize * KIND
 }
 
 // One more arc of the letter's kind, with the two numbers as they stand on the line.
@@ -121,64 +131,81 @@ fn add_letter(
     s: Size,
     arcs: &mut [u8; ARCS],
 ) -> Stepped
-    requires { ⌜ Fits s ⌝ }
+    requires { ⌜ ArcEntry letter × Fits s ⌝ }
     ensures { λ q. ⌜ AddsLetter letter k first second s (now (arcs .entry)) q (now (arcs .exit)) ⌝ }
 {
-    if letter == b'I' {
-        return add_arc(INPUTS, k, first, second, s, arcs);
+    let kind = arc_kind(letter);
+    if letter == LETTER_O {
+        return add_arc(kind, k, second, first, s, arcs);
     }
-    if letter == b'O' {
-        return add_arc(OUTPUTS, k, second, first, s, arcs);
-    }
-    if letter == b'H' {
-        return add_arc(INHIBITORS, k, first, second, s, arcs);
-    }
-    add_arc(READS, k, first, second, s, arcs)
+    add_arc(kind, k, first, second, s, arcs)
 }
 
-// The line that starts at a position is added. A plain line is read in one walk; any other goes to the readers of lines
-// and fields, and so does every malformed one.
-fn add_at(
-    k: usize,
+// The line at a cursor is added by the readers of lines and fields, whatever it is.
+fn add_any(
+    table: &[u8; 256],
     text: &[u8],
-    at: usize,
+    c: Cursor,
     s: Size,
     tokens: &mut [u16; TOKENS],
     arcs: &mut [u8; ARCS],
 ) -> Took
-    requires { ⌜ (at < length (now text)) × Fits s ⌝ }
-    ensures { λ q. ⌜ Takes (now (text .entry)) at k s (arraysAt (now (tokens .entry)) (now (arcs .entry))) q
+    requires { ⌜ (now table ≡ byteTable) × (c .at < length (now text)) × Fits s ⌝ }
+    ensures { λ q. ⌜ Takes (now (text .entry)) (c .at) (c .line) s (arraysAt (now (tokens .entry)) (now (arcs .entry))) q
         (arraysAt (now (tokens .exit)) (now (arcs .exit))) ⌝ }
 {
-    let letter = text[at];
-    if arc_letter(letter) {
-        let f = two_at(4, text, at);
+    let k = c.line;
+    let at = c.at;
+    let line = line_at(table, text, at);
+    let next = line.next;
+    if !line.ended {
+        let step = refused(NetRefusal::Malformed(k), s);
+        return Took { step, next };
+    }
+    let end = line.end;
+    let step = add_row(k, row_of(table, 4, &text[at..end]), s, tokens, arcs);
+    Took { step, next }
+}
+
+// The line at a cursor is added. A plain line is read in one walk; any other goes to the readers of lines and fields, and
+// so does every malformed one.
+fn add_at(
+    table: &[u8; 256],
+    text: &[u8],
+    c: Cursor,
+    s: Size,
+    tokens: &mut [u16; TOKENS],
+    arcs: &mut [u8; ARCS],
+) -> Took
+    requires { ⌜ (now table ≡ byteTable) × (c .at < length (now text)) × EndedTo (now text) (c .ended) × Fits s ⌝ }
+    ensures { λ q. ⌜ Takes (now (text .entry)) (c .at) (c .line) s (arraysAt (now (tokens .entry)) (now (arcs .entry))) q
+        (arraysAt (now (tokens .exit)) (now (arcs .exit))) ⌝ }
+{
+    let k = c.line;
+    let at = c.at;
+    let open = open_at(table, text, c);
+    if arc_letter(open) {
+        let f = two_at(table, 4, text, at);
         if at < f.next {
-            let step = add_letter(letter, k, f.a, f.b, s, arcs);
+            let step = add_letter(open.letter, k, f.a, f.b, s, arcs);
             return Took { step, next: f.next };
         }
     }
-    if letter == b'P' {
-        let f = one_at(4, text, at);
+    if opens_with(LETTER_P, open) {
+        let f = one_at(table, 4, text, at);
         if at < f.next {
             let step = add_place(k, f.a, s, tokens);
             return Took { step, next: f.next };
         }
     }
-    if letter == b'T' {
-        let next = alone_at(text, at);
+    if open.letter == LETTER_T {
+        let next = alone_at(table, text, at, open.behind);
         if at < next {
             let step = add_transition(k, s);
             return Took { step, next };
         }
     }
-    let line = line_at(text, at);
-    let end = line.end;
-    let step = add_line(k, &text[at..end], line.ended, s, tokens, arcs);
-    Took {
-        step,
-        next: line.next,
-    }
+    add_any(table, text, c, s, tokens, arcs)
 }
 
 // The lines are added, one after the other, to arrays that hold no net yet.
@@ -186,6 +213,8 @@ fn add_lines(text: &[u8], tokens: &mut [u16; TOKENS], arcs: &mut [u8; ARCS]) -> 
     requires { ⌜ Blank (now tokens) (now arcs) ⌝ }
     ensures { λ q. ⌜ ReadsLines (now (text .entry)) q (arraysAt (now (tokens .exit)) (now (arcs .exit))) ⌝ }
 {
+    let table = byte_table();
+    let ended = ended_to(&table, text);
     let mut s = Size {
         places: 0,
         transitions: 0,
@@ -194,7 +223,8 @@ fn add_lines(text: &[u8], tokens: &mut [u16; TOKENS], arcs: &mut [u8; ARCS]) -> 
     let mut k: usize = 1;
     let mut at: usize = 0;
     while at < text.len() {
-        let took = add_at(k, text, at, s, tokens, arcs);
+        let line = Cursor { line: k, at, ended };
+        let took = add_at(&table, text, line, s, tokens, arcs);
         let step = took.step;
         let answer = step.answer;
         s = step.size;

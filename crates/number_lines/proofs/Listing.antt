@@ -18,10 +18,13 @@ use Rattle.spec.specs.declared.Class.{Class}
 use Rattle.line_forms.specs.declared.Slot.{Slot}
 use Rattle.line_forms.specs.declared.Slot.the-variants.{Number}
 use Rattle.lists.specs.Laws.{here, leb-max}
-use Rattle.lines.specs.Lines.{lineOf, LineTo, Ending, PastEnding}
-use Rattle.digits.specs.Digits.{between, Stands, IsField}
-use Rattle.plain_lines.specs.Plain.{Opens, PlainLine}
-use Rattle.plain_lines.proofs.Plain.{Tail, last-field, more-fields, plain-line}
+use Rattle.byte_entries.specs.Entries.{entryOf, classBy}
+use Rattle.byte_entries.proofs.Classes.{class-named, comma-entry}
+use Rattle.lines.specs.Lines.{lineOf, LineTo, Ending, PastEnding, pastBy, Ahead}
+use Rattle.lines.proofs.Lines.{past-told, went-on, here as inside, on, on-by}
+use Rattle.digits.specs.Digits.{between, Stands, IsField, FieldTo}
+use Rattle.plain_lines.specs.Plain.{LetterEntry, Begins, PlainLine}
+use Rattle.plain_lines.proofs.Plain.{Tail, last-field, more-fields, plain-line, opens-by}
 use Rattle.number_lines.specs.declared.Listed.{Listed}
 use Rattle.number_lines.specs.Numbers.{Few, Puts, Listing, ListAt}
 
@@ -48,9 +51,9 @@ map-last [] v = refl
 map-last (n ∷ ns) v = ap (λ (z : List Slot). Number n ∷ z) (map-last ns v)
 
 module _ {s : List ℕ} {at : ℕ} where
-  pub read-none : {b : ℕ} → Opens b → Stands b s at → Read s at (at + 1) []
-  read-none {b} o w = record {
-    more = λ c next fs t. plain-line (record { within = w .within; letter = rw (w .byte) o }) c (let z : at + 1 + 1 ≡ at + 2 = omega arith in rw z at t);
+  pub read-none : Begins s at → Read s at (at + 1) []
+  read-none b = record {
+    more = λ c next fs t. plain-line b c (let z : at + 1 + 1 ≡ at + 2 = omega arith in rw z at t);
     ends = λ h. absurd (omega arith);
   }
 
@@ -116,42 +119,22 @@ any-zero [] h = absurd (omega arith)
 any-zero (n ∷ ns) h = rw (le-leb 0 n (omega arith))
 
 module _ {s : List ℕ} {at next : ℕ} (ns : List ℕ) (l : PlainLine 4 s at next (map Number ns)) (h : 0 < length ns) where
-  is-list : {b : ℕ} → getD s at 0 ≡ b → isList 4 (classOf b) (l .bytes) ≡ true
+  is-list : {k : Class} → classOf (getD s at 0) ≡ k → isList 4 k (l .bytes) ≡ true
   unfolding isList alike
-  is-list {b} e = rw (l .letter, l .fields, e, eq-eqb (classCode (classOf b)) (classCode (classOf b)) refl, le-leb 1 (length (map Number ns)) (omega (arith, count-fields ns))) (all-numbers ns)
+  is-list {k} e = rw (l .letter, l .fields, e, eq-eqb (classCode k) (classCode k) refl, le-leb 1 (length (map Number ns)) (omega (arith, count-fields ns))) (all-numbers ns)
 
   numbers-are : valuesOf 4 (l .bytes) ≡ ns
   unfolding valuesOf
   numbers-are = rw (l .fields) (values ns)
 
--- what is known of a list line at a comma or an ending
-pub record Walked (s : List ℕ) (at : ℕ) (xs : List ℕ) (count high end : ℕ) : Type 0 where
+-- what is known of a list line at a comma or an ending, of which the entry is told
+pub record Walked (s : List ℕ) (at : ℕ) (xs : List ℕ) (count high end stop : ℕ) : Type 0 where
   pub numbers : List ℕ
   pub read : Read s at end numbers
   pub kept : Kept xs count high numbers
   pub few : at + count < end
-  pub within : end ≤ length s
-
-pub listing : {s xs : List ℕ} {at b count high end next : ℕ} → Walked s at xs count high end → Stands b s at → 0 < count → PastEnding s end next → end < next
-    → Listing (classOf b) s at (record { count = count; high = high; next = next }) xs
-listing {s} {xs} {at} {b} {count} {high} {end} {next} w o h e g =
-    let some : 0 < length (w .numbers) = omega (arith, w .kept .counted) in
-    let l = w .read .ends some next (e .ending g) in
-    let q = numbers-are (w .numbers) l some in
-    record {
-      bytes = l .bytes;
-      lines = l .lines;
-      within = e .within g;
-      list = is-list (w .numbers) l some (o .byte);
-      count = w .kept .counted ∙ ap length (sym q);
-      few = omega (arith, e .within g, w .few);
-      high = λ known. rw q (highest known some);
-      numbers = rw q (λ f. record { long = w .kept .long; numbers = rw (← w .kept .counted) (w .kept .array f) });
-    }
-  where
-    highest : (known : ℕ) → 0 < length (w .numbers) → leb known high ≡ any (leb known) (w .numbers)
-    highest zero some = rw (any-zero (w .numbers) some) (le-leb 0 high (omega arith))
-    highest (suc n) some = w .kept .highest (suc n) (omega arith)
+  pub told : stop ≡ entryOf (getD s end 0)
+  pub ahead : Ahead s end
 
 abbrev pub list-to : {k : Class} {s xs : List ℕ} {at : ℕ} {r : Listed} → Listing k s at r xs → at < r .next → LineTo s at (r .next)
 list-to l h = record { line = lineOf (l .bytes) true; lines = l .lines; on = h; within = omega (arith, l .within) }
@@ -159,15 +142,67 @@ list-to l h = record { line = lineOf (l .bytes) true; lines = l .lines; on = h; 
 pub no-list : {k : Class} {s xs : List ℕ} {at : ℕ} → length xs ≡ 128 → ListAt k s at (record { count = 0; high = 0; next = at }) xs
 no-list h = record { long = h; start = omega arith; line = λ z. absurd (omega arith) }
 
-pub walk-start : {s xs : List ℕ} {at b : ℕ} → length xs ≡ 128 → Opens b → Stands b s at → Walked s at xs 0 0 (at + 1)
-walk-start h o w = record { numbers = []; read = read-none o w; kept = kept-none h; few = omega arith; within = omega (arith, w .within) }
+-- the letter, told by its entry
+module _ {s : List ℕ} {at letter e : ℕ} (l : LetterEntry letter) (a : Ahead s at) (q : e ≡ entryOf (getD s at 0)) (z : e ≡ letter) where
+  begins : Begins s at
+  begins = record { within = inside a; letter = opens-by (getD s at 0) l (sym q ∙ z) }
 
-pub walk-on : {s xs ys : List ℕ} {at count high end e v : ℕ} → Walked s at xs count high end → Stands 44 s end → end + 1 < e → e ≤ length s
-    → IsField 4 (between s (end + 1) e) (Number v) → Puts xs count v ys → Walked s at ys (count + 1) (max high v) e
-walk-on {v = v} w c h l p u = record {
-  numbers = w .numbers ++ v ∷ [];
-  read = read-more (w .read) c (omega arith) p;
-  kept = kept-more (w .kept) u;
-  few = omega (arith, w .few);
-  within = l;
-}
+  pub letter-on : Ahead s (at + 1)
+  letter-on = on a (begins .letter .end)
+
+  pub letter-class : classOf (getD s at 0) ≡ classBy letter
+  letter-class = sym (class-named (getD s at 0)) ∙ ap classBy (sym q ∙ z)
+
+  pub walk-start : {xs : List ℕ} {stop : ℕ} → length xs ≡ 128 → stop ≡ entryOf (getD s (at + 1) 0) → Walked s at xs 0 0 (at + 1) stop
+  walk-start h t = record { numbers = []; read = read-none begins; kept = kept-none h; few = omega arith; told = t; ahead = letter-on }
+
+module _ {s xs : List ℕ} {at count high end stop : ℕ} (w : Walked s at xs count high end stop) where
+  -- behind a comma, and with the number that was read there
+  pub comma-on : stop ≡ 10 → Ahead s (end + 1)
+  comma-on e = on-by (w .ahead) (w .told) (λ z. omega arith)
+
+  pub walk-on : {ys : List ℕ} {to v next : ℕ} → stop ≡ 10 → FieldTo 4 s (end + 1) to next (Number v) → Puts xs count v ys → Walked s at ys (count + 1) (max high v) to next
+  walk-on {v = v} e f u = record {
+    numbers = w .numbers ++ v ∷ [];
+    read = read-more (w .read) (record { within = inside (w .ahead); byte = comma-entry (getD s end 0) (sym (w .told) ∙ e) }) (f .start) (f .field);
+    kept = kept-more (w .kept) u;
+    few = omega (arith, w .few, f .start);
+    told = f .stops;
+    ahead = f .ahead;
+  }
+
+  -- a return lies in front of a line end
+  pub return-on : stop ≡ 25 → end + 1 < length s
+  return-on e = inside (on-by (w .ahead) (w .told) (λ z. omega arith))
+
+  -- an ending, which is passed
+  pub listed : {k : Class} {next : ℕ} → classOf (getD s at 0) ≡ k → 0 < count → next ≡ pastBy stop s end → (next ≡ end → ⊥) → ListAt k s at (record { count = count; high = high; next = next }) xs
+  listed {k} {next} c h p d = record { long = w .kept .long; start = omega (arith, w .few, passed .start); line = λ n. listing }
+    where
+      passed : PastEnding s end next
+      passed = rw p (past-told s end (w .told) (inside (w .ahead)) return-on)
+
+      further : end < next
+      further = went-on passed d
+
+      some : 0 < length (w .numbers)
+      some = omega (arith, w .kept .counted)
+
+      line : PlainLine 4 s at next (map Number (w .numbers))
+      line = w .read .ends some next (passed .ending further)
+
+      highest : (known : ℕ) → leb known high ≡ any (leb known) (w .numbers)
+      highest zero = rw (any-zero (w .numbers) some) (le-leb 0 high (omega arith))
+      highest (suc n) = w .kept .highest (suc n) (omega arith)
+
+      listing : Listing k s at (record { count = count; high = high; next = next }) xs
+      listing = let q = numbers-are (w .numbers) line some in record {
+        bytes = line .bytes;
+        lines = line .lines;
+        within = passed .within further;
+        list = is-list (w .numbers) line some c;
+        count = w .kept .counted ∙ ap length (sym q);
+        few = omega (arith, passed .within further, w .few);
+        high = λ known. rw q (highest known);
+        numbers = rw q (λ f. record { long = w .kept .long; numbers = rw (← w .kept .counted) (w .kept .array f) });
+      }

@@ -1,13 +1,13 @@
 -- Plain lines, put together from their end: a field and the ending, a field, a comma and what follows, and the letter in front.
 -- Assumes nothing.
 use Prim.Native.Nat.{ℕ, suc, _+_, _-_, _≤_, _<_}
-use mathlib.Core.Path.{_≡_, refl, ap, _∙_}
-use mathlib.Core.Bool.{Bool, true, false, _&&_, _||_, not, and-false}
+use mathlib.Core.Path.{_≡_, refl, sym, ap, _∙_}
+use mathlib.Core.Bool.{Bool, true, false, _&&_, not, and-false}
 use mathlib.Core.List.{List, [], _∷_, _++_, map, append-nil}
 use native.Mathlib.Omega.{arith}
 use lib.ListN.{length, getD, drop}
-use lib.Dec.{leb, eqb}
-use borrow.Author.Tests.{leb-false, eqb-true, eqb-false, not-false}
+use lib.Dec.{leb, ltb}
+use borrow.Author.Tests.{ltb-true}
 use Rattle.spec.specs.Lists.{every}
 use Rattle.spec.specs.Text.{Line, named, inDigits, classOf, digitOf, isA, onFirst, linesOf, needlessZero, isNumber, grow, pieces, isOnly, isDash}
 use Rattle.line_forms.specs.Rows.{slotOf, letterOf, letterIn, slotsOf, rowOf}
@@ -16,13 +16,16 @@ use Rattle.spec.specs.declared.Class.the-variants.{Comma, LineEnd, Return}
 use Rattle.line_forms.specs.declared.Slot.{Slot}
 use Rattle.line_forms.specs.declared.Slot.the-variants.{Dash, Absent}
 use Rattle.lists.specs.Along.{rest-at}
-use Rattle.lists.specs.Laws.{or-false}
 use Rattle.lists.specs.LineEnds.{ten-first, return-first, other-first}
-use Rattle.lines.specs.Lines.{lineOf, LineTo, Ending, ten, return-ten, PastEnding}
-use Rattle.lines.proofs.Lines.{went-on}
-use Rattle.digits.specs.Digits.{between, Stands, Without, IsField}
+use Rattle.byte_entries.specs.Entries.{entryOf}
+use Rattle.byte_entries.proofs.Classes.{comma-entry, class-named}
+use Rattle.lines.specs.Lines.{lineOf, LineTo, Ending, ten, return-ten, PastEnding, pastBy, Ahead, EndedTo, openingOf}
+use Rattle.lines.specs.declared.Cursor.{Cursor}
+use Rattle.lines.specs.declared.Opening.{Opening}
+use Rattle.lines.proofs.Lines.{past-told, went-on, here, on-by, ahead-of}
+use Rattle.digits.specs.Digits.{between, Stands, Without, IsField, FieldTo}
 use Rattle.digits.proofs.Digits.{parted}
-use Rattle.plain_lines.specs.Plain.{Begins, rowWith, PlainLine, MayRead, ThreeAt}
+use Rattle.plain_lines.specs.Plain.{Opens, LetterEntry, Begins, Lettered, Listed, rowWith, PlainLine, MayRead, ThreeAt}
 
 -- ---- a byte
 
@@ -158,19 +161,39 @@ dash-field most {s} {at} h = let z : at + 1 - at ≡ suc 0 = omega arith in rw (
 
 -- ---- what stands behind what was read
 
--- a test told that something was read, and another told that a byte stands behind it
-pub read-to : {b e : ℕ} {s : List ℕ} {t : Bool} (from : ℕ) → (t ≡ true → Stands b s e) → (leb e from || not t) ≡ false → (from < e) × Stands b s e
-read-to {b} {e} {s} {t} from k h = let z = or-false (leb e from) (not t) h in (leb-false e from (z .0), k (not-false t (z .1)))
+-- a return lies in front of a line end, so a byte stands behind it
+pub returns-on : {most : ℕ} {s : List ℕ} {at end stop : ℕ} {f : Slot} → ((stop ≡ 26 → ⊥) → FieldTo most s at end stop f) → stop ≡ 25 → end + 1 < length s
+returns-on read e = let r = read (λ z. omega arith) in here (on-by (r .ahead) (r .stops) (λ z. omega arith))
 
-pub behind : (s : List ℕ) (from e b : ℕ) → (leb e from || not (eqb (getD s e 0) b)) ≡ false → e < length s → (from < e) × Stands b s e
-behind s from e b h l = read-to from (λ w. record { within = l; byte = eqb-true (getD s e 0) b w }) h
+module _ {most : ℕ} {s : List ℕ} {at end stop : ℕ} {f : Slot} (read : (stop ≡ 26 → ⊥) → FieldTo most s at end stop f) where
+  -- a comma
+  pub record Parted : Type 0 where
+    pub field : FieldTo most s at end stop f
+    pub comma : Stands 44 s end
+    pub ahead : Ahead s (end + 1)
 
--- the same of an ending, which is passed
-pub ended-to : {s : List ℕ} {e next : ℕ} (from : ℕ) → PastEnding s e next → (leb e from || eqb next e) ≡ false → (from < e) × (next ≤ length s) × Ending s e next
-ended-to {s} {e} {next} from p h =
-    let z = or-false (leb e from) (eqb next e) h in
-    let g = went-on p (eqb-false next e (z .1)) in
-    (leb-false e from (z .0), p .within g, p .ending g)
+  pub parted-by : stop ≡ 10 → Parted
+  parted-by e = let r = read (λ z. omega arith) in record {
+    field = r;
+    comma = record { within = here (r .ahead); byte = comma-entry (getD s end 0) (sym (r .stops) ∙ e) };
+    ahead = on-by (r .ahead) (r .stops) (λ z. omega arith);
+  }
+
+  -- an ending, which is passed
+  pub record Ended (next : ℕ) : Type 0 where
+    pub field : FieldTo most s at end stop f
+    pub within : next ≤ length s
+    pub ending : Ending s end next
+
+  pub ended-by : {next : ℕ} → next ≡ pastBy stop s end → (next ≡ end → ⊥) → Ended next
+  ended-by {next} e d =
+      let r = read (λ z. d (e ∙ none-told z)) in
+      let p : PastEnding s end next = rw e (past-told s end (r .stops) (here (r .ahead)) (returns-on read)) in
+      let g = went-on p d in
+      record { field = r; within = p .within g; ending = p .ending g }
+    where
+      none-told : stop ≡ 26 → pastBy stop s end ≡ end
+      none-told z = unfold pastBy in (rw z)
 
 -- ---- a line that is read, and one of another form
 
@@ -182,3 +205,38 @@ stays h = record { within = omega arith; line = λ l. absurd (omega arith) }
 
 pub stays-three : {most : ℕ} {s : List ℕ} {at : ℕ} → at < length s → ThreeAt most s at (record { a = 0; b = Absent; c = Absent; next = at })
 stays-three h = record { read = stays h; second = λ l. absurd (omega arith); third = λ l. absurd (omega arith) }
+
+-- ---- the first two bytes of a line
+
+pub opens-by : (b : ℕ) {e : ℕ} → LetterEntry e → entryOf b ≡ e → Opens b
+unfolding isA
+opens-by b l q = record { comma = rw (← class-named b, q) (l .comma); end = rw (← class-named b, q) (l .end); return = rw (← class-named b, q) (l .return) }
+
+-- what the entries at a cursor tell, where they tell anything
+module _ (s : List ℕ) (c : Cursor) {o : Opening} (t : EndedTo s (c .ended)) (q : o ≡ openingOf s c) (d : o .letter ≡ 26 → ⊥) where
+  pub record Opened : Type 0 where
+    pub within : c .at + 1 < c .ended
+    pub letter : o .letter ≡ entryOf (getD s (c .at) 0)
+    pub behind : o .behind ≡ entryOf (getD s (c .at + 1) 0)
+
+  pub opened : Opened
+  opened = go (ltb (c .at + 1) (c .ended)) refl
+    where
+      go : (b : Bool) → ltb (c .at + 1) (c .ended) ≡ b → Opened
+      go true e = record { within = ltb-true _ _ e; letter = ap (λ (z : Opening). z .letter) q ∙ rw e; behind = ap (λ (z : Opening). z .behind) q ∙ rw e }
+      go false e = absurd (d (ap (λ (z : Opening). z .letter) q ∙ rw e))
+
+  begins : LetterEntry (o .letter) → Begins s (c .at)
+  begins l = record { within = omega (arith, opened .within, t .within); letter = opens-by (getD s (c .at) 0) l (sym (opened .letter)) }
+
+  pub lettered : LetterEntry (o .letter) → Lettered s (c .at) (o .behind)
+  lettered l = record { begins = begins l; told = opened .behind; ahead = ahead-of t (c .at + 1) (opened .within) }
+
+  pub listed : LetterEntry (o .letter) → o .behind ≡ 10 → Listed s (c .at)
+  listed l e =
+      let a = ahead-of t (c .at + 1) (opened .within) in
+      let n : c .at + 1 + 1 ≡ c .at + 2 = omega arith in record {
+        begins = begins l;
+        comma = record { within = here a; byte = comma-entry (getD s (c .at + 1) 0) (sym (opened .behind) ∙ e) };
+        ahead = rw n at (on-by a (opened .behind) (λ z. omega arith));
+      }

@@ -12,30 +12,20 @@ use Rattle.spec.specs.declared.Class.the-variants.{Comma, LineEnd, Return}
 use Rattle.line_forms.specs.declared.Slot.{Slot}
 use Rattle.line_forms.specs.declared.Slot.the-variants.{Number, Absent}
 use Rattle.line_forms.specs.declared.Row.{Row}
-use Rattle.digits.specs.Digits.{between, IsField}
+use Rattle.spec.specs.Classes.{alike}
+use Rattle.byte_entries.specs.Entries.{entryOf, classBy}
+use Rattle.lines.specs.Lines.{Ahead}
+use Rattle.digits.specs.Digits.{Stands, FieldTo}
 use Rattle.plain_lines.specs.declared.FieldFrom.{FieldFrom}
 use Rattle.plain_lines.specs.declared.One.{One}
 use Rattle.plain_lines.specs.declared.Two.{Two}
 use Rattle.plain_lines.specs.declared.Three.{Three}
 
--- the bytes of the longest lines of two and of three fields, where a number has four digits and the ending two bytes
-abbrev pub longestTwo : ℕ
-longestTwo = 13
-
-abbrev pub longestThree : ℕ
-longestThree = 18
-
--- the number or the dash that starts at a position, if there is one
+-- the number or the dash that starts at a position, if there is one: the entry 26 says that there may be none
 pub record ReadsField (most : ℕ) (s : List ℕ) (at : ℕ) (r : FieldFrom) : Type 0 where
-  pub start : at ≤ r .end
   pub within : r .end ≤ length s
-  pub field : at < r .end → IsField most (between s at (r .end)) (r .field)
-  pub kind : at < r .end → aNumberOrDash (r .field) ≡ true
-
--- the same of a number of up to four digits or a dash, wherever so many are allowed
-pub record FieldInside (s : List ℕ) (at : ℕ) (r : FieldFrom) : Type 0 where
-  pub few : r .end ≤ at + 4
-  pub read : (most : ℕ) → 4 ≤ most → ReadsField most s at r
+  pub field : (r .stop ≡ 26 → ⊥) → FieldTo most s at (r .end) (r .stop) (r .field)
+  pub kind : aNumberOrDash (r .field) ≡ true
 
 -- a byte that is neither a comma nor one of an ending
 pub record Opens (b : ℕ) : Type 0 where
@@ -43,10 +33,28 @@ pub record Opens (b : ℕ) : Type 0 where
   pub end : isA LineEnd b ≡ false
   pub return : isA Return b ≡ false
 
+-- the entry of such a byte
+pub record LetterEntry (e : ℕ) : Type 0 where
+  pub comma : alike (classBy e) Comma ≡ false
+  pub end : alike (classBy e) LineEnd ≡ false
+  pub return : alike (classBy e) Return ≡ false
+
 -- a line begins with such a byte at a position
 pub record Begins (s : List ℕ) (at : ℕ) : Type 0 where
   pub within : at < length s
   pub letter : Opens (getD s at 0)
+
+-- such a byte, the entry of what stands behind it, and a line end from there on
+pub record Lettered (s : List ℕ) (at behind : ℕ) : Type 0 where
+  pub begins : Begins s at
+  pub told : behind ≡ entryOf (getD s (at + 1) 0)
+  pub ahead : Ahead s (at + 1)
+
+-- such a byte, a comma, and a line end from there on
+pub record Listed (s : List ℕ) (at : ℕ) : Type 0 where
+  pub begins : Begins s at
+  pub comma : Stands 44 s (at + 1)
+  pub ahead : Ahead s (at + 2)
 
 -- a letter and these fields as a row
 abbrev pub rowWith : Class → List Slot → Row

@@ -17,7 +17,7 @@ use Rattle.spec.specs.Printing.{NetAndLog, isParting, withNetLine, parted}
 use Rattle.spec.specs.declared.Class.the-variants.{LineEnd, Return}
 use Rattle.lists.specs.Laws.{and-true, count-cons}
 use Rattle.lists.specs.Along.{take-more, rest-at}
-use Rattle.byte_classes.proofs.Classes.{line-end, return-byte}
+use Rattle.byte_entries.proofs.Classes.{line-end, return-byte}
 use Rattle.bytes.specs.Counts.{countOf}
 use Rattle.lines.specs.Lines.{Ending, ten, return-ten, pastEnding, PastEnding}
 use Rattle.program_input.specs.Parts.{startsAt, partsAt, partedFrom, withByte, inFront, Running, PartedAt}

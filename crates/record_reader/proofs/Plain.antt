@@ -1,28 +1,37 @@
 -- Lines of a record text, by their rows, and what plain lines enter.
-use Prim.Native.Nat.{ℕ, _-_, _<_}
-use mathlib.Core.Path.{_≡_, refl, sym, subst, _∙_}
+use Prim.Native.Nat.{ℕ, _-_, _≤_, _<_}
+use mathlib.Core.Path.{_≡_, refl, sym, _∙_}
 use mathlib.Core.Bool.{Bool, true, false}
-use mathlib.Core.Logic.{inl, inr}
+use mathlib.Core.Logic.{_⊎_, inl, inr}
 use mathlib.Core.List.{List, [], _∷_}
+use native.Mathlib.Omega.{arith}
 use lib.ListN.{getD, drop, take}
+use lib.Dec.{lit<}
+use borrow.Author.Tests.{eqb-true}
 use Rattle.spec.specs.Answer.{Answer, refuses}
-use Rattle.spec.specs.Text.{named, inDigits, classOf, isA, mostDigits}
+use Rattle.spec.specs.Text.{named, inDigits, classOf, mostDigits}
 use Rattle.spec.specs.Net.{Net}
 use Rattle.spec.specs.Record.{RunRecord}
 use Rattle.spec.specs.Checking.{conditionOf, markIn, enterEvent, enterCondition, enterMark, enterLine}
 use Rattle.spec.specs.Forms.{isLine}
 use Rattle.line_forms.specs.Rows.{aNumberOrDash, rowOf, isOne, isTwo, isThree}
 use Rattle.line_forms.proofs.Ties.{one-line, two-line, three-line, event-at, number-at}
-use Rattle.spec.specs.Classes.{alike}
+use Rattle.spec.specs.Classes.{classCode, alike}
+use Rattle.spec.specs.declared.Class.{Class}
+use Rattle.spec.specs.declared.Class.the-variants.{LetterE, LetterC, LetterB, LetterA, LetterR}
 use Rattle.spec.specs.declared.Limits.{Limits}
-use Rattle.spec.specs.declared.MarkKind.the-variants.{Before, After, Read}
 use Rattle.line_forms.specs.declared.Slot.{Slot}
 use Rattle.line_forms.specs.declared.Slot.the-variants.{Number}
-use Rattle.lines.specs.Lines.{lineOf, LineAt}
+use Rattle.lists.specs.Laws.{and-true}
+use Rattle.byte_entries.specs.Entries.{codeOf, entryOf, classBy}
+use Rattle.byte_entries.proofs.Classes.{entry-class}
+use Rattle.lines.specs.Lines.{lineOf, LineAt, EndedTo, openingOf, opensWith}
+use Rattle.lines.specs.declared.Cursor.{Cursor}
+use Rattle.lines.specs.declared.Opening.{Opening}
 use Rattle.lines.specs.declared.Span.{Span}
 use Rattle.lines.proofs.Lines.{line-to}
-use Rattle.plain_lines.specs.Plain.{Opens, PlainLine, MayRead}
-use Rattle.plain_lines.proofs.Plain.{plain-to}
+use Rattle.plain_lines.specs.Plain.{LetterEntry, Listed, rowWith, PlainLine, MayRead}
+use Rattle.plain_lines.proofs.Plain.{plain-to, opened, listed}
 use Rattle.record_columns.specs.Enters.{Enters, conditionIn, markOf}
 use Rattle.record_columns.proofs.Answers.{entered-same}
 use Rattle.record_reader.specs.Reads.{Declares, Takes, MarkLetter, kindBy, enterRow}
@@ -49,58 +58,72 @@ module _ (lim : Limits) (k : ℕ) (b : List ℕ) (N : Net) (R : RunRecord) where
 
 -- ---- plain lines
 
-pub opens-event : Opens 69
-unfolding isA alike classOf named inDigits
-opens-event = record { comma = refl; end = refl; return = refl }
+-- the letters of a record may begin a line
+event-entry : LetterEntry 19
+unfolding alike classBy
+event-entry = record { comma = refl; end = refl; return = refl }
 
-pub opens-condition : Opens 67
-unfolding isA alike classOf named inDigits
-opens-condition = record { comma = refl; end = refl; return = refl }
+condition-entry : LetterEntry 20
+unfolding alike classBy
+condition-entry = record { comma = refl; end = refl; return = refl }
 
-opens-before : Opens 66
-unfolding isA alike classOf named inDigits
-opens-before = record { comma = refl; end = refl; return = refl }
+mark-entry : {o : Opening} → MarkLetter o → LetterEntry (o .letter)
+unfolding alike classBy
+mark-entry {o} m = go (m .letter)
+  where
+    go : (o .letter ≡ 21) ⊎ (o .letter ≡ 22) ⊎ (o .letter ≡ 24) → LetterEntry (o .letter)
+    go (inl q) = rw q (record { comma = refl; end = refl; return = refl })
+    go (inr (inl q)) = rw q (record { comma = refl; end = refl; return = refl })
+    go (inr (inr q)) = rw q (record { comma = refl; end = refl; return = refl })
 
-opens-after : Opens 65
-unfolding isA alike classOf named inDigits
-opens-after = record { comma = refl; end = refl; return = refl }
+mark-tells : {o : Opening} → MarkLetter o → o .letter ≡ 26 → ⊥
+mark-tells {o} m z = go (m .letter)
+  where
+    go : (o .letter ≡ 21) ⊎ (o .letter ≡ 22) ⊎ (o .letter ≡ 24) → ⊥
+    go (inl q) = omega arith
+    go (inr (inl q)) = omega arith
+    go (inr (inr q)) = omega arith
 
-opens-read : Opens 82
-unfolding isA alike classOf named inDigits
-opens-read = record { comma = refl; end = refl; return = refl }
+-- such a letter and a comma stand at a position, with a line end ahead
+abbrev pub BeginsWith : List ℕ → ℕ → ℕ → Type 0
+BeginsWith s at e = Listed s at × (entryOf (getD s at 0) ≡ e)
 
-pub opens-mark : {x : ℕ} → MarkLetter x → Opens x
-opens-mark (inl e) = subst Opens (sym e) opens-before
-opens-mark (inr (inl e)) = subst Opens (sym e) opens-after
-opens-mark (inr (inr e)) = subst Opens (sym e) opens-read
+-- an opening that tells them
+module _ (s : List ℕ) (c : Cursor) {o : Opening} (t : EndedTo s (c .ended)) (q : o ≡ openingOf s c) where
+  begins-with : {e : ℕ} → LetterEntry e → (e ≡ 26 → ⊥) → o .letter ≡ e → o .behind ≡ 10 → BeginsWith s (c .at) e
+  begins-with {e} l d h k = let z : o .letter ≡ 26 → ⊥ = λ x. d (sym h ∙ x) in (listed s c t q z (rw h l) k, sym (opened s c t q z .letter) ∙ h)
+
+  pub begins-event : opensWith 19 o ≡ true → BeginsWith s (c .at) 19
+  begins-event h = let z = and-true _ _ h in begins-with event-entry (λ x. omega arith) (eqb-true _ _ (z .0)) (eqb-true _ _ (z .1))
+
+  pub begins-condition : opensWith 20 o ≡ true → BeginsWith s (c .at) 20
+  begins-condition h = let z = and-true _ _ h in begins-with condition-entry (λ x. omega arith) (eqb-true _ _ (z .0)) (eqb-true _ _ (z .1))
+
+  pub begins-mark : MarkLetter o → BeginsWith s (c .at) (o .letter)
+  begins-mark m = begins-with (mark-entry m) (mark-tells m) refl (m .comma)
 
 module _ (lim : Limits) (k : ℕ) {text : List ℕ} {i next : ℕ} (N : Net) (R : RunRecord) where
-  pub event-line : {t : ℕ} (l : PlainLine 4 text i next (Number t ∷ [])) → getD text i 0 ≡ 69 → enterLine lim N k (lineOf (l .bytes) true) R ≡ enterEvent lim N k t R
-  unfolding enterRow isOne isTwo isThree alike classOf named inDigits
-  event-line l e = row-entered lim k (l .bytes) N R ∙ rw (l .row, e)
+  pub event-line : {t : ℕ} (l : PlainLine 4 text i next (Number t ∷ [])) → entryOf (getD text i 0) ≡ 19 → enterLine lim N k (lineOf (l .bytes) true) R ≡ enterEvent lim N k t R
+  unfolding enterRow isOne isTwo isThree alike
+  event-line l e = row-entered lim k (l .bytes) N R ∙ rw (l .row, entry-class (getD text i 0) LetterE (lit< tt) e)
 
-  pub condition-line : {p : ℕ} {x y : Slot} (l : PlainLine 4 text i next (Number p ∷ x ∷ y ∷ [])) → aNumberOrDash x ≡ true → aNumberOrDash y ≡ true → getD text i 0 ≡ 67
+  pub condition-line : {p : ℕ} {x y : Slot} (l : PlainLine 4 text i next (Number p ∷ x ∷ y ∷ [])) → aNumberOrDash x ≡ true → aNumberOrDash y ≡ true → entryOf (getD text i 0) ≡ 20
       → enterLine lim N k (lineOf (l .bytes) true) R ≡ enterCondition lim N k (conditionIn p x y) R
-  unfolding enterRow isOne isTwo isThree alike classOf named inDigits
-  condition-line l u v e = row-entered lim k (l .bytes) N R ∙ rw (l .row, e, u, v)
+  unfolding enterRow isOne isTwo isThree alike
+  condition-line l u v e = row-entered lim k (l .bytes) N R ∙ rw (l .row, entry-class (getD text i 0) LetterC (lit< tt) e, u, v)
 
-  module _ {a b : ℕ} (l : PlainLine 4 text i next (Number a ∷ Number b ∷ [])) where
-    pub before-line : getD text i 0 ≡ 66 → enterLine lim N k (lineOf (l .bytes) true) R ≡ enterMark lim k (markOf Before a b) R
-    unfolding enterRow isOne isTwo isThree alike classOf named inDigits
-    before-line e = row-entered lim k (l .bytes) N R ∙ rw (l .row, e)
+  pub mark-line : {a b : ℕ} {o : Opening} (l : PlainLine 4 text i next (Number a ∷ Number b ∷ [])) → entryOf (getD text i 0) ≡ o .letter → MarkLetter o
+      → enterLine lim N k (lineOf (l .bytes) true) R ≡ enterMark lim k (markOf (kindBy (o .letter)) a b) R
+  unfolding enterRow isOne isTwo isThree alike
+  mark-line {a} {b} {o} l e m = go (m .letter)
+    where
+      by-class : (c : Class) → 1 ≤ classCode c → entryOf (getD text i 0) ≡ codeOf c → enterLine lim N k (lineOf (l .bytes) true) R ≡ enterRow lim N k (rowWith c (Number a ∷ Number b ∷ [])) R
+      by-class c h q = row-entered lim k (l .bytes) N R ∙ rw (l .row, entry-class (getD text i 0) c h q)
 
-    pub after-line : getD text i 0 ≡ 65 → enterLine lim N k (lineOf (l .bytes) true) R ≡ enterMark lim k (markOf After a b) R
-    unfolding enterRow isOne isTwo isThree alike classOf named inDigits
-    after-line e = row-entered lim k (l .bytes) N R ∙ rw (l .row, e)
-
-    pub read-line : getD text i 0 ≡ 82 → enterLine lim N k (lineOf (l .bytes) true) R ≡ enterMark lim k (markOf Read a b) R
-    unfolding enterRow isOne isTwo isThree alike classOf named inDigits
-    read-line e = row-entered lim k (l .bytes) N R ∙ rw (l .row, e)
-
-    pub mark-line : MarkLetter (getD text i 0) → enterLine lim N k (lineOf (l .bytes) true) R ≡ enterMark lim k (markOf (kindBy (getD text i 0)) a b) R
-    mark-line (inl e) = before-line e ∙ rw e refl
-    mark-line (inr (inl e)) = after-line e ∙ rw e refl
-    mark-line (inr (inr e)) = read-line e ∙ rw e refl
+      go : (o .letter ≡ 21) ⊎ (o .letter ≡ 22) ⊎ (o .letter ≡ 24) → enterLine lim N k (lineOf (l .bytes) true) R ≡ enterMark lim k (markOf (kindBy (o .letter)) a b) R
+      go (inl q) = by-class LetterB (lit< tt) (e ∙ q) ∙ rw q
+      go (inr (inl q)) = by-class LetterA (lit< tt) (e ∙ q) ∙ rw q
+      go (inr (inr q)) = by-class LetterR (lit< tt) (e ∙ q) ∙ rw q
 
 -- ---- a line that is entered
 

@@ -19,6 +19,7 @@ use Rattle.spec.specs.declared.MarkKind.the-variants.{Before, After, Read}
 use Rattle.spec.specs.declared.Limits.{Limits}
 use Rattle.lines.specs.Agree.{Agrees}
 use Rattle.lines.specs.Lines.{LineTo}
+use Rattle.lines.specs.declared.Opening.{Opening}
 use Rattle.record_columns.specs.declared.Bounds.{Bounds}
 use Rattle.record_columns.specs.declared.Counts.{Counts}
 use Rattle.record_columns.specs.declared.RecordRead.{RecordRead}
@@ -62,12 +63,14 @@ pub record Takes (b : Bounds) (text : List ℕ) (at k : ℕ) (s : Counts) (old w
   pub found : LineTo text at (r .next)
   pub enters : EntersLine b k (found .line) s old words (r .step) new words′
 
--- the letters B, A and R, and their kinds
-abbrev pub MarkLetter : ℕ → Type 0
-MarkLetter b = (b ≡ 66) ⊎ ((b ≡ 65) ⊎ (b ≡ 82))
+-- a line begins with a letter of marks, B, A or R, and a comma
+pub record MarkLetter (o : Opening) : Type 0 where
+  pub letter : (o .letter ≡ 21) ⊎ (o .letter ≡ 22) ⊎ (o .letter ≡ 24)
+  pub comma : o .behind ≡ 10
 
+-- the kind of mark that a letter of marks stands for, by its entry
 abbrev pub kindBy : ℕ → MarkKind
-kindBy b = cond (eqb b 65) After (cond (eqb b 82) Read Before)
+kindBy e = cond (eqb e 22) After (cond (eqb e 24) Read Before)
 
 -- the answer is the paper's, and where it is a record the bytes and words hold it
 abbrev pub ReadsRecord : Bounds → List ℕ → RecordRead → List ℕ → List ℕ → Type 0

@@ -3,18 +3,32 @@ ghost use mathlib.Core.Path.{_≡_};
 ghost use mathlib.Core.Bool.{true};
 ghost use Prim.Native.Nat.{_≤_, _<_};
 ghost use lib.ListN.{length};
-ghost use Rattle.lines.specs.Lines.{lineOf};
+ghost use Rattle.byte_classes.specs.Table.{byteTable};
+ghost use Rattle.lines.specs.Lines.{EndedTo};
 ghost use Rattle.record_columns.specs.Layout.{recordBytes};
-ghost use Rattle.record_columns.specs.Enters.{Room, Fits, Spans};
-ghost use Rattle.record_reader.specs.Reads.{Blank, EntersRow, EntersLine, Takes, MarkLetter, kindBy};
+ghost use Rattle.record_columns.specs.Enters.{Room, Fits, Spans, conditionIn, EntersCondition};
+ghost use Rattle.record_reader.specs.Reads.{Blank, EntersRow, Takes, MarkLetter, kindBy};
 ghost use Rattle.record_reader.specs.Reads.{ReadsRecord, MarksFit};
+use byte_classes::byte_table;
+use byte_entries::COMMA;
+use byte_entries::LETTER_A;
+use byte_entries::LETTER_B;
+use byte_entries::LETTER_C;
+use byte_entries::LETTER_E;
+use byte_entries::LETTER_R;
 use fields::row_of;
 use line_forms::Row;
 use line_forms::is_one;
 use line_forms::is_three;
 use line_forms::is_two;
 use line_forms::number_in;
+use lines::Cursor;
+use lines::Opening;
+use lines::ended_to;
 use lines::line_at;
+use lines::open_at;
+use lines::opens_with;
+use plain_lines::Three;
 use plain_lines::one_at;
 use plain_lines::three_at;
 use plain_lines::two_at;
@@ -67,115 +81,110 @@ fn enter_row(
     refused(RecordRefusal::Malformed(k), s)
 }
 
-// A line is entered, if it is ended.
-fn enter_line(
-    b: Bounds,
-    k: usize,
-    l: &[u8],
-    ended: bool,
-    s: Counts,
-    rec: &mut [u8],
-    marks: &mut [u64],
-) -> RecordRead
-    requires { ⌜ Room b × Fits s (now rec) × Spans s (now marks) ⌝ }
-    ensures { λ r. ⌜ EntersLine b k (lineOf (now (l .entry)) ended) s (now (rec .entry)) (now (marks .entry)) r
-        (now (rec .exit)) (now (marks .exit)) ⌝ }
-{
-    if !ended {
-        return refused(RecordRefusal::Malformed(k), s);
-    }
-    enter_row(b, k, row_of(4, l), s, rec, marks)
-}
-
 // A line that was entered, and where the next one starts.
 pub struct Took {
     pub step: RecordRead,
     pub next: usize,
 }
 
-// Whether the letter is one of the three kinds of marks.
-fn mark_letter(b: u8) -> bool
-    ensures { λ r. ⌜ (r ≡ true → MarkLetter b) ⌝ }
+// Whether a line begins with the letter of one of the three kinds of marks, and a comma.
+fn mark_letter(o: Opening) -> bool
+    ensures { λ r. ⌜ (r ≡ true → MarkLetter o) ⌝ }
 {
-    (b == b'B') | (b == b'A') | (b == b'R')
+    (o.behind == COMMA) & ((o.letter == LETTER_B) | (o.letter == LETTER_A) | (o.letter == LETTER_R))
 }
 
 // The kind of mark that a letter of the three stands for.
-fn kind_of(b: u8) -> MarkKind
-    ensures { λ r. ⌜ r ≡ kindBy b ⌝ }
+fn kind_of(letter: u8) -> MarkKind
+    ensures { λ r. ⌜ r ≡ kindBy letter ⌝ }
 {
-    if b == b'A' {
+    if letter == LETTER_A {
         return MarkKind::After;
     }
-    if b == b'R' {
+    if letter == LETTER_R {
         return MarkKind::Read;
     }
     MarkKind::Before
 }
 
-// The line that starts at a position is entered by the readers of lines and fields, whatever it is.
-fn enter_any(
-    b: Bounds,
-    k: usize,
-    text: &[u8],
-    at: usize,
-    s: Counts,
-    rec: &mut [u8],
-    marks: &mut [u64],
-) -> Took
-    requires { ⌜ (at < length (now text)) × Room b × Fits s (now rec) × Spans s (now marks) ⌝ }
-    ensures { λ r. ⌜ Takes b (now (text .entry)) at k s (now (rec .entry)) (now (marks .entry)) r
-        (now (rec .exit)) (now (marks .exit)) ⌝ }
+// The condition that a plain line names is entered.
+fn enter_three(b: Bounds, k: usize, f: Three, s: Counts, rec: &mut [u8]) -> RecordRead
+    requires { ⌜ Room b × Fits s (now rec) ⌝ }
+    ensures { λ r. ⌜ EntersCondition b k (conditionIn (f .a) (f .b) (f .c)) s (now (rec .entry)) r (now (rec .exit)) ⌝ }
 {
-    let line = line_at(text, at);
-    let end = line.end;
-    let step = enter_line(b, k, &text[at..end], line.ended, s, rec, marks);
-    Took {
-        step,
-        next: line.next,
-    }
+    let producer = f.b;
+    let consumer = f.c;
+    enter_condition(b, k, f.a, producer, consumer, s, rec)
 }
 
-// The line that starts at a position is entered. A plain line is read in one walk; any other goes to the readers of
-// lines and fields, and so does every malformed one.
-fn enter_at(
+// The line at a cursor is entered by the readers of lines and fields, whatever it is.
+fn enter_any(
+    table: &[u8; 256],
     b: Bounds,
-    k: usize,
     text: &[u8],
-    at: usize,
+    c: Cursor,
     s: Counts,
     rec: &mut [u8],
     marks: &mut [u64],
 ) -> Took
-    requires { ⌜ (at < length (now text)) × Room b × Fits s (now rec) × Spans s (now marks) ⌝ }
-    ensures { λ r. ⌜ Takes b (now (text .entry)) at k s (now (rec .entry)) (now (marks .entry)) r
+    requires { ⌜ (now table ≡ byteTable) × (c .at < length (now text)) × Room b × Fits s (now rec)
+        × Spans s (now marks) ⌝ }
+    ensures { λ r. ⌜ Takes b (now (text .entry)) (c .at) (c .line) s (now (rec .entry)) (now (marks .entry)) r
         (now (rec .exit)) (now (marks .exit)) ⌝ }
 {
-    let letter = text[at];
-    if mark_letter(letter) {
-        let f = two_at(4, text, at);
+    let k = c.line;
+    let at = c.at;
+    let line = line_at(table, text, at);
+    let next = line.next;
+    if !line.ended {
+        let step = refused(RecordRefusal::Malformed(k), s);
+        return Took { step, next };
+    }
+    let end = line.end;
+    let step = enter_row(b, k, row_of(table, 4, &text[at..end]), s, rec, marks);
+    Took { step, next }
+}
+
+// The line at a cursor is entered. A plain line is read in one walk; any other goes to the readers of lines and fields,
+// and so does every malformed one.
+fn enter_at(
+    table: &[u8; 256],
+    b: Bounds,
+    text: &[u8],
+    c: Cursor,
+    s: Counts,
+    rec: &mut [u8],
+    marks: &mut [u64],
+) -> Took
+    requires { ⌜ (now table ≡ byteTable) × (c .at < length (now text)) × EndedTo (now text) (c .ended) × Room b
+        × Fits s (now rec) × Spans s (now marks) ⌝ }
+    ensures { λ r. ⌜ Takes b (now (text .entry)) (c .at) (c .line) s (now (rec .entry)) (now (marks .entry)) r
+        (now (rec .exit)) (now (marks .exit)) ⌝ }
+{
+    let at = c.at;
+    let open = open_at(table, text, c);
+    if mark_letter(open) {
+        let f = two_at(table, 4, text, at);
         if at < f.next {
-            let step = enter_mark(b, kind_of(letter), k, f.a, f.b, s, marks);
+            let step = enter_mark(b, kind_of(open.letter), c.line, f.a, f.b, s, marks);
             return Took { step, next: f.next };
         }
     }
-    if letter == b'C' {
-        let f = three_at(4, text, at);
+    if opens_with(LETTER_C, open) {
+        let f = three_at(table, 4, text, at);
         if at < f.next {
-            let producer = f.b;
-            let consumer = f.c;
-            let step = enter_condition(b, k, f.a, producer, consumer, s, rec);
+            let step = enter_three(b, c.line, f, s, rec);
             return Took { step, next: f.next };
         }
     }
-    if letter == b'E' {
-        let f = one_at(4, text, at);
+    if opens_with(LETTER_E, open) {
+        let f = one_at(table, 4, text, at);
         if at < f.next {
-            let step = enter_event(b, k, f.a, s, rec);
+            let step = enter_event(b, c.line, f.a, s, rec);
             return Took { step, next: f.next };
         }
     }
-    enter_any(b, k, text, at, s, rec, marks)
+    enter_any(table, b, text, c, s, rec, marks)
 }
 
 // The record that a text declares, in bytes and in words for its marks that are all zero before.
@@ -184,6 +193,8 @@ pub fn read_record(b: Bounds, text: &[u8], rec: &mut [u8], marks: &mut [u64]) ->
     ensures { λ r. ⌜ ReadsRecord b (now (text .entry)) r (now (rec .exit)) (now (marks .exit))
         × MarksFit r (now (marks .exit)) ⌝ }
 {
+    let table = byte_table();
+    let ended = ended_to(&table, text);
     let mut s = Counts {
         events: 0,
         conditions: 0,
@@ -192,7 +203,8 @@ pub fn read_record(b: Bounds, text: &[u8], rec: &mut [u8], marks: &mut [u64]) ->
     let mut k: usize = 1;
     let mut at: usize = 0;
     while at < text.len() {
-        let took = enter_at(b, k, text, at, s, rec, marks);
+        let line = Cursor { line: k, at, ended };
+        let took = enter_at(&table, b, text, line, s, rec, marks);
         let step = took.step;
         let answer = step.answer;
         s = step.counts;

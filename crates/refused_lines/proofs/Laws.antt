@@ -16,7 +16,7 @@ use Rattle.spec.specs.Answer.{gives, refuses, _>>_, refuse_at_when_, found, ret
 use Rattle.spec.specs.LineParts.{partsFrom, lineAt, chosenText, refusedLine, partOf}
 use Rattle.spec.specs.declared.Class.the-variants.{LineEnd}
 use Rattle.lists.specs.Laws.{count-true, count-false, count-cons, count-same}
-use Rattle.byte_classes.proofs.Classes.{line-end}
+use Rattle.byte_entries.proofs.Classes.{line-end}
 use Rattle.bytes.specs.Counts.{chunk, countOf}
 use Rattle.lines.specs.Lines.{RawLineAt, LineAt}
 use Rattle.lines.specs.declared.Span.{Span}

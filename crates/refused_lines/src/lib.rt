@@ -6,10 +6,13 @@ ghost use Rattle.spec.specs.Answer.{returned};
 ghost use Rattle.spec.specs.LineParts.{refusedLine, partOf};
 ghost use Rattle.spec.specs.Values.{lineValues};
 ghost use Rattle.refused_lines.specs.Shown.{Running, Finds, FindsChosen, answerOf, placeOf};
+use byte_classes::LINE_END_BYTE;
+use byte_classes::byte_table;
+use byte_classes::end_of;
+use byte_entries::LINE_END;
 use bytes::CHUNK;
 use bytes::count_at;
 use lines::line_at;
-use lines::raw_line_at;
 
 // From where to where a line goes in its text, without its end.
 pub enum Found {
@@ -30,7 +33,8 @@ pub struct Place {
 }
 
 // A position in front of the line with a number. 128 bytes are passed over at a time, as long as they have fewer line
-// ends than are left: the line then starts behind them.
+// ends than are left: the line then starts behind them. They are counted by the byte that the table's text names, since no
+// machine looks up many bytes at once in a table.
 fn skip(text: &[u8], line: usize) -> Place
     requires { ⌜ 0 < line ⌝ }
     ensures { λ r. ⌜ Running (now (text .entry)) line (r .left) (r .at) ⌝ }
@@ -38,7 +42,7 @@ fn skip(text: &[u8], line: usize) -> Place
     let mut left = line - 1;
     let mut at: usize = 0;
     while at + CHUNK <= text.len() {
-        let c = count_at(10, text, at);
+        let c = count_at(LINE_END_BYTE, text, at);
         if left <= c {
             break;
         }
@@ -55,17 +59,18 @@ fn find_line(text: &[u8], line: usize) -> Found
     if line == 0 {
         return Found::Nothing;
     }
+    let table = byte_table();
     let start = skip(text, line);
     let mut left = start.left;
     let mut at = start.at;
     while at < text.len() {
         if left == 0 {
-            let l = line_at(text, at);
+            let l = line_at(&table, text, at);
             return Found::At(at, l.end);
         }
-        let passed = raw_line_at(text, at);
+        let end = end_of(&table, LINE_END, text, at);
         left -= 1;
-        at = passed.next;
+        at = end + 1;
     }
     Found::Nothing
 }

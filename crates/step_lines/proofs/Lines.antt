@@ -10,16 +10,17 @@ use lib.ListN.{length}
 use borrow.Author.Tests.{lt-ltb, le-ltb, leb-false}
 use Rattle.spec.specs.Answer.{Answer, gives, refuses, _>>=_, _>>_, refuse_at_when_}
 use Rattle.spec.specs.Lists.{any}
-use Rattle.spec.specs.Text.{Line, mostDigits, named, inDigits, classOf, isA}
+use Rattle.spec.specs.Text.{Line, mostDigits, named, inDigits, classOf}
 use Rattle.spec.specs.Classes.{alike}
 use Rattle.line_forms.specs.Rows.{isList}
 use Rattle.line_forms.proofs.Ties.{list-line, list-some}
 use Rattle.spec.specs.Net.{Net}
 use Rattle.spec.specs.Building.{isStepLine}
 use Rattle.lists.specs.Laws
+use Rattle.byte_entries.specs.Entries.{classBy}
 use Rattle.lines.specs.Agree.{Agrees, giving, refusing}
 use Rattle.lines.specs.Lines.{lineOf}
-use Rattle.plain_lines.specs.Plain.{Opens}
+use Rattle.plain_lines.specs.Plain.{LetterEntry}
 use Rattle.number_lines.specs.Numbers.{Begins}
 use Rattle.number_lines.proofs.Lines.{few-known}
 use Rattle.arc_sets.specs.Sets.{HoldsArcs}
@@ -38,13 +39,13 @@ some-number : (l : Line) → isStepLine l ≡ true → 0 < length (numbersIn l)
 unfolding isStepLine
 some-number l e = list-some l "S" e
 
--- the letter of a step
-pub opens-step : Opens 83
-unfolding isA alike classOf named inDigits
-opens-step = record { comma = refl; end = refl; return = refl }
+-- the letter of a step, by its entry
+pub letter-step : LetterEntry 18
+unfolding alike classBy
+letter-step = record { comma = refl; end = refl; return = refl }
 
-pub list-step : (b : List ℕ) → isList mostDigits (classOf 83) b ≡ true → isStepLine (lineOf b true) ≡ true
-unfolding isStepLine alike classOf named inDigits
+pub list-step : (b : List ℕ) → isList mostDigits (classBy 18) b ≡ true → isStepLine (lineOf b true) ≡ true
+unfolding isStepLine alike classOf named inDigits classBy
 list-step b e = list-line "S" refl (lineOf b true) ∙ e
 
 -- ---- read

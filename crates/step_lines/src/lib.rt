@@ -2,12 +2,15 @@
 ghost use mathlib.Core.Path.{_≡_};
 ghost use Prim.Native.Nat.{_≤_, _<_};
 ghost use lib.ListN.{length};
-ghost use Rattle.lines.specs.Lines.{lineOf};
+ghost use Rattle.byte_classes.specs.Table.{byteTable};
+ghost use Rattle.lines.specs.Lines.{lineOf, EndedTo};
 ghost use Rattle.arc_sets.specs.Sets.{Within};
 ghost use Rattle.steps.specs.declared.StepAnswer.the-variants.{Goes, Refused};
 ghost use Rattle.steps.specs.Judged.{stepAnswer, countStep};
 ghost use Rattle.step_lines.specs.Lines.{Readable, ReadLine, ReadAt, LineAt};
 use arc_sets::SETS;
+use byte_entries::LETTER_S;
+use lines::Cursor;
 use lines::line_at;
 use number_lines::any_unknown;
 use number_lines::count_numbers;
@@ -52,40 +55,57 @@ fn going(count: usize, next: usize) -> StepLine
 }
 
 // Any line, read: 21 and 22. Its transitions go into an array, if it has room for them.
-fn any_line(l: &[u8], ended: bool, next: usize, x: Position, step: &mut [u8; STEP]) -> StepLine
-    requires { ⌜ Readable x (now step) ⌝ }
+fn any_line(
+    table: &[u8; 256],
+    l: &[u8],
+    ended: bool,
+    next: usize,
+    x: Position,
+    step: &mut [u8; STEP],
+) -> StepLine
+    requires { ⌜ (now table ≡ byteTable) × Readable x (now step) ⌝ }
     ensures { λ r. ⌜ (r .next ≡ next)
         × ReadLine (lineOf (now (l .entry)) ended) x (r .answer) (r .count) (now (step .exit)) ⌝ }
 {
-    if !is_step_line(l, ended) {
+    if !is_step_line(table, l, ended) {
         return refused(StepRefusal::Malformed(x.line), next);
     }
-    if any_unknown(l, x.transitions) {
+    if any_unknown(table, l, x.transitions) {
         return refused(StepRefusal::UnknownTransition(x.line), next);
     }
-    let count = count_numbers(l);
+    let count = count_numbers(table, l);
     if STEP < count {
         return going(count, next);
     }
-    *step = numbers(l);
+    *step = numbers(table, l);
     going(count, next)
 }
 
-// The line that starts at a position, read: a plain one is read in one walk.
-pub fn read_step(log: &[u8], at: usize, x: Position, step: &mut [u8; STEP]) -> StepLine
-    requires { ⌜ (at < length (now log)) × Readable x (now step) ⌝ }
-    ensures { λ r. ⌜ ReadAt (now (log .entry)) at x r (now (step .exit)) ⌝ }
+// The line at a cursor, read: a plain one, where a line end is ahead, is read in one walk.
+pub fn read_step(
+    table: &[u8; 256],
+    log: &[u8],
+    c: Cursor,
+    x: Position,
+    step: &mut [u8; STEP],
+) -> StepLine
+    requires { ⌜ (now table ≡ byteTable) × (c .at < length (now log)) × EndedTo (now log) (c .ended)
+        × Readable x (now step) ⌝ }
+    ensures { λ r. ⌜ ReadAt (now (log .entry)) (c .at) x r (now (step .exit)) ⌝ }
 {
-    let plain = list_at(b'S', log, at, step);
-    if at < plain.next {
-        if x.transitions <= plain.high {
-            return refused(StepRefusal::UnknownTransition(x.line), plain.next);
+    let at = c.at;
+    if at < c.ended {
+        let plain = list_at(table, LETTER_S, log, at, step);
+        if at < plain.next {
+            if x.transitions <= plain.high {
+                return refused(StepRefusal::UnknownTransition(x.line), plain.next);
+            }
+            return going(plain.count, plain.next);
         }
-        return going(plain.count, plain.next);
     }
-    let any = line_at(log, at);
+    let any = line_at(table, log, at);
     let end = any.end;
-    any_line(&log[at..end], any.ended, any.next, x, step)
+    any_line(table, &log[at..end], any.ended, any.next, x, step)
 }
 
 // So many events more: 23.
@@ -99,19 +119,22 @@ pub fn count_step(x: Position, count: usize) -> StepAnswer
     StepAnswer::Goes
 }
 
-// The line that starts at a position, at a marking: 21 to 25.
+// The line at a cursor, at a marking: 21 to 25.
 pub fn judge_line(
+    table: &[u8; 256],
     log: &[u8],
-    at: usize,
+    c: Cursor,
     sets: &[u64; SETS],
     x: Position,
     marking: &[u32; MARKING],
     step: &mut [u8; STEP],
 ) -> StepLine
-    requires { ⌜ (at < length (now log)) × Readable x (now step) × (x .places ≤ 32) × Within 32 (now sets) ⌝ }
-    ensures { λ r. ⌜ LineAt (now (log .entry)) at (now (sets .entry)) x (now (marking .entry)) r (now (step .exit)) ⌝ }
+    requires { ⌜ (now table ≡ byteTable) × (c .at < length (now log)) × EndedTo (now log) (c .ended)
+        × Readable x (now step) × (x .places ≤ 32) × Within 32 (now sets) ⌝ }
+    ensures { λ r. ⌜ LineAt (now (log .entry)) (c .at) (now (sets .entry)) x (now (marking .entry))
+        r (now (step .exit)) ⌝ }
 {
-    let read = read_step(log, at, x, step);
+    let read = read_step(table, log, c, x, step);
     let known = read.answer;
     if let StepAnswer::Refused(_) = known {
         return read;

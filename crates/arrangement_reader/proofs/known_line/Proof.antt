@@ -17,7 +17,7 @@ use Rattle.arrangement_reader.proofs.known_line.Statement.{statement}
 use Rattle.arrangement_reader.proofs.known_line.Tie as tie
 
 is-list-line-requires : tie.Need-is-list-line-requires
-is-list-line-requires c κs = tt
+is-list-line-requires c κs = c .before .pre .0
 
 line-known-requires : tie.Need-line-known-requires
 line-known-requires c κs = tt
@@ -26,7 +26,7 @@ returns : tie.Need-returns
 returns c =
     let i = c .before in
     let no = sym (group-line _ _) ∙ sym (i .before .is-list-line .ensures) ∙ not-true _ (i .if1 .taken) in
-    rw (c .line-known .ensures) (record { long = i .before .before .before .pre .1; on = refl; by = malformed refl no })
+    rw (c .line-known .ensures) (record { long = i .before .before .before .pre .2; on = refl; by = malformed refl no })
 
 -- behind the first test the line is a group line, and behind the second all its numbers are known
 formed : (i : tie.Else1) → let a = i .before .before .before .args in isGroupLine (lineOf (a .l .now) (a .ended)) ≡ true
@@ -37,7 +37,7 @@ all-known : (u : tie.Else2)
 all-known u = sym (u .before .any-unknown .ensures) ∙ u .if2 .left
 
 any-unknown-requires : tie.Need-any-unknown-requires
-any-unknown-requires c κs = tt
+any-unknown-requires c κs = c .before .before .before .pre .0
 
 line-known-requires-2 : tie.Need-line-known-requires-2
 line-known-requires-2 c κs = tt
@@ -48,13 +48,13 @@ returns-2 c =
     let i = u .before .before in
     rw (c .line-known2 .ensures)
     (record {
-      long = i .before .before .before .pre .1;
+      long = i .before .before .before .pre .2;
       on = refl;
       by = unknown refl (formed i) (sym (u .before .any-unknown .ensures) ∙ u .if2 .taken);
     })
 
 count-numbers-requires : tie.Need-count-numbers-requires
-count-numbers-requires c κs = tt
+count-numbers-requires c κs = c .before .before .before .before .before .pre .0
 
 line-known-requires-3 : tie.Need-line-known-requires-3
 line-known-requires-3 c κs = tt
@@ -66,7 +66,7 @@ returns-3 c =
     let i = u .before .before in
     rw (c .line-known3 .ensures)
     (record {
-      long = i .before .before .before .pre .1;
+      long = i .before .before .before .pre .2;
       on = refl;
       by = known refl (formed i) (all-known u) (m .count-numbers .ensures .0)
           (λ f. absurd (omega (arith, f .few, m .count-numbers .ensures .0, c .before .if3 .taken)));
@@ -77,7 +77,7 @@ numbers-requires c κs =
     let m = c .before in
     let u = m .before in
     let p = u .before .before .before .before .before .pre in
-    few-known 256 _ _ (omega (arith, m .count-numbers .ensures .0, c .if3 .left)) (all-known u) (omega (arith, p .0))
+    (p .0, few-known 256 _ _ (omega (arith, m .count-numbers .ensures .0, c .if3 .left)) (all-known u) (omega (arith, p .1)))
 
 line-known-requires-4 : tie.Need-line-known-requires-4
 line-known-requires-4 c κs = tt

@@ -12,22 +12,34 @@ use Rattle.arrangement_reader.proofs.read_lines.Statement.{statement}
 use Rattle.arrangement_reader.proofs.read_lines.Tie as tie
 
 abbrev Inv-loop : tie.InvT-loop
-Inv-loop text n stands₀ lined₀ events₀ k₀ at₀ stands lined events k at = (at ≤ length text + 1) × (length events ≡ 128) × Reading n text k at stands lined
+Inv-loop text n stands₀ lined₀ table ended events₀ k₀ at₀ stands lined events k at =
+    (at ≤ length text + 1) × (length events ≡ 128) × Reading n text k at stands lined
 
 abbrev μ-loop : tie.MeasureT-loop
-μ-loop text n stands₀ lined₀ events₀ k₀ at₀ stands lined events k at = length text + 1 - at
+μ-loop text n stands₀ lined₀ table ended events₀ k₀ at₀ stands lined events k at = length text + 1 - at
+
+byte-table-requires : tie.Need-byte-table-requires Inv-loop μ-loop
+byte-table-requires c κs = tt
+
+ended-to-requires : tie.Need-ended-to-requires Inv-loop μ-loop
+ended-to-requires c κs = c .before .byte-table .ensures
 
 loop-holds : tie.Need-loop-holds Inv-loop μ-loop
-loop-holds c = let p = c .before .pre in (omega arith, refl, begun _ (p .0) (p .1) (p .2))
+loop-holds c = let p = c .before .before .before .before .pre in (omega arith, refl, begun _ (p .0) (p .1) (p .2))
 
 known-at-requires : tie.Need-known-at-requires Inv-loop μ-loop
-known-at-requires c κs = let l = c .before .before in (c .before .loop-test .taken, l .loop .inv .2 .few, l .loop .inv .1)
+known-at-requires c κs =
+    let t = c .before .before in
+    let l = t .before in
+    let e = l .before in
+    let i = l .loop .inv in
+    (e .before .before .byte-table .ensures, t .loop-test .taken, e .ended-to .ensures, i .2 .few, i .1)
 
 goes-requires : tie.Need-goes-requires Inv-loop μ-loop
 goes-requires c κs = tt
 
 sub-read-to : tie.Need-sub-read-to Inv-loop μ-loop
-sub-read-to c = omega (arith, c .before .before .before .before .before .loop .inv .2 .stood .lines)
+sub-read-to c = omega (arith, c .before .before .before .before .before .before .loop .inv .2 .stood .lines)
 
 read-to-requires : tie.Need-read-to-requires Inv-loop μ-loop
 read-to-requires c κs = tt
@@ -37,7 +49,7 @@ returns c =
     let i = c .before in
     let a = i .before .before in
     rw (c .read-to .ensures)
-    (stop (a .before .before .before .loop .inv .2) (a .known-at .ensures)
+    (stop (a .before .before .before .before .loop .inv .2) (a .known-at .ensures)
     (sym (i .before .goes .ensures) ∙ not-true _ (i .if1 .taken)))
 
 -- behind the first test the line is one of known events
@@ -46,7 +58,7 @@ goes-on i = sym (i .before .goes .ensures) ∙ not-false _ (i .if1 .left)
 
 -- what is read so far, seen from there
 abbrev lines-of : (i : tie.Else1 Inv-loop μ-loop) → tie.At-loop Inv-loop μ-loop
-lines-of i = i .before .before .before .before .before
+lines-of i = i .before .before .before .before .before .before
 
 cast-enter-events : tie.Need-cast-enter-events Inv-loop μ-loop
 cast-enter-events c = let g = lines-of (c .before .before) .loop .inv .2 in omega (arith, lines-few (g .stood) (g .few))
@@ -100,8 +112,8 @@ loop-again c =
       turn (lines-of i .loop .inv .2) a (goes-on i) (e .enter-events .ensures) (j .if2 .left) (c .add-line .ensures),
     )
 
-sub-t25 : tie.Need-sub-t25 Inv-loop μ-loop
-sub-t25 c = let g = c .before .loop .inv .2 in omega (arith, g .stood .lines)
+sub-t31 : tie.Need-sub-t31 Inv-loop μ-loop
+sub-t31 c = let g = c .before .loop .inv .2 in omega (arith, g .stood .lines)
 
 sub-read-to-3 : tie.Need-sub-read-to-3 Inv-loop μ-loop
 sub-read-to-3 c = let g = c .before .loop .inv .2 in omega (arith, g .stood .lines)
@@ -113,4 +125,8 @@ returns-3 : tie.Need-returns-3 Inv-loop μ-loop
 returns-3 c = let l = c .before in rw (c .read-to3 .ensures) (done (l .before .loop .inv .2) (l .loop-test .left))
 
 pub read-lines-spec : {M : Type 1} → statement M
-read-lines-spec = tie.close (tie.spec Inv-loop μ-loop loop-holds known-at-requires goes-requires sub-read-to read-to-requires returns cast-enter-events enter-events-requires sub-read-to-2 read-to-requires-2 returns-2 add-line-requires add-k loop-less loop-again sub-t25 sub-read-to-3 read-to-requires-3 returns-3)
+read-lines-spec =
+    tie.close
+    (tie.spec Inv-loop μ-loop byte-table-requires ended-to-requires loop-holds known-at-requires goes-requires
+    sub-read-to read-to-requires returns cast-enter-events enter-events-requires sub-read-to-2 read-to-requires-2
+    returns-2 add-line-requires add-k loop-less loop-again sub-t31 sub-read-to-3 read-to-requires-3 returns-3)

@@ -2,7 +2,7 @@
 -- its place in that order (`place-is-code`).
 use mathlib.Core.Path.{sym, _∙_}
 use borrow.Author.Needs.{needs}
-use Rattle.byte_classes.proofs.Classes.{place-is-code}
+use Rattle.byte_classes.proofs.Tabulated.{place-is-code}
 use Rattle.byte_classes.proofs.class_code.Statement.{statement}
 use Rattle.byte_classes.proofs.class_code.Tie as tie
 

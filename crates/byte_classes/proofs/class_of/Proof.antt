@@ -1,174 +1,98 @@
--- `byte_classes::class_of` meets its contract: a byte that an arm names has, computed, that arm's class; the digits are the
--- range, and a byte that no arm names is named by no entry of the definition's list (`foreign`).
-use mathlib.Core.Path.{sym, ap, _∙_}
-use mathlib.Core.Logic.{⊎-elim}
+-- `byte_classes::class_of` meets its contract: what is below 10 is a digit, each number that an arm names is that of the
+-- arm's class, and a number that none names lies past the last of them (`past`).
+use Prim.Native.Nat.{ℕ, zero, suc, _+_, _-_, _≤_}
+use mathlib.Core.Path.{_≡_, sym, ap}
 use native.Mathlib.Omega.{arith}
-use Rattle.spec.specs.Text.{named, inDigits, classOf, digitOf, classAndDigit}
-use Rattle.byte_classes.proofs.Classes.{digit, foreign, not-below}
+use lib.ListN.{List·getD-eq-default}
+use borrow.Author.Tests.{lt-ltb, le-ltb}
+use Rattle.spec.specs.declared.Class.the-variants.{Foreign}
+use Rattle.byte_entries.specs.Entries.{classesBehind, classBy}
 use Rattle.byte_classes.proofs.class_of.Statement.{statement}
 use Rattle.byte_classes.proofs.class_of.Tie as tie
 
-plain-requires : tie.Need-plain-requires
-plain-requires c κs = tt
+-- c is none of the n numbers from i on, as the rest of a `match` has it, after X
+abbrev Nots : Type 0 → ℕ → ℕ → ℕ → Type 0
+Nots X c i zero = X
+Nots X c i (suc n) = Nots (X × (c ≡ i → ⊥)) c (suc i) n
 
-plain-requires-2 : tie.Need-plain-requires-2
-plain-requires-2 c κs = tt
+past : (X : Type 0) (c i n : ℕ) → (X → i ≤ c) → Nots X c i n → i + n ≤ c
+past X c i zero f h = omega (arith, f h)
+past X c i (suc n) f h = omega (arith, past (X × (c ≡ i → ⊥)) c (suc i) n (λ x. let m = x .1 in omega (arith, f (x .0))) h)
 
-plain-requires-3 : tie.Need-plain-requires-3
-plain-requires-3 c κs = tt
-
-plain-requires-4 : tie.Need-plain-requires-4
-plain-requires-4 c κs = tt
-
-plain-requires-5 : tie.Need-plain-requires-5
-plain-requires-5 c κs = tt
-
-plain-requires-6 : tie.Need-plain-requires-6
-plain-requires-6 c κs = tt
-
-plain-requires-7 : tie.Need-plain-requires-7
-plain-requires-7 c κs = tt
-
-plain-requires-8 : tie.Need-plain-requires-8
-plain-requires-8 c κs = tt
-
-plain-requires-9 : tie.Need-plain-requires-9
-plain-requires-9 c κs = tt
-
-plain-requires-10 : tie.Need-plain-requires-10
-plain-requires-10 c κs = tt
-
-plain-requires-11 : tie.Need-plain-requires-11
-plain-requires-11 c κs = tt
-
-plain-requires-12 : tie.Need-plain-requires-12
-plain-requires-12 c κs = tt
-
-plain-requires-13 : tie.Need-plain-requires-13
-plain-requires-13 c κs = tt
-
-plain-requires-14 : tie.Need-plain-requires-14
-plain-requires-14 c κs = tt
-
-plain-requires-15 : tie.Need-plain-requires-15
-plain-requires-15 c κs = tt
-
-plain-requires-16 : tie.Need-plain-requires-16
-plain-requires-16 c κs = tt
-
-plain-requires-17 : tie.Need-plain-requires-17
-plain-requires-17 c κs = tt
+foreign : (c : ℕ) → 26 ≤ c → classBy c ≡ Foreign
+unfolding classBy
+foreign c h = let l : 16 ≤ c - 10 = omega arith in rw (le-ltb c 10 (omega arith)) (List·getD-eq-default classesBehind Foreign l)
 
 returns : tie.Need-returns
-unfolding named inDigits classOf digitOf classAndDigit
-returns c = c .plain .ensures ∙ sym (ap classAndDigit (c .before .match .keys1))
+unfolding classBy
+returns c = sym (rw (lt-ltb _ 10 (c .if1 .taken)))
 
 returns-2 : tie.Need-returns-2
-unfolding named inDigits classOf digitOf classAndDigit
-returns-2 c = c .plain2 .ensures ∙ sym (ap classAndDigit (c .before .match .keys2))
+unfolding classBy
+returns-2 c = sym (ap classBy (c .match .keys1))
 
 returns-3 : tie.Need-returns-3
-unfolding named inDigits classOf digitOf classAndDigit
-returns-3 c = c .plain3 .ensures ∙ sym (ap classAndDigit (c .before .match .keys3))
+unfolding classBy
+returns-3 c = sym (ap classBy (c .match .keys2))
 
 returns-4 : tie.Need-returns-4
-unfolding named inDigits classOf digitOf classAndDigit
-returns-4 c = c .plain4 .ensures ∙ sym (ap classAndDigit (c .before .match .keys4))
+unfolding classBy
+returns-4 c = sym (ap classBy (c .match .keys3))
 
 returns-5 : tie.Need-returns-5
-unfolding named inDigits classOf digitOf classAndDigit
-returns-5 c = c .plain5 .ensures ∙ sym (ap classAndDigit (c .before .match .keys5))
+unfolding classBy
+returns-5 c = sym (ap classBy (c .match .keys4))
 
 returns-6 : tie.Need-returns-6
-unfolding named inDigits classOf digitOf classAndDigit
-returns-6 c = c .plain6 .ensures ∙ sym (ap classAndDigit (c .before .match .keys6))
+unfolding classBy
+returns-6 c = sym (ap classBy (c .match .keys5))
 
 returns-7 : tie.Need-returns-7
-unfolding named inDigits classOf digitOf classAndDigit
-returns-7 c = c .plain7 .ensures ∙ sym (ap classAndDigit (c .before .match .keys7))
+unfolding classBy
+returns-7 c = sym (ap classBy (c .match .keys6))
 
 returns-8 : tie.Need-returns-8
-unfolding named inDigits classOf digitOf classAndDigit
-returns-8 c = c .plain8 .ensures ∙ sym (ap classAndDigit (c .before .match .keys8))
+unfolding classBy
+returns-8 c = sym (ap classBy (c .match .keys7))
 
 returns-9 : tie.Need-returns-9
-unfolding named inDigits classOf digitOf classAndDigit
-returns-9 c = c .plain9 .ensures ∙ sym (ap classAndDigit (c .before .match .keys9))
+unfolding classBy
+returns-9 c = sym (ap classBy (c .match .keys8))
 
 returns-10 : tie.Need-returns-10
-unfolding named inDigits classOf digitOf classAndDigit
-returns-10 c = c .plain10 .ensures ∙ sym (ap classAndDigit (c .before .match .keys10))
+unfolding classBy
+returns-10 c = sym (ap classBy (c .match .keys9))
 
 returns-11 : tie.Need-returns-11
-unfolding named inDigits classOf digitOf classAndDigit
-returns-11 c = c .plain11 .ensures ∙ sym (ap classAndDigit (c .before .match .keys11))
+unfolding classBy
+returns-11 c = sym (ap classBy (c .match .keys10))
 
 returns-12 : tie.Need-returns-12
-unfolding named inDigits classOf digitOf classAndDigit
-returns-12 c = c .plain12 .ensures ∙ sym (ap classAndDigit (c .before .match .keys12))
+unfolding classBy
+returns-12 c = sym (ap classBy (c .match .keys11))
 
 returns-13 : tie.Need-returns-13
-unfolding named inDigits classOf digitOf classAndDigit
-returns-13 c = c .plain13 .ensures ∙ sym (ap classAndDigit (c .before .match .keys13))
+unfolding classBy
+returns-13 c = sym (ap classBy (c .match .keys12))
 
 returns-14 : tie.Need-returns-14
-unfolding named inDigits classOf digitOf classAndDigit
-returns-14 c = c .plain14 .ensures ∙ sym (ap classAndDigit (c .before .match .keys14))
+unfolding classBy
+returns-14 c = sym (ap classBy (c .match .keys13))
 
 returns-15 : tie.Need-returns-15
-unfolding named inDigits classOf digitOf classAndDigit
-returns-15 c = c .plain15 .ensures ∙ sym (ap classAndDigit (c .before .match .keys15))
+unfolding classBy
+returns-15 c = sym (ap classBy (c .match .keys14))
 
 returns-16 : tie.Need-returns-16
-unfolding named inDigits classOf digitOf classAndDigit
-returns-16 c = c .plain16 .ensures ∙ sym (ap classAndDigit (c .before .match .keys16))
+unfolding classBy
+returns-16 c = sym (ap classBy (c .match .keys15))
 
 returns-17 : tie.Need-returns-17
-unfolding named inDigits classOf digitOf classAndDigit
-returns-17 c = digit (c .before .before .before .args .b) (omega arith) (omega arith)
+unfolding classBy
+returns-17 c = sym (ap classBy (c .match .keys16))
 
 returns-18 : tie.Need-returns-18
-unfolding named inDigits classOf digitOf classAndDigit
-returns-18 c = c .plain17 .ensures
-    ∙ foreign (c .before .before .before .args .b)
-    (λ p q. ⊎-elim (λ w. not-below (w .taken) p) (λ w. not-below (w .1 .left) q) (c .before .if1 .came)) (c .before .before .match .rest)
+returns-18 c = sym (foreign _ (past (Unit {0}) (c .before .before .args .entry) 10 16 (λ u. c .before .if1 .left) (c .match .rest)))
 
 pub class-of-spec : {M : Type 1} → statement M
-class-of-spec =
-    tie.close
-    (tie.spec
-    plain-requires
-    plain-requires-2
-    plain-requires-3
-    plain-requires-4
-    plain-requires-5
-    plain-requires-6
-    plain-requires-7
-    plain-requires-8
-    plain-requires-9
-    plain-requires-10
-    plain-requires-11
-    plain-requires-12
-    plain-requires-13
-    plain-requires-14
-    plain-requires-15
-    plain-requires-16
-    plain-requires-17
-    returns
-    returns-2
-    returns-3
-    returns-4
-    returns-5
-    returns-6
-    returns-7
-    returns-8
-    returns-9
-    returns-10
-    returns-11
-    returns-12
-    returns-13
-    returns-14
-    returns-15
-    returns-16
-    returns-17
-    returns-18)
+class-of-spec = tie.close (tie.spec returns returns-2 returns-3 returns-4 returns-5 returns-6 returns-7 returns-8 returns-9 returns-10 returns-11 returns-12 returns-13 returns-14 returns-15 returns-16 returns-17 returns-18)

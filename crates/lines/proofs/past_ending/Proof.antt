@@ -1,59 +1,42 @@
--- `lines::past_ending` meets its contract: the bytes compared are the ending that is passed, and where one of them is
--- another byte or none no ending stands there.
+-- `lines::past_ending` meets its contract: each answer is the case of the definition that the entries compared are in.
+use mathlib.Core.Path.{sym}
+use mathlib.Core.Bool.{and-false}
 use native.Mathlib.Omega.{arith}
-use Rattle.lines.proofs.Lines.{other-byte, return-alone, no-bytes, one-byte, ten-passed, return-passed}
+use borrow.Author.Tests.{eq-eqb, ne-eqb}
+use Rattle.lines.specs.Lines.{pastBy}
 use Rattle.lines.proofs.past_ending.Statement.{statement}
 use Rattle.lines.proofs.past_ending.Tie as tie
-
-returns : tie.Need-returns
-returns c = no-bytes (c .if1 .taken)
-
-shared-slice-read-if2 : tie.Need-shared-slice-read-if2
-shared-slice-read-if2 c = omega arith
 
 add-result : tie.Need-add-result
 add-result c = omega arith
 
-returns-2 : tie.Need-returns-2
-returns-2 c = ten-passed (c .before .before .if1 .left) (c .if2 .taken)
+returns : tie.Need-returns
+unfolding pastBy
+returns c = sym (rw (eq-eqb _ _ (c .if1 .taken)))
 
-shared-slice-read-if3 : tie.Need-shared-slice-read-if3
-shared-slice-read-if3 c = omega arith
+returns-2 : tie.Need-returns-2
+unfolding pastBy
+returns-2 c = sym (rw (ne-eqb _ _ (c .before .if1 .left), ne-eqb _ _ (c .if2 .taken)))
+
+add-entry-of : tie.Need-add-entry-of
+add-entry-of c = omega (arith, c .before .before .before .pre .2)
+
+shared-slice-read-entry-of : tie.Need-shared-slice-read-entry-of
+shared-slice-read-entry-of c = c .before .before .before .before .pre .1 (c .before .if2 .left)
+
+entry-of-requires : tie.Need-entry-of-requires
+entry-of-requires c κs = c .before .before .before .before .pre .0
 
 returns-3 : tie.Need-returns-3
-returns-3 c = other-byte (c .before .before .if2 .left) (c .if3 .taken)
-
-add-next : tie.Need-add-next
-add-next c = omega arith
-
-returns-4 : tie.Need-returns-4
-returns-4 c = one-byte (c .if4 .taken) (c .before .before .before .if2 .left)
-
-shared-slice-read-if5 : tie.Need-shared-slice-read-if5
-shared-slice-read-if5 c = omega arith
-
-returns-5 : tie.Need-returns-5
-returns-5 c = return-alone (c .before .before .before .before .before .if2 .left) (c .if5 .taken)
+unfolding pastBy
+returns-3 c = sym (rw (ne-eqb _ _ (c .before .before .before .before .if1 .left), ← c .before .entry-of .ensures, ne-eqb _ _ (c .if3 .taken), and-false _))
 
 add-result-2 : tie.Need-add-result-2
-add-result-2 c = omega arith
+add-result-2 c = omega (arith, c .before .before .before .before .before .before .pre .2)
 
-returns-6 : tie.Need-returns-6
-returns-6 c = let e = c .before .before in return-passed (e .if4 .left) (e .before .if3 .left) (c .if5 .left)
+returns-4 : tie.Need-returns-4
+unfolding pastBy
+returns-4 c = sym (rw (ne-eqb _ _ (c .before .before .before .before .if1 .left), eq-eqb _ _ (c .before .before .before .if2 .left), ← c .before .entry-of .ensures, eq-eqb _ _ (c .if3 .left)))
 
 pub past-ending-spec : {M : Type 1} → statement M
-past-ending-spec =
-    tie.close
-    (tie.spec
-    returns
-    shared-slice-read-if2
-    add-result
-    returns-2
-    shared-slice-read-if3
-    returns-3
-    add-next
-    returns-4
-    shared-slice-read-if5
-    returns-5
-    add-result-2
-    returns-6)
+past-ending-spec = tie.close (tie.spec add-result returns returns-2 add-entry-of shared-slice-read-entry-of entry-of-requires returns-3 add-result-2 returns-4)

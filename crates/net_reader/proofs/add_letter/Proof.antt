@@ -1,42 +1,29 @@
--- `net_reader::add_letter` meets its contract: its tests are those of `addLetter`, in their order.
-use mathlib.Core.Path.{refl}
-use borrow.Author.Needs.{needs}
+-- `net_reader::add_letter` meets its contract: an arc of the letter's kind is added (`kindBy`), of which an output has its
+-- numbers the other way round.
+use mathlib.Core.Path.{_∙_}
 use borrow.Author.Tests.{eq-eqb, ne-eqb}
-use Rattle.spec.specs.declared.ArcKind.the-variants.{Input, Output, Inhibitor, Read}
-use Rattle.net_reader.specs.Reads.{addLetter}
+use Rattle.spec.specs.declared.ArcKind.the-variants.{Output}
+use Rattle.net_reader.proofs.Plain.{offset-within}
+use Rattle.net_reader.specs.Reads.{kindBy, addLetter}
 use Rattle.net_reader.proofs.add_letter.Statement.{statement}
 use Rattle.net_reader.proofs.add_letter.Tie as tie
 
+arc-kind-requires : tie.Need-arc-kind-requires
+arc-kind-requires c κs = c .pre .0
+
 add-arc-requires : tie.Need-add-arc-requires
-add-arc-requires c κs = search needs
+add-arc-requires c κs = (c .before .before .before .pre .1, rw (c .before .before .arc-kind .ensures) (offset-within (kindBy _)))
 
 returns : tie.Need-returns
-unfolding addLetter
-returns c tokens m d = rw (eq-eqb _ 73 (c .before .before .if1 .taken)) (c .add-arc .ensures Input tokens refl m d)
+unfolding addLetter kindBy
+returns c = λ tokens m d. rw (eq-eqb _ 16 (c .before .before .if1 .taken)) (c .add-arc .ensures Output tokens (c .before .before .before .arc-kind .ensures ∙ rw (eq-eqb _ 16 (c .before .before .if1 .taken))) m d)
 
 add-arc-requires-2 : tie.Need-add-arc-requires-2
-add-arc-requires-2 c κs = search needs
+add-arc-requires-2 c κs = (c .before .before .before .pre .1, rw (c .before .before .arc-kind .ensures) (offset-within (kindBy _)))
 
 returns-2 : tie.Need-returns-2
 unfolding addLetter
-returns-2 c tokens m d = let o = c .before .before in
-    rw (ne-eqb _ 73 (o .before .if1 .left), eq-eqb _ 79 (o .if2 .taken)) (c .add-arc2 .ensures Output tokens refl m d)
-
-add-arc-requires-3 : tie.Need-add-arc-requires-3
-add-arc-requires-3 c κs = search needs
-
-returns-3 : tie.Need-returns-3
-unfolding addLetter
-returns-3 c tokens m d = let h = c .before .before in let o = h .before in
-    rw (ne-eqb _ 73 (o .before .if1 .left), ne-eqb _ 79 (o .if2 .left), eq-eqb _ 72 (h .if3 .taken)) (c .add-arc3 .ensures Inhibitor tokens refl m d)
-
-add-arc-requires-4 : tie.Need-add-arc-requires-4
-add-arc-requires-4 c κs = search needs
-
-returns-4 : tie.Need-returns-4
-unfolding addLetter
-returns-4 c tokens m d = let h = c .before .before in let o = h .before in
-    rw (ne-eqb _ 73 (o .before .if1 .left), ne-eqb _ 79 (o .if2 .left), ne-eqb _ 72 (h .if3 .left)) (c .add-arc4 .ensures Read tokens refl m d)
+returns-2 c = λ tokens m d. rw (ne-eqb _ 16 (c .before .before .if1 .left)) (c .add-arc2 .ensures (kindBy _) tokens (c .before .before .before .arc-kind .ensures) m d)
 
 pub add-letter-spec : {M : Type 1} → statement M
-add-letter-spec = tie.close (tie.spec add-arc-requires returns add-arc-requires-2 returns-2 add-arc-requires-3 returns-3 add-arc-requires-4 returns-4)
+add-letter-spec = tie.close (tie.spec arc-kind-requires add-arc-requires returns add-arc-requires-2 returns-2)

@@ -15,19 +15,19 @@ use Rattle.number_lines.proofs.any_unknown.Statement.{statement}
 use Rattle.number_lines.proofs.any_unknown.Tie as tie
 
 abbrev Inv-loop : tie.InvT-loop
-Inv-loop l known at₀ at = (at ≤ length l + 1) × (any (leb known) (numbersFrom 4 l at) ≡ any (leb known) (valuesOf 4 l))
+Inv-loop table l known at₀ at = (at ≤ length l + 1) × (any (leb known) (numbersFrom 4 l at) ≡ any (leb known) (valuesOf 4 l))
 
 abbrev μ-loop : tie.MeasureT-loop
-μ-loop l known at₀ at = length l + 1 - at
+μ-loop table l known at₀ at = length l + 1 - at
 
 letter-at-requires : tie.Need-letter-at-requires Inv-loop μ-loop
-letter-at-requires c κs = tt
+letter-at-requires c κs = c .before .pre
 
 loop-holds : tie.Need-loop-holds Inv-loop μ-loop
 loop-holds c = (omega arith, ap (any (leb _)) (numbers-first 4 (c .letter-at .ensures)))
 
 number-at-requires : tie.Need-number-at-requires Inv-loop μ-loop
-number-at-requires c κs = omega arith
+number-at-requires c κs = (c .before .before .before .before .pre, omega arith, omega arith)
 
 returns : tie.Need-returns Inv-loop μ-loop
 returns c = sym (any-first (leb _) (c .before .before .number-at .ensures .numbers) (le-leb _ _ (c .if1 .taken))) ∙ c .before .before .before .before .loop .inv .1

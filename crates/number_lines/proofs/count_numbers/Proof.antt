@@ -11,19 +11,19 @@ use Rattle.number_lines.proofs.count_numbers.Statement.{statement}
 use Rattle.number_lines.proofs.count_numbers.Tie as tie
 
 abbrev Inv-loop : tie.InvT-loop
-Inv-loop l at₀ count₀ at count = (at ≤ length l + 1) × (count ≤ at) × (count + length (numbersFrom 4 l at) ≡ length (valuesOf 4 l))
+Inv-loop table l at₀ count₀ at count = (at ≤ length l + 1) × (count ≤ at) × (count + length (numbersFrom 4 l at) ≡ length (valuesOf 4 l))
 
 abbrev μ-loop : tie.MeasureT-loop
-μ-loop l at₀ count₀ at count = length l + 1 - at
+μ-loop table l at₀ count₀ at count = length l + 1 - at
 
 letter-at-requires : tie.Need-letter-at-requires Inv-loop μ-loop
-letter-at-requires c κs = tt
+letter-at-requires c κs = c .before .pre
 
 loop-holds : tie.Need-loop-holds Inv-loop μ-loop
 loop-holds c = (omega arith, omega arith, omega (arith, ap length (numbers-first 4 (c .letter-at .ensures))))
 
 number-at-requires : tie.Need-number-at-requires Inv-loop μ-loop
-number-at-requires c κs = omega arith
+number-at-requires c κs = (c .before .before .before .before .pre, omega arith, omega arith)
 
 add-count : tie.Need-add-count Inv-loop μ-loop
 add-count c = omega arith

@@ -7,7 +7,7 @@ use Rattle.number_lines.proofs.is_list_line.Statement.{statement}
 use Rattle.number_lines.proofs.is_list_line.Tie as tie
 
 is-list-requires : tie.Need-is-list-requires
-is-list-requires c κs = omega arith
+is-list-requires c κs = (c .before .pre, omega arith)
 
 returns : tie.Need-returns
 returns c = ap (λ z. c .before .before .args .ended && z) (c .is-list .ensures)

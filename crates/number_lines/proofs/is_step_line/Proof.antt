@@ -11,7 +11,7 @@ use Rattle.number_lines.proofs.is_step_line.Tie as tie
 
 is-list-line-requires : tie.Need-is-list-line-requires
 unfolding isStepLine alike classOf named inDigits
-is-list-line-requires c κs = tt
+is-list-line-requires c κs = c .before .pre
 
 returns : tie.Need-returns
 unfolding isStepLine alike classOf named inDigits

@@ -12,25 +12,25 @@ use Rattle.number_lines.proofs.numbers.Statement.{statement}
 use Rattle.number_lines.proofs.numbers.Tie as tie
 
 abbrev Inv-loop : tie.InvT-loop
-Inv-loop l xs₀ i₀ at₀ xs i at = (at ≤ length l + 1) × Filled (valuesOf 4 l) xs i (numbersFrom 4 l at)
+Inv-loop table l xs₀ i₀ at₀ xs i at = (at ≤ length l + 1) × Filled (valuesOf 4 l) xs i (numbersFrom 4 l at)
 
 abbrev μ-loop : tie.MeasureT-loop
-μ-loop l xs₀ i₀ at₀ xs i at = length l + 1 - at
+μ-loop table l xs₀ i₀ at₀ xs i at = length l + 1 - at
 
 letter-at-requires : tie.Need-letter-at-requires Inv-loop μ-loop
-letter-at-requires c κs = tt
+letter-at-requires c κs = c .before .pre .0
 
 loop-holds : tie.Need-loop-holds Inv-loop μ-loop
 loop-holds c = (omega arith, rw (numbers-first 4 (c .letter-at .ensures)) (filled-none _))
 
 number-at-requires : tie.Need-number-at-requires Inv-loop μ-loop
-number-at-requires c κs = omega arith
+number-at-requires c κs = (c .before .before .before .before .pre .0, omega arith, omega arith)
 
 cast-xs : tie.Need-cast-xs Inv-loop μ-loop
-cast-xs c = let l = c .before .before in omega (arith, filled-room (l .loop .inv .1) (l .before .before .before .pre) (c .number-at .ensures .numbers))
+cast-xs c = let l = c .before .before in omega (arith, filled-room (l .loop .inv .1) (l .before .before .before .pre .1) (c .number-at .ensures .numbers))
 
 array-write-xs : tie.Need-array-write-xs Inv-loop μ-loop
-array-write-xs c = let l = c .before .before in filled-room (l .loop .inv .1) (l .before .before .before .pre) (c .number-at .ensures .numbers) .0
+array-write-xs c = let l = c .before .before in filled-room (l .loop .inv .1) (l .before .before .before .pre .1) (c .number-at .ensures .numbers) .0
 
 add-i : tie.Need-add-i Inv-loop μ-loop
 add-i c = omega arith
@@ -40,7 +40,7 @@ loop-less c = omega arith
 
 loop-again : tie.Need-loop-again Inv-loop μ-loop
 loop-again c = let l = c .before .before in let e = c .number-at .ensures .numbers in
-    (omega arith, filled-more (l .loop .inv .1) (filled-room (l .loop .inv .1) (l .before .before .before .pre) e .0) e)
+    (omega arith, filled-more (l .loop .inv .1) (filled-room (l .loop .inv .1) (l .before .before .before .pre .1) e .0) e)
 
 returns : tie.Need-returns Inv-loop μ-loop
 returns c = filled-all (c .before .loop .inv .1) (numbers-none 4 _ _ (c .loop-test .left))

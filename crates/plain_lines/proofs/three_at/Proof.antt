@@ -1,33 +1,59 @@
--- `plain_lines::three_at` meets its contract: both ways promise the same; the one without tests of the length is taken
--- where `longestThree` bytes are left, which is as long as such a line is with numbers of four digits and an ending of
--- two bytes.
-use Prim.Native.Nat.{_-_}
+-- `plain_lines::three_at` meets its contract: the fields that were read, each with the comma or the ending behind it, are
+-- the line, put together from its end (`last-field`, `more-fields`, `plain-line`). Where one is missing, the position
+-- stays.
 use native.Mathlib.Omega.{arith}
-use lib.Dec.{leb}
-use lib.ListN.{length}
-use borrow.Author.Needs.{needs}
-use borrow.Author.Tests.{leb-true}
-use Rattle.lists.specs.Laws.{and-true}
-use Rattle.plain_lines.specs.Plain.{longestThree}
+use Rattle.plain_lines.proofs.Plain.{last-field, more-fields, plain-line, returns-on, Parted, parted-by, ended-by, stays-three}
 use Rattle.plain_lines.proofs.three_at.Statement.{statement}
 use Rattle.plain_lines.proofs.three_at.Tie as tie
 
-sub-if1 : tie.Need-sub-if1
-sub-if1 c = omega (arith, c .before .pre .1 .within)
+add-number-from : tie.Need-add-number-from
+add-number-from c = omega (arith, c .before .pre .3 .begins .within)
 
-three-inside-requires : tie.Need-three-inside-requires
-three-inside-requires c κs = let s = c .before .before in let l = length (s .args .s .now) - s .args .at in
-    (omega (arith, s .pre .1 .within, leb-true longestThree l (and-true (leb 4 (s .args .most)) (leb longestThree l) (c .if1 .taken) .1)), s .pre .1)
+number-from-requires : tie.Need-number-from-requires
+number-from-requires c κs = (c .before .pre .0, c .before .pre .1, c .before .pre .2, c .before .pre .3 .ahead)
 
 returns : tie.Need-returns
-returns c = let s = c .before .before .before in let l = length (s .args .s .now) - s .args .at in
-    c .three-inside .ensures (s .args .most) (leb-true 4 (s .args .most) (and-true (leb 4 (s .args .most)) (leb longestThree l) (c .before .if1 .taken) .0))
+returns c = stays-three (c .before .before .before .before .pre .3 .begins .within)
 
-three-near-end-requires : tie.Need-three-near-end-requires
-three-near-end-requires c κs = search needs
+-- a comma stands behind the number, and behind the second field
+number : (c : tie.Else1) → Parted (c .before .before .number-from .ensures .number)
+number c = parted-by (c .before .before .number-from .ensures .number) (c .if1 .left)
+
+second : (c : tie.Else2) → Parted (c .before .before .field-from .ensures .field)
+second c = parted-by (c .before .before .field-from .ensures .field) (c .if2 .left)
+
+add-field-from : tie.Need-add-field-from
+add-field-from c = omega (arith, number (c .before) .comma .within)
+
+field-from-requires : tie.Need-field-from-requires
+field-from-requires c κs = (c .before .before .before .before .before .pre .0, c .before .before .before .before .before .pre .1, c .before .before .before .before .before .pre .2, number (c .before) .ahead)
 
 returns-2 : tie.Need-returns-2
-returns-2 c = c .three-near-end .ensures
+returns-2 c = stays-three (c .before .before .before .before .before .before .before .before .pre .3 .begins .within)
+
+add-field-from-2 : tie.Need-add-field-from-2
+add-field-from-2 c = omega (arith, second (c .before) .comma .within)
+
+field-from-requires-2 : tie.Need-field-from-requires-2
+field-from-requires-2 c κs = (c .before .before .before .before .before .before .before .before .before .pre .0, c .before .before .before .before .before .before .before .before .before .pre .1, c .before .before .before .before .before .before .before .before .before .pre .2, second (c .before) .ahead)
+
+past-ending-requires : tie.Need-past-ending-requires
+past-ending-requires c κs = let n = c .field-from2 .ensures in (c .before .before .before .before .before .before .before .before .before .before .pre .0, returns-on (n .field), n .within)
+
+returns-3 : tie.Need-returns-3
+returns-3 c = stays-three (c .before .before .before .before .before .before .before .before .before .before .before .before .before .pre .3 .begins .within)
+
+returns-4 : tie.Need-returns-4
+returns-4 c = let l = c .before .before .before .before .before .before .before .before .before .before .before .before .before .pre .3 in let n = number (c .before .before .before .before .before .before .before .before .before) in let u = second (c .before .before .before .before .before) in
+    let e = ended-by (c .before .before .before .field-from2 .ensures .field) (c .before .before .past-ending .ensures) (c .if3 .left) in record {
+      read = record {
+        within = e .within;
+        line = λ h. plain-line (l .begins) (l .comma)
+            (more-fields (n .field .start) (n .field .field) (n .comma) (more-fields (u .field .start) (u .field .field) (u .comma) (last-field (e .field .start) (e .field .field) (e .ending))));
+      };
+      second = λ h. c .before .before .before .before .before .before .before .field-from .ensures .kind;
+      third = λ h. c .before .before .before .field-from2 .ensures .kind;
+    }
 
 pub three-at-spec : {M : Type 1} → statement M
-three-at-spec = tie.close (tie.spec sub-if1 three-inside-requires returns three-near-end-requires returns-2)
+three-at-spec = tie.close (tie.spec add-number-from number-from-requires returns add-field-from field-from-requires returns-2 add-field-from-2 field-from-requires-2 past-ending-requires returns-3 returns-4)
