@@ -6,6 +6,7 @@
 #   comparison    library and simulator on written-out, fixed and generated cases, every lent byte included; on cases of before
 #                 each request, with the simulator as it was then; and the library with itself under other line ends
 #   brute force   demand 3 on every run of small nets, all arrangements of each
+#   byte table    the table that the source keeps is, byte for byte, what its program prints
 #   guarded       the comparison again with pages around every lent part that may not be touched, and the stack of each call
 #   peer          the unverified program that the library is measured against, held to the same comparison by document 01 alone
 #
@@ -87,6 +88,7 @@ if [ "$alone" = yes ]; then
   stage "brute force" brute
   stage "guarded" guarded
 else
+  stage "byte table" tests/byte_table.sh
   # The brute force takes the second processor meanwhile.
   brute_log=$(mktemp)
   stage "brute force" brute > "$brute_log" 2>&1 &

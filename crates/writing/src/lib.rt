@@ -29,7 +29,7 @@ fn put_two(out: &mut [u8], at: usize, n: usize) -> usize
 }
 
 // A number in base ten without leading zeros; of one from 10,000 on the last four digits.
-fn put_number(out: &mut [u8], at: usize, n: usize) -> usize
+pub fn put_number(out: &mut [u8], at: usize, n: usize) -> usize
     requires { ⌜ at + length (digits 4 n) ≤ length (now out) ⌝ }
     ensures { λ r. ⌜ Wrote (now (out .entry)) at (digits 4 n) r (now (out .exit)) ⌝ }
 {
