@@ -398,6 +398,9 @@ fn cases() -> Vec<Case> {
     add(Check, "wide", &[&wide_net, &wide], none);
     let last = full_rec[..full_rec.len() - 1].iter().rposition(|&b| b == b'\n').unwrap_or(0) + 1;
     add(Check, "full less a mark (refused 37)", &[&full_net, &full_rec[..last]], none);
+    // all of it is read, and nothing more: a mark named by five digits stands behind the last
+    let five = [&full_rec[..], b"B,10000,0\n"].concat();
+    add(Check, "full, read only (refused 31)", &[&full_net, &five], none);
 
     add(Replay, "drive a", &[&drive, &rec_a, &arranged(&drive, &rec_a)], none);
     add(Replay, "middling", &[&mid_net, &mid_rec, &mid_arr], none);
