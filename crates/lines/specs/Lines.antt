@@ -6,8 +6,8 @@ use mathlib.Core.List.{List, _∷_}
 use lib.ListN.{length, getD, drop, take}
 use lib.Dec.{eqb, ltb}
 use Rattle.spec.specs.Text.{isA, Line, rawLinesOf, withoutReturn, linesOf}
-use Rattle.spec.specs.declared.Class.the-variants.{LineEnd}
-use Rattle.byte_entries.specs.Entries.{entryOf, before}
+use Rattle.spec.specs.declared.Class.the-variants.{Comma, LineEnd, Return, Foreign}
+use Rattle.byte_entries.specs.Entries.{codeOf, entryOf, before}
 use Rattle.lines.specs.declared.Span.{Span}
 use Rattle.lines.specs.declared.Cursor.{Cursor}
 use Rattle.lines.specs.declared.Opening.{Opening}
@@ -69,9 +69,11 @@ pub record PastEnding (s : List ℕ) (at next : ℕ) : Type 0 where
   pub within : at < next → next ≤ length s
   pub ending : at < next → Ending s at next
 
--- the same by the entry of the byte at the position, 12 of a line end and 25 of a return, or by another in its place
+-- the same by the entry of the byte at the position, or by another in its place
 unfoldable pub pastBy : ℕ → List ℕ → ℕ → ℕ
-pastBy e s at = cond (eqb e 12) (at + 1) (cond (eqb e 25 && eqb (entryOf (getD s (at + 1) 0)) 12) (at + 2) at)
+pastBy e s at =
+    cond (eqb e (codeOf LineEnd)) (at + 1)
+    (cond (eqb e (codeOf Return) && eqb (entryOf (getD s (at + 1) 0)) (codeOf LineEnd)) (at + 2) at)
 
 -- ---- where a line begins
 
@@ -92,8 +94,8 @@ pub record EndedTo (s : List ℕ) (r : ℕ) : Type 0 where
 abbrev pub openingOf : List ℕ → Cursor → Opening
 openingOf s c =
     cond (ltb (c .at + 1) (c .ended)) (record { letter = entryOf (getD s (c .at) 0); behind = entryOf (getD s (c .at + 1) 0) })
-    (record { letter = 26; behind = 26 })
+    (record { letter = codeOf Foreign; behind = codeOf Foreign })
 
 -- a letter and a comma
 abbrev pub opensWith : ℕ → Opening → Bool
-opensWith k o = eqb (o .letter) k && eqb (o .behind) 10
+opensWith k o = eqb (o .letter) k && eqb (o .behind) (codeOf Comma)

@@ -2,6 +2,8 @@
 ghost use mathlib.Core.Path.{_≡_};
 ghost use Prim.Native.Nat.{_+_, _<_, _≤_, max};
 ghost use lib.ListN.{length};
+ghost use Rattle.spec.specs.declared.Class.the-variants.{Return};
+ghost use Rattle.byte_entries.specs.Entries.{codeOf};
 ghost use Rattle.byte_classes.specs.Table.{byteTable};
 ghost use Rattle.lines.specs.Lines.{endFrom, spanTo, RawLineAt, LineAt, pastBy, EndedTo, openingOf, opensWith};
 use byte_classes::byte_table;
@@ -82,7 +84,7 @@ pub fn moved<'a>(r: Reader<'a>, to: usize) -> Reader<'a>
 
 // What starts at a position up to the next byte 10: a reader stands there, sees where the line ends, and moves past that
 // end.
-pub fn raw_line_at(s: &[u8], at: usize) -> Span
+fn raw_line_at(s: &[u8], at: usize) -> Span
     requires { ⌜ at < length (now s) ⌝ }
     ensures { λ r. ⌜ RawLineAt (now (s .entry)) at r ⌝ }
 {
@@ -116,7 +118,7 @@ pub fn line_at(table: &[u8; 256], s: &[u8], at: usize) -> Span
 
 // Where the next line starts if an ending stands at a position, of which the entry is known; else the position.
 pub fn past_ending(table: &[u8; 256], s: &[u8], entry: u8, at: usize) -> usize
-    requires { ⌜ (now table ≡ byteTable) × (entry ≡ 25 → at + 1 < length (now s)) × (at ≤ length (now s)) ⌝ }
+    requires { ⌜ (now table ≡ byteTable) × (entry ≡ codeOf Return → at + 1 < length (now s)) × (at ≤ length (now s)) ⌝ }
     ensures { λ r. ⌜ r ≡ pastBy entry (now (s .entry)) at ⌝ }
 {
     if entry == LINE_END {

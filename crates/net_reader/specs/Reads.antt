@@ -11,6 +11,7 @@ use Rattle.spec.specs.Answer.{Answer, gives, refuses, _>>=_, returned}
 use Rattle.lines.specs.Agree.{Agrees}
 use Rattle.lines.specs.Lines.{LineTo}
 use Rattle.lines.specs.declared.Opening.{Opening}
+use Rattle.byte_entries.specs.Entries.{codeOf}
 use Rattle.spec.specs.Lists.{any, upTo}
 use Rattle.spec.specs.Text.{linesOf, byLines}
 use Rattle.spec.specs.Net.{Net as NetD, addPlace, addTransition, addArc, addLine, emptyNet, whole, readNet}
@@ -18,7 +19,7 @@ use Rattle.line_forms.specs.Rows.{valueOf, isAlone, isOne, isTwo}
 use Rattle.line_forms.specs.declared.Row.{Row}
 use Rattle.spec.specs.Values.{netValues}
 use Rattle.net.specs.declared.Net.{Net}
-use Rattle.spec.specs.declared.Class.the-variants.{LetterP, LetterT, LetterI, LetterO, LetterH, LetterR}
+use Rattle.spec.specs.declared.Class.the-variants.{Comma, LetterP, LetterT, LetterI, LetterO, LetterH, LetterR}
 use Rattle.spec.specs.declared.ArcKind.{ArcKind}
 use Rattle.spec.specs.declared.ArcKind.the-variants.{Input, Output, Inhibitor, Read}
 use Rattle.net.specs.declared.Size.{Size}
@@ -47,20 +48,22 @@ addRow k r n =
 
 -- the entry of a letter of arcs: I, O, H or R
 abbrev pub ArcEntry : ℕ → Type 0
-ArcEntry e = (e ≡ 15) ⊎ (e ≡ 16) ⊎ (e ≡ 17) ⊎ (e ≡ 24)
+ArcEntry e = (e ≡ codeOf LetterI) ⊎ (e ≡ codeOf LetterO) ⊎ (e ≡ codeOf LetterH) ⊎ (e ≡ codeOf LetterR)
 
 -- a line begins with such a letter and a comma
 pub record ArcLetter (o : Opening) : Type 0 where
   pub letter : ArcEntry (o .letter)
-  pub comma : o .behind ≡ 10
+  pub comma : o .behind ≡ codeOf Comma
 
 -- the kind of arc that a letter of the four stands for, by its entry
 unfoldable pub kindBy : ℕ → ArcKind
-kindBy e = cond (eqb e 16) Output (cond (eqb e 17) Inhibitor (cond (eqb e 24) Read Input))
+kindBy e =
+    cond (eqb e (codeOf LetterO)) Output
+    (cond (eqb e (codeOf LetterH)) Inhibitor (cond (eqb e (codeOf LetterR)) Read Input))
 
 -- what line k adds with such a letter and two numbers: an output's place is the second
 unfoldable pub addLetter : ℕ → ℕ → ℕ → ℕ → NetD → Answer NetD
-addLetter e k v w n = cond (eqb e 16) (addArc Output k w v n) (addArc (kindBy e) k v w n)
+addLetter e k v w n = cond (eqb e (codeOf LetterO)) (addArc Output k w v n) (addArc (kindBy e) k v w n)
 
 -- it is added, whatever the tokens are
 abbrev pub AddsLetter : ℕ → ℕ → ℕ → ℕ → Size → List ℕ → Stepped → List ℕ → Type 0

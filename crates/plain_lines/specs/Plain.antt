@@ -8,12 +8,12 @@ use lib.ListN.{length, getD, drop}
 use Rattle.spec.specs.Text.{isA, classOf, linesOf}
 use Rattle.line_forms.specs.Rows.{letterIn, slotsOf, rowOf, aNumberOrDash}
 use Rattle.spec.specs.declared.Class.{Class}
-use Rattle.spec.specs.declared.Class.the-variants.{Comma, LineEnd, Return}
+use Rattle.spec.specs.declared.Class.the-variants.{Comma, LineEnd, Return, Foreign}
 use Rattle.line_forms.specs.declared.Slot.{Slot}
 use Rattle.line_forms.specs.declared.Slot.the-variants.{Number, Absent}
 use Rattle.line_forms.specs.declared.Row.{Row}
 use Rattle.spec.specs.Classes.{alike}
-use Rattle.byte_entries.specs.Entries.{entryOf, classBy}
+use Rattle.byte_entries.specs.Entries.{codeOf, entryOf, classBy}
 use Rattle.lines.specs.Lines.{Ahead}
 use Rattle.digits.specs.Digits.{Stands, FieldTo}
 use Rattle.plain_lines.specs.declared.FieldFrom.{FieldFrom}
@@ -21,10 +21,10 @@ use Rattle.plain_lines.specs.declared.One.{One}
 use Rattle.plain_lines.specs.declared.Two.{Two}
 use Rattle.plain_lines.specs.declared.Three.{Three}
 
--- the number or the dash that starts at a position, if there is one: the entry 26 says that there may be none
+-- the number or the dash that starts at a position, if there is one: the entry of a foreign byte says that there may be none
 pub record ReadsField (most : ℕ) (s : List ℕ) (at : ℕ) (r : FieldFrom) : Type 0 where
   pub within : r .end ≤ length s
-  pub field : (r .stop ≡ 26 → ⊥) → FieldTo most s at (r .end) (r .stop) (r .field)
+  pub field : (r .stop ≡ codeOf Foreign → ⊥) → FieldTo most s at (r .end) (r .stop) (r .field)
   pub kind : aNumberOrDash (r .field) ≡ true
 
 -- a byte that is neither a comma nor one of an ending

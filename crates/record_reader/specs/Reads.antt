@@ -13,13 +13,14 @@ use Rattle.spec.specs.Record.{RunRecord}
 use Rattle.spec.specs.Checking.{enterEvent, enterCondition, enterMark, enterLine, emptyRecord}
 use Rattle.line_forms.specs.Rows.{valueOf, isOne, isTwo, isThree}
 use Rattle.line_forms.specs.declared.Row.{Row}
-use Rattle.spec.specs.declared.Class.the-variants.{LetterE, LetterC, LetterB, LetterA, LetterR}
+use Rattle.spec.specs.declared.Class.the-variants.{Comma, LetterE, LetterC, LetterB, LetterA, LetterR}
 use Rattle.spec.specs.declared.MarkKind.{MarkKind}
 use Rattle.spec.specs.declared.MarkKind.the-variants.{Before, After, Read}
 use Rattle.spec.specs.declared.Limits.{Limits}
 use Rattle.lines.specs.Agree.{Agrees}
 use Rattle.lines.specs.Lines.{LineTo}
 use Rattle.lines.specs.declared.Opening.{Opening}
+use Rattle.byte_entries.specs.Entries.{codeOf}
 use Rattle.record_columns.specs.declared.Bounds.{Bounds}
 use Rattle.record_columns.specs.declared.Counts.{Counts}
 use Rattle.record_columns.specs.declared.RecordRead.{RecordRead}
@@ -65,12 +66,12 @@ pub record Takes (b : Bounds) (text : List ℕ) (at k : ℕ) (s : Counts) (old w
 
 -- a line begins with a letter of marks, B, A or R, and a comma
 pub record MarkLetter (o : Opening) : Type 0 where
-  pub letter : (o .letter ≡ 21) ⊎ (o .letter ≡ 22) ⊎ (o .letter ≡ 24)
-  pub comma : o .behind ≡ 10
+  pub letter : (o .letter ≡ codeOf LetterB) ⊎ (o .letter ≡ codeOf LetterA) ⊎ (o .letter ≡ codeOf LetterR)
+  pub comma : o .behind ≡ codeOf Comma
 
 -- the kind of mark that a letter of marks stands for, by its entry
 abbrev pub kindBy : ℕ → MarkKind
-kindBy e = cond (eqb e 22) After (cond (eqb e 24) Read Before)
+kindBy e = cond (eqb e (codeOf LetterA)) After (cond (eqb e (codeOf LetterR)) Read Before)
 
 -- the answer is the paper's, and where it is a record the bytes and words hold it
 abbrev pub ReadsRecord : Bounds → List ℕ → RecordRead → List ℕ → List ℕ → Type 0
