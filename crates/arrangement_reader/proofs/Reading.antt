@@ -26,6 +26,7 @@ use Rattle.lines.specs.Lines.{lineOf, LineAt}
 use Rattle.lines.specs.declared.Span.{Span}
 use Rattle.lines.proofs.ByLines.{line-taken, line-refused, lines-done}
 use Rattle.plain_lines.specs.Plain.{LetterEntry}
+use Rattle.plain_lines.proofs.Plain.{letter-entry}
 use Rattle.number_lines.specs.Numbers.{Begins, Listing, ListAt}
 use Rattle.number_lines.specs.declared.Listed.{Listed}
 use Rattle.number_lines.proofs.Lines.{few-known}
@@ -47,8 +48,7 @@ group-line l ended = sym (list-line "G" refl (lineOf l ended))
 
 -- its letter, by its entry
 pub letter-group : LetterEntry 23
-unfolding alike classBy
-letter-group = record { comma = refl; end = refl; return = refl }
+letter-group = letter-entry 23 (omega arith) (omega arith)
 
 g-class : classBy 23 ≡ LetterG
 unfolding classBy

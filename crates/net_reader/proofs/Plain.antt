@@ -21,11 +21,11 @@ use Rattle.lines.specs.declared.Span.{Span}
 use Rattle.lines.proofs.Lines.{line-to}
 use Rattle.spec.specs.declared.Class.{Class}
 use Rattle.spec.specs.declared.Class.the-variants.{LetterP, LetterT, LetterI, LetterO, LetterH, LetterR}
-use Rattle.byte_entries.specs.Entries.{entryOf, classBy}
+use Rattle.byte_entries.specs.Entries.{entryOf}
 use Rattle.byte_entries.proofs.Classes.{entry-class}
 use Rattle.lines.specs.declared.Opening.{Opening}
 use Rattle.plain_lines.specs.Plain.{LetterEntry, rowWith, PlainLine, MayRead}
-use Rattle.plain_lines.proofs.Plain.{plain-to}
+use Rattle.plain_lines.proofs.Plain.{letter-entry, plain-to}
 use Rattle.spec.specs.declared.ArcKind.{ArcKind}
 use Rattle.spec.specs.declared.ArcKind.the-variants.{Input, Output, Inhibitor, Read}
 use Rattle.net.specs.NetArrays.{kindCount, readsAt, offsetOf, Arrays, Steps}
@@ -52,33 +52,18 @@ module _ (k : ℕ) (b : List ℕ) (n : NetD) where
 
 -- ---- plain lines
 
--- the letters of a net may begin a line
-pub place-entry : {e : ℕ} → e ≡ 13 → LetterEntry e
-unfolding alike classBy
-place-entry q = rw q (record { comma = refl; end = refl; return = refl })
-
-pub transition-entry : {e : ℕ} → e ≡ 14 → LetterEntry e
-unfolding alike classBy
-transition-entry q = rw q (record { comma = refl; end = refl; return = refl })
+-- the entries of arcs' letters are among those of letters
+arc-bounds : {e : ℕ} → ArcEntry e → (13 ≤ e) × (e ≤ 24)
+arc-bounds (inl q) = (omega arith, omega arith)
+arc-bounds (inr (inl q)) = (omega arith, omega arith)
+arc-bounds (inr (inr (inl q))) = (omega arith, omega arith)
+arc-bounds (inr (inr (inr q))) = (omega arith, omega arith)
 
 pub arc-entry : {o : Opening} → ArcLetter o → LetterEntry (o .letter)
-unfolding alike classBy
-arc-entry {o} a = go (a .letter)
-  where
-    go : ArcEntry (o .letter) → LetterEntry (o .letter)
-    go (inl q) = rw q (record { comma = refl; end = refl; return = refl })
-    go (inr (inl q)) = rw q (record { comma = refl; end = refl; return = refl })
-    go (inr (inr (inl q))) = rw q (record { comma = refl; end = refl; return = refl })
-    go (inr (inr (inr q))) = rw q (record { comma = refl; end = refl; return = refl })
+arc-entry {o} a = let b = arc-bounds (a .letter) in letter-entry (o .letter) (b .0) (b .1)
 
 pub arc-tells : {o : Opening} → ArcLetter o → o .letter ≡ 26 → ⊥
-arc-tells {o} a z = go (a .letter)
-  where
-    go : ArcEntry (o .letter) → ⊥
-    go (inl q) = omega arith
-    go (inr (inl q)) = omega arith
-    go (inr (inr (inl q))) = omega arith
-    go (inr (inr (inr q))) = omega arith
+arc-tells a z = omega (arith, arc-bounds (a .letter) .1)
 
 module _ (k : ℕ) {text : List ℕ} {i next : ℕ} (m : NetD) where
   pub place-line : {v : ℕ} (l : PlainLine 4 text i next (Number v ∷ [])) → entryOf (getD text i 0) ≡ 13 → addLine k (lineOf (l .bytes) true) m ≡ addPlace k v m

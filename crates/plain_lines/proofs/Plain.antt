@@ -8,7 +8,7 @@ use native.Mathlib.Omega.{arith}
 use lib.ListN.{length, getD, drop}
 use lib.Dec.{leb, ltb}
 use borrow.Author.Tests.{ltb-true}
-use Rattle.spec.specs.Lists.{every}
+use Rattle.spec.specs.Lists.{from, every}
 use Rattle.spec.specs.Text.{Line, named, inDigits, classOf, digitOf, isA, onFirst, linesOf, needlessZero, isNumber, grow, pieces, isOnly, isDash}
 use Rattle.line_forms.specs.Rows.{slotOf, letterOf, letterIn, slotsOf, rowOf}
 use Rattle.spec.specs.Classes.{alike}
@@ -16,8 +16,9 @@ use Rattle.spec.specs.declared.Class.the-variants.{Comma, LineEnd, Return}
 use Rattle.line_forms.specs.declared.Slot.{Slot}
 use Rattle.line_forms.specs.declared.Slot.the-variants.{Dash, Absent}
 use Rattle.lists.specs.Along.{rest-at}
+use Rattle.lists.specs.Laws.{and-three, every-in, from-in, not-is-true}
 use Rattle.lists.specs.LineEnds.{ten-first, return-first, other-first}
-use Rattle.byte_entries.specs.Entries.{entryOf}
+use Rattle.byte_entries.specs.Entries.{entryOf, classBy}
 use Rattle.byte_entries.proofs.Classes.{comma-entry, class-named}
 use Rattle.lines.specs.Lines.{lineOf, LineTo, Ending, ten, return-ten, PastEnding, pastBy, Ahead, EndedTo, openingOf}
 use Rattle.lines.specs.declared.Cursor.{Cursor}
@@ -207,6 +208,14 @@ pub stays-three : {most : ℕ} {s : List ℕ} {at : ℕ} → at < length s → T
 stays-three h = record { read = stays h; second = λ l. absurd (omega arith); third = λ l. absurd (omega arith) }
 
 -- ---- the first two bytes of a line
+
+-- every letter in use may begin a line: one test over their entries, from that of P to that of R
+pub letter-entry : (e : ℕ) → 13 ≤ e → e ≤ 24 → LetterEntry e
+unfolding every from alike classBy
+letter-entry e h l =
+    let p : ℕ → Bool = λ n. not (alike (classBy n) Comma) && not (alike (classBy n) LineEnd) && not (alike (classBy n) Return) in
+    let z = and-three (not (alike (classBy e) Comma)) (not (alike (classBy e) LineEnd)) (not (alike (classBy e) Return)) (every-in p (from 13 12) refl e (from-in e 13 12 h (omega arith))) in
+    record { comma = not-is-true _ (z .0); end = not-is-true _ (z .1); return = not-is-true _ (z .2) }
 
 pub opens-by : (b : ℕ) {e : ℕ} → LetterEntry e → entryOf b ≡ e → Opens b
 unfolding isA

@@ -23,15 +23,15 @@ use Rattle.spec.specs.declared.Limits.{Limits}
 use Rattle.line_forms.specs.declared.Slot.{Slot}
 use Rattle.line_forms.specs.declared.Slot.the-variants.{Number}
 use Rattle.lists.specs.Laws.{and-true}
-use Rattle.byte_entries.specs.Entries.{codeOf, entryOf, classBy}
+use Rattle.byte_entries.specs.Entries.{codeOf, entryOf}
 use Rattle.byte_entries.proofs.Classes.{entry-class}
 use Rattle.lines.specs.Lines.{lineOf, LineAt, EndedTo, openingOf, opensWith}
 use Rattle.lines.specs.declared.Cursor.{Cursor}
 use Rattle.lines.specs.declared.Opening.{Opening}
 use Rattle.lines.specs.declared.Span.{Span}
 use Rattle.lines.proofs.Lines.{line-to}
-use Rattle.plain_lines.specs.Plain.{LetterEntry, Listed, rowWith, PlainLine, MayRead}
-use Rattle.plain_lines.proofs.Plain.{plain-to, opened, listed}
+use Rattle.plain_lines.specs.Plain.{Listed, rowWith, PlainLine, MayRead}
+use Rattle.plain_lines.proofs.Plain.{letter-entry, plain-to, opened, listed}
 use Rattle.record_columns.specs.Enters.{Enters, conditionIn, markOf}
 use Rattle.record_columns.proofs.Answers.{entered-same}
 use Rattle.record_reader.specs.Reads.{Declares, Takes, MarkLetter, kindBy, enterRow}
@@ -58,31 +58,14 @@ module _ (lim : Limits) (k : ℕ) (b : List ℕ) (N : Net) (R : RunRecord) where
 
 -- ---- plain lines
 
--- the letters of a record may begin a line
-event-entry : LetterEntry 19
-unfolding alike classBy
-event-entry = record { comma = refl; end = refl; return = refl }
-
-condition-entry : LetterEntry 20
-unfolding alike classBy
-condition-entry = record { comma = refl; end = refl; return = refl }
-
-mark-entry : {o : Opening} → MarkLetter o → LetterEntry (o .letter)
-unfolding alike classBy
-mark-entry {o} m = go (m .letter)
+-- the entries of marks' letters are among those of letters
+mark-bounds : {o : Opening} → MarkLetter o → (13 ≤ o .letter) × (o .letter ≤ 24)
+mark-bounds {o} m = go (m .letter)
   where
-    go : (o .letter ≡ 21) ⊎ (o .letter ≡ 22) ⊎ (o .letter ≡ 24) → LetterEntry (o .letter)
-    go (inl q) = rw q (record { comma = refl; end = refl; return = refl })
-    go (inr (inl q)) = rw q (record { comma = refl; end = refl; return = refl })
-    go (inr (inr q)) = rw q (record { comma = refl; end = refl; return = refl })
-
-mark-tells : {o : Opening} → MarkLetter o → o .letter ≡ 26 → ⊥
-mark-tells {o} m z = go (m .letter)
-  where
-    go : (o .letter ≡ 21) ⊎ (o .letter ≡ 22) ⊎ (o .letter ≡ 24) → ⊥
-    go (inl q) = omega arith
-    go (inr (inl q)) = omega arith
-    go (inr (inr q)) = omega arith
+    go : (o .letter ≡ codeOf LetterB) ⊎ (o .letter ≡ codeOf LetterA) ⊎ (o .letter ≡ codeOf LetterR) → (13 ≤ o .letter) × (o .letter ≤ 24)
+    go (inl q) = (omega arith, omega arith)
+    go (inr (inl q)) = (omega arith, omega arith)
+    go (inr (inr q)) = (omega arith, omega arith)
 
 -- such a letter and a comma stand at a position, with a line end ahead
 abbrev pub BeginsWith : List ℕ → ℕ → ℕ → Type 0
@@ -90,17 +73,19 @@ BeginsWith s at e = Listed s at × (entryOf (getD s at 0) ≡ e)
 
 -- an opening that tells them
 module _ (s : List ℕ) (c : Cursor) {o : Opening} (t : EndedTo s (c .ended)) (q : o ≡ openingOf s c) where
-  begins-with : {e : ℕ} → LetterEntry e → (e ≡ 26 → ⊥) → o .letter ≡ e → o .behind ≡ 10 → BeginsWith s (c .at) e
-  begins-with {e} l d h k = let z : o .letter ≡ 26 → ⊥ = λ x. d (sym h ∙ x) in (listed s c t q z (rw h l) k, sym (opened s c t q z .letter) ∙ h)
+  begins-with : {e : ℕ} → 13 ≤ e → e ≤ 24 → o .letter ≡ e → o .behind ≡ 10 → BeginsWith s (c .at) e
+  begins-with {e} l u h k =
+      let z : o .letter ≡ 26 → ⊥ = λ x. omega arith in
+      (listed s c t q z (letter-entry (o .letter) (omega arith) (omega arith)) k, sym (opened s c t q z .letter) ∙ h)
 
   pub begins-event : opensWith 19 o ≡ true → BeginsWith s (c .at) 19
-  begins-event h = let z = and-true _ _ h in begins-with event-entry (λ x. omega arith) (eqb-true _ _ (z .0)) (eqb-true _ _ (z .1))
+  begins-event h = let z = and-true _ _ h in begins-with (omega arith) (omega arith) (eqb-true _ _ (z .0)) (eqb-true _ _ (z .1))
 
   pub begins-condition : opensWith 20 o ≡ true → BeginsWith s (c .at) 20
-  begins-condition h = let z = and-true _ _ h in begins-with condition-entry (λ x. omega arith) (eqb-true _ _ (z .0)) (eqb-true _ _ (z .1))
+  begins-condition h = let z = and-true _ _ h in begins-with (omega arith) (omega arith) (eqb-true _ _ (z .0)) (eqb-true _ _ (z .1))
 
   pub begins-mark : MarkLetter o → BeginsWith s (c .at) (o .letter)
-  begins-mark m = begins-with (mark-entry m) (mark-tells m) refl (m .comma)
+  begins-mark m = let b = mark-bounds m in begins-with (b .0) (b .1) refl (m .comma)
 
 module _ (lim : Limits) (k : ℕ) {text : List ℕ} {i next : ℕ} (N : Net) (R : RunRecord) where
   pub event-line : {t : ℕ} (l : PlainLine 4 text i next (Number t ∷ [])) → entryOf (getD text i 0) ≡ 19 → enterLine lim N k (lineOf (l .bytes) true) R ≡ enterEvent lim N k t R

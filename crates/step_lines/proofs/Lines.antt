@@ -21,6 +21,7 @@ use Rattle.byte_entries.specs.Entries.{classBy}
 use Rattle.lines.specs.Agree.{Agrees, giving, refusing}
 use Rattle.lines.specs.Lines.{lineOf}
 use Rattle.plain_lines.specs.Plain.{LetterEntry}
+use Rattle.plain_lines.proofs.Plain.{letter-entry}
 use Rattle.number_lines.specs.Numbers.{Begins}
 use Rattle.number_lines.proofs.Lines.{few-known}
 use Rattle.arc_sets.specs.Sets.{HoldsArcs}
@@ -41,8 +42,7 @@ some-number l e = list-some l "S" e
 
 -- the letter of a step, by its entry
 pub letter-step : LetterEntry 18
-unfolding alike classBy
-letter-step = record { comma = refl; end = refl; return = refl }
+letter-step = letter-entry 18 (omega arith) (omega arith)
 
 pub list-step : (b : List ℕ) → isList mostDigits (classBy 18) b ≡ true → isStepLine (lineOf b true) ≡ true
 unfolding isStepLine alike classOf named inDigits classBy

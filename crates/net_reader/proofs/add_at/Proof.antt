@@ -8,9 +8,9 @@ use borrow.Author.Needs.{needs}
 use borrow.Author.Tests.{eqb-true}
 use Rattle.spec.specs.Net.{addPlace, addTransition}
 use Rattle.lists.specs.Laws.{and-true}
-use Rattle.plain_lines.proofs.Plain.{opened, lettered, listed}
+use Rattle.plain_lines.proofs.Plain.{letter-entry, opened, lettered, listed}
 use Rattle.net_reader.specs.Reads.{addLetter, ArcLetter}
-use Rattle.net_reader.proofs.Plain.{place-entry, transition-entry, arc-entry, arc-tells, place-line, transition-line, arc-line, plain-takes}
+use Rattle.net_reader.proofs.Plain.{arc-entry, arc-tells, place-line, transition-line, arc-line, plain-takes}
 use Rattle.net_reader.proofs.add_at.Statement.{statement}
 use Rattle.net_reader.proofs.add_at.Tie as tie
 
@@ -48,7 +48,7 @@ place c =
 
 one-at-requires : tie.Need-one-at-requires
 one-at-requires c κs = let o = c .before .before .before .before .open-at .ensures in let p = place (c) in
-    (c .before .before .before .before .before .before .pre .0, omega arith, omega arith, listed _ (c .before .before .before .before .before .before .args .c) (c .before .before .before .before .before .before .pre .2) o (λ z. omega (arith, p .0)) (place-entry (p .0)) (p .1))
+    (c .before .before .before .before .before .before .pre .0, omega arith, omega arith, listed _ (c .before .before .before .before .before .before .args .c) (c .before .before .before .before .before .before .pre .2) o (λ z. omega (arith, p .0)) (letter-entry _ (omega (arith, p .0)) (omega (arith, p .0))) (p .1))
 
 add-place-requires : tie.Need-add-place-requires
 add-place-requires c κs = c .before .before .before .before .before .before .before .before .before .before .pre .3
@@ -60,7 +60,7 @@ returns-2 c = let o = c .before .before .before .before .before .before .before 
 
 alone-at-requires : tie.Need-alone-at-requires
 alone-at-requires c κs = let o = c .before .before .before .before .before .before .open-at .ensures in let t = c .if5 .taken in
-    (c .before .before .before .before .before .before .before .before .pre .0, lettered _ (c .before .before .before .before .before .before .before .before .args .c) (c .before .before .before .before .before .before .before .before .pre .2) o (λ z. omega (arith, t)) (transition-entry t))
+    (c .before .before .before .before .before .before .before .before .pre .0, lettered _ (c .before .before .before .before .before .before .before .before .args .c) (c .before .before .before .before .before .before .before .before .pre .2) o (λ z. omega (arith, t)) (letter-entry _ (omega (arith, t)) (omega (arith, t))))
 
 add-transition-requires : tie.Need-add-transition-requires
 add-transition-requires c κs = tt
