@@ -1,5 +1,5 @@
 -- Laws of tests, of counts and sums over lists, and of the numbers below a bound.
-use mathlib.Core.Path.{_≡_, refl, sym, ap, ap₂, _∙_, subst}
+use mathlib.Core.Path.{_≡_, refl, sym, ap, ap₂, _∙_, subst, subst⁻¹}
 use mathlib.Core.Logic.{_⊎_, inl, inr, _↔_}
 use Prim.Native.Nat.{ℕ, zero, suc, _+_, _*_, _≤_, _<_, max, zero-le}
 use native.Mathlib.Nat.{le-refl, le-of-eq, not-suc-le-zero, le-of-suc-le-suc, add-zero, zero-add, suc-add, mul-suc, mul-zero}
@@ -334,6 +334,13 @@ module _ {A : Type 0} where
       go false e r = elim (true-or-false (p x)) [ inl a ↦ clash (h x a) e | inr a ↦ rw a r ]
 
   -- what holds of the elements of a list, and of one more
+  pub all-none : (P : A → Type 0) (x : A) → In x [] → P x
+  all-none P x m = absurd (List·Memᴰ·not-nil m)
+
+  pub all-cons : (P : A → Type 0) (y : A) (xs : List A) → P y → ((x : A) → In x xs → P x) → (x : A) → In x (y ∷ xs) → P x
+  all-cons P y xs p h x (List·Memᴰ·head e) = subst⁻¹ P e p
+  all-cons P y xs p h x (List·Memᴰ·tail m) = h x m
+
   pub all-snoc : (P : A → Type 0) (xs : List A) (y : A) → ((x : A) → In x xs → P x) → P y → (x : A) → In x (xs ++ y ∷ []) → P x
   all-snoc P xs y h p x m = elim (List·Memᴰ·append-cases xs m) [ inl a ↦ h x a | inr a ↦ subst P (sym (List·Memᴰ·eq-of-singleton a)) p ]
 
