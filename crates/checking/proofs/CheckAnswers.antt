@@ -16,7 +16,7 @@ use Rattle.row_table.specs.Table.{byteIn}
 use Rattle.runs.specs.Values.{orderOf, order}
 use Rattle.runs.specs.Answers.{not-refused}
 use Rattle.lines.specs.Agree.{giving, refusing}
-use Rattle.row_facts.specs.Pairs.{independentPairs}
+use Rattle.row_independence.specs.Pairs.{independentPairs}
 use Rattle.accepting.specs.Accepting.{refusedBy, verdictOf, Accepts}
 use Rattle.accepting.specs.declared.Refusal.{Refusal}
 use Rattle.accepting.specs.declared.Verdict.the-variants.{Given, Refused}

@@ -4,27 +4,27 @@ use Prim.Native.Nat.{ℕ, zero, suc, _+_, _-_, _*_, _/_, _%_, _≤_, _<_}
 use native.Mathlib.Nat.{mul-suc, mul-zero, div-add-mod}
 use native.Mathlib.Decide.{decLe}
 use native.Mathlib.Omega.{arith}
+use mathlib.Core.Logic.{_≢_}
 use mathlib.Core.Bool.{Bool, true, false, not, _&&_, cond}
 use mathlib.Core.List.{List, _++_, map}
 use lib.ListN.{length, getD, drop, length-append, length-drop, List·getD-append}
 use lib.Seq.{ext-getD, getD-append-add, getD-drop}
-use lib.Dec.{eqb, ltb}
+use lib.Dec.{eqb, ltb, leb}
 use borrow.Author.Tests.{ltb-true}
 use Rattle.spec.specs.Lists.{count, upTo, from, flat, sum}
 use Rattle.spec.specs.Net.{Net as NetD}
 use Rattle.spec.specs.Record.{RunRecord}
 use Rattle.spec.specs.Process.{Process, WellFormed}
-use Rattle.spec.specs.Checking.{related, tableAt, tableBytes, independent, independentPairs as pairsD}
+use Rattle.spec.specs.Checking.{related, tableAt, tableBytes, ordered, independent, independentPairs as pairsD}
 use Rattle.spec.specs.Buffer.{over}
 use Rattle.lists.specs.Laws.{length-map, length-upTo, upTo-snoc, in-upTo, flat-map-snoc, getD-table, getD-table-rows, map-same, count-same}
 use Rattle.lists.specs.Mapped.{Mapped}
 use Rattle.reach.specs.Rows.{cellOf}
 use Rattle.order.specs.Diamond.{entry}
-use Rattle.runs.specs.Closure.{related-is}
-use Rattle.row_facts.specs.Pairs.{independentIn, independentsBelow, independentPairs}
+use Rattle.runs.specs.Closure.{ordered-test, related-is}
+use Rattle.row_independence.specs.Pairs.{orderedIn, independentIn, independentsBelow, independentPairs}
 use Rattle.accepting.specs.Relation.{HoldsOrder}
 use Rattle.row_table.specs.Table.{entryIn, byteIn}
-use Rattle.accepting.proofs.RecordOrder.{strict-in}
 
 -- ---- rows of one width, and a list at the start of a buffer
 
@@ -85,12 +85,17 @@ module _ (N : NetD) (R : RunRecord) (t : List ℕ) (n : ℕ) (W : WellFormed N R
 
   -- ---- independent pairs
 
-  independent-is : (e f : ℕ) → e < n → f < n → independentIn (cellOf t) e f ≡ independent R e f
+  ordered-is : (e f : ℕ) → e < n → f < n → e ≢ f → orderedIn (cellOf t) e f ≡ ordered R e f
+  unfolding orderedIn
+  ordered-is e f l m d = ap (leb 1) (o .cell e f (omega arith) (omega arith)) ∙ sym (ordered-test N R W e f (omega arith) (omega arith) d)
+
+  independent-is : (e f : ℕ) → e < n → f < e → independentIn (cellOf t) e f ≡ independent R e f
   unfolding independentIn independent
-  independent-is e f l m = ap₂ (λ (x y : Bool). not (eqb e f) && not x && not y) (strict-in N R t W o e f (omega arith) (omega arith)) (strict-in N R t W o f e (omega arith) (omega arith))
+  independent-is e f l m = ap₂ (λ (x y : Bool). not (eqb e f) && not x && not y)
+      (ordered-is e f l (omega arith) (λ q. omega arith)) (ordered-is f e (omega arith) l (λ q. omega arith))
 
   pub pairs-counted : independentPairs n (cellOf t) ≡ pairsD R
   unfolding independentPairs independentsBelow pairsD
   pairs-counted =
-      ap sum (map-same _ _ (upTo n) (λ e m. count-same _ _ (upTo e) (λ f k. independent-is e f (in-upTo n m) (omega (arith, in-upTo n m, in-upTo e k)))))
+      ap sum (map-same _ _ (upTo n) (λ e m. count-same _ _ (upTo e) (λ f k. independent-is e f (in-upTo n m) (in-upTo e k))))
       ∙ ap (λ (k : ℕ). sum (map (λ e. count (independent R e) (upTo e)) (upTo k))) hn

@@ -1,3 +1,3 @@
 pub mod Pairs
-pub mod Left
+pub mod Strictly
 pub mod Counts

@@ -1,12 +1,11 @@
-// What the closed order in rows of bits says of strict pairs: its loops and its independent pairs.
+// What the closed order in rows of bits says of strict pairs: its loops, and how many events each is strictly before.
 ghost use mathlib.Core.Path.{_≡_};
 ghost use Prim.Native.Nat.{_<_, _≤_};
 ghost use Rattle.lists.specs.Lowest.{Lowest};
-ghost use Rattle.order.specs.Order.{Order};
-ghost use Rattle.row_facts.specs.Pairs.{onCycle, independentPairs};
+ghost use Rattle.row_facts.specs.Pairs.{onCycle};
 ghost use Rattle.reach.specs.Rows.{cellOf, Good};
 ghost use Rattle.order.specs.Below.{sumBelow};
-ghost use Rattle.row_facts.specs.Left.{strictly};
+ghost use Rattle.row_facts.specs.Strictly.{strictly};
 ghost use Rattle.row_facts.specs.Counts.{Ready};
 use bit_sets::holds;
 use bit_sets::size;
@@ -44,20 +43,4 @@ pub fn followers(w: &[u64; WORDS], n: usize, e: usize) -> usize
 {
     let r = row_at(w, e);
     size(r.strict)
-}
-
-// The number of independent pairs of the n events: all pairs but the strict ones.
-pub fn independent_pairs(w: &[u64; WORDS], n: usize) -> usize
-    requires { ⌜ Ready n (now w) × Order n (cellOf (now w)) ⌝ }
-    ensures { λ r. ⌜ r ≡ independentPairs n (cellOf (now (w .entry))) ⌝ }
-{
-    let mut all: usize = 0;
-    let mut strict: usize = 0;
-    let mut e: usize = 0;
-    while e < n {
-        all += e;
-        strict = strict + followers(w, n, e);
-        e += 1;
-    }
-    all - strict
 }

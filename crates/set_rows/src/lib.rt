@@ -10,6 +10,9 @@ const SET: usize = 2;
 
 const HIGH: usize = 1;
 
+// The words of all sets that events are sorted into, one set for each number up to 128.
+pub const SET_WORDS: usize = 258;
+
 // Set s of words that have it, whatever else they have.
 pub fn set_at(w: &[u64], s: usize) -> Set
     requires { ⌜ wordsOfSet * s + wordsOfSet ≤ length (now w) ⌝ }

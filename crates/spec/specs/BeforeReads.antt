@@ -3,7 +3,8 @@
 -- All others serve as they are. Of these some have a case more, for the class `LetterR` (`classCode`) or for arcs and marks of
 -- the kind `Read` (`arcKindCode`, `markLineOf`, `markPairOf`, `wrongEnd`); no definition here makes an arc or a mark of that
 -- kind. Those that go by `isA`, from `linesOf` to `isLine`, ask for no class that moved but in an `R` line. What a later request
--- moved stands here as it moved it: a carriage return has its class (2026-02).
+-- moved stands here as it moved it: a carriage return has its class (2026-02), and independent pairs are counted by `Checking`
+-- (2026-04).
 use Prim.Native.Nat.{ℕ, _+_}
 use Prim.Native.Char.{code}
 use mathlib.Core.Bool.{Bool, not, _&&_, cond}

@@ -166,9 +166,14 @@ tableAt r e f = cond (ltb e (length (r .events)) && ltb f (length (r .events))) 
 unfoldable pub tableBytes : RunRecord → List ℕ
 tableBytes r = flat (map (λ e. map (tableAt r e) (upTo 128)) (upTo 128))
 
--- "independent pairs, unordered: two different events, neither strictly before the other."
+-- 2026-04: "a pair is independent when neither event is strictly before, or not later than, the other in the closed
+-- order."
+unfoldable pub ordered : RunRecord → ℕ → ℕ → Bool
+ordered r e f = isStrictlyBefore r e f || isNotLater r e f
+
+-- "independent pairs, unordered: two different events"
 unfoldable pub independent : RunRecord → ℕ → ℕ → Bool
-independent r e f = not (eqb e f) && not (isStrictlyBefore r e f) && not (isStrictlyBefore r f e)
+independent r e f = not (eqb e f) && not (ordered r e f) && not (ordered r f e)
 
 -- each pair is counted once, at its higher event
 unfoldable pub independentPairs : RunRecord → ℕ

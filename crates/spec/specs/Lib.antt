@@ -22,6 +22,7 @@ pub mod Runs
 pub mod Exactness
 pub mod Computed
 pub mod Demand
+pub mod Independence
 pub mod Refusals
 pub mod BeforeReads
 pub mod WithoutReads
@@ -34,3 +35,4 @@ pub mod RefusalOrder
 pub mod Bounds
 pub mod ReadArcs
 pub mod CarriageReturns
+pub mod Swaps

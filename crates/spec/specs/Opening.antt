@@ -12,7 +12,7 @@ use Rattle.spec.specs.Record.{bench, noCondition, names, isNone, slotOf,
 use Rattle.spec.specs.Order.{pairOf, conditionPair, markPairOf, markPair, pairs, isPair, reach, hasPath, pathBy, isStrictlyBefore, isNotLater}
 use Rattle.spec.specs.Process.{initialIn, consumedIn, producedIn, readIn, wrongEnd, isBelow}
 use Rattle.spec.specs.Building.{noEvent, initialOf, start, outputsOf, madeBy, makeAll, isFree, consumedBy, consume, consumeAll, inputsOf, takeAll, inStep, playStep, playSteps, runOf, isEarlier, markAt, heldIn, lowestHeld, readBy, readMark, markIf, marksAt, marksOf, marksDue, recordOf, recordFor, isStepLine, logLine, playLog, built, build}
-use Rattle.spec.specs.Checking.{isEmpty, withEvent, withCondition, withMark, enterEvent, enterCondition, enterMark, conditionOf, markIn, enterLine, emptyRecord, wrongInitial, wrongArcsAt, wrongArcs, agree, wrongMarkAt, wrongMarks, wrongReadingsAt, wrongReadings, wronglyMarked, wrongKindAt, wrongKind, beforeItself, obeys, readRecord, accepts, related, tableAt, tableBytes, independent, independentPairs, checkedOf, checkWithin, check}
+use Rattle.spec.specs.Checking.{isEmpty, withEvent, withCondition, withMark, enterEvent, enterCondition, enterMark, conditionOf, markIn, enterLine, emptyRecord, wrongInitial, wrongArcsAt, wrongArcs, agree, wrongMarkAt, wrongMarks, wrongReadingsAt, wrongReadings, wronglyMarked, wrongKindAt, wrongKind, beforeItself, obeys, readRecord, accepts, related, tableAt, tableBytes, ordered, independent, independentPairs, checkedOf, checkWithin, check}
 use Rattle.spec.specs.Arrangement.{times, index}
 use Rattle.spec.specs.Arranging.{prolonged, longest, levels, lineCount, onLine, arrangedLines, groupLine, arrangementBytes, arrangedOf, arrange}
 use Rattle.spec.specs.Replaying.{isGroupLine, repeats, late, breaks, groupsLine, missing, readArrangement, countAfter, firedBy, rowAt, replayRow, replayedOf, replay}
@@ -67,7 +67,7 @@ unfolding noEvent initialOf start outputsOf madeBy makeAll isFree consumedBy con
 openBuilding = tt
 
 unfoldable openChecking : Unit {0}
-unfolding isEmpty withEvent withCondition withMark enterEvent enterCondition enterMark conditionOf markIn enterLine emptyRecord wrongInitial wrongArcsAt wrongArcs agree wrongMarkAt wrongMarks wrongReadingsAt wrongReadings wronglyMarked wrongKindAt wrongKind beforeItself obeys readRecord accepts related tableAt tableBytes independent independentPairs checkedOf checkWithin check
+unfolding isEmpty withEvent withCondition withMark enterEvent enterCondition enterMark conditionOf markIn enterLine emptyRecord wrongInitial wrongArcsAt wrongArcs agree wrongMarkAt wrongMarks wrongReadingsAt wrongReadings wronglyMarked wrongKindAt wrongKind beforeItself obeys readRecord accepts related tableAt tableBytes ordered independent independentPairs checkedOf checkWithin check
 openChecking = tt
 
 unfoldable openArrangement : Unit {0}

@@ -180,7 +180,7 @@ ofOrders =
     -- so one step takes reader and taker, and none has the taker first
     && passes (replay lent (asText "E,0 E,1 E,2 C,0,-,0 C,2,-,1 C,1,0,2 C,3,1,- C,0,2,- R,2,1") (asText "G,0 G,1,2") 4128)
     && refused 44 2 (replay lent (asText "E,0 E,1 E,2 C,0,-,0 C,2,-,1 C,1,0,2 C,3,1,- C,0,2,- R,2,1") (asText "G,0 G,2 G,1") 4128)
-    && same (program (lent ++ asText "=" ++ asText "S,0 S,1,2")) (asText "E,0 E,1 E,2 C,0,-,0 C,2,-,1 C,1,0,2 C,3,1,- C,0,2,- R,2,1 Z,3,5,1,2")
+    && same (program (lent ++ asText "=" ++ asText "S,0 S,1,2")) (asText "E,0 E,1 E,2 C,0,-,0 C,2,-,1 C,1,0,2 C,3,1,- C,0,2,- R,2,1 Z,3,5,0,2")
     -- one's own product is read by nobody
     && inRecord 39 0 (asText "P,1 P,1 T I,0,0 O,0,1 R,1,0") (asText "E,0 C,0,-,0 C,1,-,- C,1,0,- R,2,0")
 

@@ -47,12 +47,15 @@ pub record TwoEvents (R : RunRecord) (e f : ℕ) : Type 0 where
 abbrev pub StandsEarlier : ℕ → ℕ → List (List ℕ) → Type 0
 StandsEarlier e f lines = index e lines < index f lines
 
--- "in every such arrangement", and "in none": such are those that keep the order
+-- "in every such arrangement", "in none", and in some: such are those that keep the order
 abbrev pub InEvery : RunRecord → (List (List ℕ) → Type 0) → Type 0
 InEvery R P = (lines : List (List ℕ)) → KeepsOrder R lines → P lines
 
 abbrev pub InNone : RunRecord → (List (List ℕ) → Type 0) → Type 0
 InNone R P = (lines : List (List ℕ)) → KeepsOrder R lines → ¬ P lines
+
+abbrev pub InSome : RunRecord → (List (List ℕ) → Type 0) → Type 0
+InSome R P = (lines : List (List ℕ)) × KeepsOrder R lines × P lines
 
 -- ---- arrangements read as sequences, and sequences as arrangements
 

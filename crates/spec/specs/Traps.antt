@@ -132,7 +132,7 @@ steps =
     && refused 24 1 (build pipe (asText "S,0,1") 48256)
     -- and does not inhibit in it: the two weak pairs are a cycle, and marks stand by event, then condition
     && builds crossed (asText "S,0,1") crossedRecord
-    && given (λ c. eqb (c .independents) 1 && same (take 256 (c .table)) (zerosBut 256 ((128 * 0 + 1, 1) ∷ (128 * 1 + 0, 1) ∷ []))) (check crossed crossedRecord 16384)
+    && given (λ c. eqb (c .independents) 0 && same (take 256 (c .table)) (zerosBut 256 ((128 * 0 + 1, 1) ∷ (128 * 1 + 0, 1) ∷ []))) (check crossed crossedRecord 16384)
     -- every place that is taken from must have enough, every place that inhibits must be empty
     && refused 24 1 (build (asText "P,1 P,0 P,0 T I,0,0 I,1,0 O,0,2") (asText "S,0") 48256)
     && refused 25 1 (build (asText "P,1 P,0 P,1 T I,0,0 O,0,1 H,1,0 H,2,0") (asText "S,0") 48256)
@@ -203,16 +203,23 @@ records =
     && refused 34 8 (check drive (asText "E,0 E,2 C,0,-,0 C,2,-,1 C,1,0,- C,3,1,- B,2,1 A,2,1") 16384)
     && refused 34 8 (check drive (asText "E,0 E,2 C,0,-,0 C,2,-,1 C,1,0,- C,3,1,- A,2,1 B,2,1") 16384)
 
+-- two events of one transition, in no relation
+twice : List ℕ
+twice = asText "P,2 P,0 T I,0,0 O,0,1"
+
+twiceRecord : List ℕ
+twiceRecord = asText "E,0 E,0 C,0,-,1 C,0,-,0 C,1,0,- C,1,1,-"
+
 -- "A process has:"
 pub checks : Bool
 checks =
     -- "It also returns the events, conditions and independent pairs"
-    given (λ c. eqb (c .events) 2 && eqb (c .conditions) 4 && eqb (c .independents) 1) (check drive recordB 16384)
+    given (λ c. eqb (c .events) 2 && eqb (c .conditions) 4 && eqb (c .independents) 1) (check twice twiceRecord 16384)
     -- in a group any order will do: events against the run, conditions and marks as they come; no lowest condition is
     -- asked
     && passesCheck drive (asText "E,2 E,1 E,0 C,3,0,- C,4,1,- C,1,2,1 C,2,-,0 C,0,-,2 A,2,0")
     && passesCheck crossed (asText "E,0 E,1 C,0,-,0 C,1,-,1 C,2,0,- C,3,1,- B,2,1 B,3,0")
-    && passesCheck (asText "P,2 P,0 T I,0,0 O,0,1") (asText "E,0 E,0 C,0,-,1 C,0,-,0 C,1,0,- C,1,1,-")
+    && passesCheck twice twiceRecord
     -- a cycle that is all weak
     && passesCheck inItsWay (asText "E,0 E,0 C,0,-,0 C,0,-,1 C,0,-,- C,1,0,- C,1,1,- B,4,0 B,3,1")
     -- "per place, as many initial conditions as initial tokens": more, fewer, and where there are no tokens
@@ -312,7 +319,7 @@ programs =
     && same (program (asText "P =")) (asText "X,11,1")
     && same (program (asText "P,1 = S,0")) (asText "X,22,1")
     -- "It prints the record, then `Z,events,conditions,pairs,lines`"
-    && same (program (drive ++ asText "=" ++ asText "S,0,2")) (recordB ++ asText "Z,2,4,1,1")
+    && same (program (drive ++ asText "=" ++ asText "S,0,2")) (recordB ++ asText "Z,2,4,0,1")
 
 -- ---- "A refusal .. writes nothing. .. past what an operation writes, a buffer keeps its old contents."
 
@@ -340,7 +347,7 @@ returns =
     -- length; bytes
     same (fiveNumbers (netReturns drive)) (0 ∷ 0 ∷ 5 ∷ 3 ∷ 0 ∷ [])
     && same (fiveNumbers (buildReturns drive (asText "S,0,2") 48256)) (0 ∷ 0 ∷ 46 ∷ 0 ∷ 0 ∷ [])
-    && same (fiveNumbers (checkReturns drive recordB 16384)) (0 ∷ 0 ∷ 2 ∷ 4 ∷ 1 ∷ [])
+    && same (fiveNumbers (checkReturns twice twiceRecord 16384)) (0 ∷ 0 ∷ 2 ∷ 4 ∷ 1 ∷ [])
     && same (fiveNumbers (replayReturns drive recordB (asText "G,1 G,0") 4128)) (0 ∷ 0 ∷ 2 ∷ 0 ∷ 0 ∷ [])
     && same (fiveNumbers (arrangeReturns drive recordB 768)) (0 ∷ 0 ∷ 6 ∷ 1 ∷ 0 ∷ [])
     && same (fiveNumbers (lineReturns drive (asText "S,0 S,12") 1 2)) (0 ∷ 0 ∷ 4 ∷ 4 ∷ 0 ∷ [])
@@ -353,5 +360,5 @@ returns =
     && same (fiveNumbers (programReturns [])) (0 ∷ 0 ∷ 7 ∷ 0 ∷ 0 ∷ [])
 
 pub traps-hold : (byteClasses ≡ true) × (texts ≡ true) × (nets ≡ true) × (steps ≡ true) × (buildings ≡ true) × (records ≡ true) × (checks ≡ true) × (arrangings ≡ true) × (replayings ≡ true) × (linesShown ≡ true) × (programs ≡ true) × (buffers ≡ true) × (returns ≡ true)
-unfolding openAll builds passesCheck declares byteClasses texts nets pipe crossed crossedRecord inItsWay steps buildings walkNet walk roundNet round records checks arranges arrangings replays replayings shows linesShown programs buffers fiveNumbers returns
+unfolding openAll builds passesCheck declares byteClasses texts nets pipe crossed crossedRecord inItsWay steps buildings walkNet walk roundNet round records twice twiceRecord checks arranges arrangings replays replayings shows linesShown programs buffers fiveNumbers returns
 traps-hold = (refl, refl, refl, refl, refl, refl, refl, refl, refl, refl, refl, refl, refl)

@@ -15,7 +15,7 @@ use Rattle.spec.specs.declared.Field.the-variants.{Number}
 use Rattle.order.specs.Order.{Order}
 use Rattle.reach.specs.Rows.{cellOf}
 use Rattle.row_facts.specs.Counts.{Ready}
-use Rattle.row_facts.specs.Pairs.{independentPairs}
+use Rattle.row_independence.specs.Pairs.{independentPairs}
 use Rattle.runs.specs.Answers.{of-gives, of-bind}
 use Rattle.runs.specs.Accepted.{accepted-record}
 use Rattle.runs.specs.ReadRecord.{Fits}

@@ -14,7 +14,7 @@ use arrangement_writer::line_count;
 use reach::WORDS;
 use record_columns::Counts;
 use record_columns::EVENTS;
-use row_facts::independent_pairs;
+use row_independence::independent_pairs;
 use row_levels::levels;
 use spec::Field;
 use writing::put_line;

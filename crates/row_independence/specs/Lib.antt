@@ -1,0 +1,4 @@
+pub mod Pairs
+pub mod Ordered
+pub mod Balance
+pub mod Alike
