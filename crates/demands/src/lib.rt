@@ -1,11 +1,14 @@
-// The second and the third demand as the promises of functions that make the calls: what each call returned, and what
-// it left in the buffers.
+// The second and the third demand, and that independent means free to swap (02, 2026-04), as the promises of functions
+// that make the calls: what each call returned, and what it left in the buffers.
 ghost use Rattle.demands.specs.Exactly.{ReadsExactly, BuildsExactly, ChecksExactly};
 ghost use Rattle.demands.specs.Exactly.{ArrangesExactly, ReplaysExactly};
 ghost use Rattle.demands.specs.Demand.{buffers, OrderPromised, RunPromised};
+ghost use Rattle.demands.specs.Swaps.{PairsPromised, PrintPromised};
+use pti::PROGRAM_BYTES;
 use pti::pti_arrange;
 use pti::pti_build;
 use pti::pti_check;
+use pti::pti_program;
 use pti::pti_read_net;
 use pti::pti_replay;
 use spec::Numbers;
@@ -109,4 +112,18 @@ pub fn run_recorded(
     let n = build.a as usize;
     let calls = order_of_runs(net, &text[0..n], arrangement, table, out, rows);
     RunCalls { build, calls }
+}
+
+// Checking a record, for the pairs that it counts as independent.
+pub fn pairs_counted(net: &[u8], run: &[u8], table: &mut [u8]) -> Numbers
+    ensures { λ r. ⌜ PairsPromised (now (net .entry)) (now (run .entry)) (now (table .entry)) r ⌝ }
+{
+    pti_check(net, run, table)
+}
+
+// Printing what the program prints, for the pairs in its last line.
+pub fn pairs_printed(input: &[u8], out: &mut [u8; PROGRAM_BYTES]) -> Numbers
+    ensures { λ r. ⌜ PrintPromised (now (input .entry)) r (now (out .exit)) ⌝ }
+{
+    pti_program(input, out)
 }

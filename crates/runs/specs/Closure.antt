@@ -1,7 +1,8 @@
 -- The tests of a record's closed order, `isStrictlyBefore` and `isNotLater`, are those of paths of pairs.
 use mathlib.Core.Path.{_≡_, refl, sym, ap, _∙_}
-use mathlib.Core.Logic.{_⊎_, inl, inr, _↔_}
+use mathlib.Core.Logic.{_⊎_, inl, inr, _≢_, _↔_}
 use Prim.Native.Nat.{ℕ, zero, suc, _≤_, _<_, max}
+use native.Mathlib.Nat.{le-trans}
 use native.Mathlib.Omega.{arith}
 use mathlib.Core.Bool.{Bool, true, false, not, _&&_, _||_, cond, or-true}
 use mathlib.Core.List.{List, [], _∷_}
@@ -13,13 +14,13 @@ use Rattle.spec.specs.Net.{Net}
 use Rattle.spec.specs.Record.{RunRecord}
 use Rattle.spec.specs.Order.{Pair, pairs, Path, single, then, StrictlyBefore, NotLater, isPair, reach, hasPath, pathBy, isStrictlyBefore, isNotLater}
 use Rattle.spec.specs.Process.{Process, WellFormed}
-use Rattle.spec.specs.Checking.{related}
+use Rattle.spec.specs.Checking.{related, ordered}
 use Rattle.order.specs.Join.{join}
 use Rattle.order.specs.Closure.{col, step, close, close-bound}
 use Rattle.order.specs.Diamond.{entry}
 use Rattle.lists.specs.Laws
 use Rattle.runs.specs.Sources.{bounded}
-use Rattle.runs.specs.Values.{pairAt, valueAt, orderOf, value-pos, pair-ends, pair-most, cast, path-append, path-pos, strict-order, order}
+use Rattle.runs.specs.Values.{pairAt, valueAt, orderOf, value-pos, pair-ends, pair-most, cast, path-append, path-pos, strict-order, weak-order, order}
 
 -- ---- `reach` is the closure of the pairs as numbers, with every value but 0 read as true
 
@@ -143,6 +144,19 @@ module _ (N : Net) (R : RunRecord) (W : WellFormed N R) where
   weak-is e f = (
     λ h. let z = Laws.and-true (not (eqb e f)) (hasPath R e f) h in (eqb-false e f (Laws.not-is-true _ (z .0)), path-is e f .0 (z .1)),
     λ h. Laws.true-and (ap not (ne-eqb e f (h .0))) (path-is e f .1 (h .1)),
+  )
+
+-- ---- two different events are ordered where the closed order has a value between them
+
+module _ (N : Net) (R : RunRecord) (W : WellFormed N R) (e f : ℕ) (l : e < length (R .events)) (m : f < length (R .events)) where
+  pub ordered-test : e ≢ f → ordered R e f ≡ leb 1 (orderOf R e f)
+  unfolding ordered
+  ordered-test d = Laws.same-tests _ _ (
+    λ h. le-leb 1 (orderOf R e f) (elim (Laws.or-true (isStrictlyBefore R e f) (isNotLater R e f) h) [
+      | inl z ↦ le-trans (omega arith) (strict-order N R W e f l m .1 (strict-is N R W e f .0 z))
+      | inr z ↦ weak-order N R W e f l m .1 (weak-is N R W e f .0 z) .1
+    ]),
+    λ h. Laws.true-or-r (isStrictlyBefore R e f) (weak-is N R W e f .1 (weak-order N R W e f l m .0 (d, leb-true 1 (orderOf R e f) h))),
   )
 
 -- ---- the check's table: the values of the closed order, and 0 for an event and itself

@@ -105,8 +105,8 @@ module _ (net : List ℕ) (N : Net) (hN : readNet net ≡ gives N) (text : List 
 
   -- ---- the check's table
 
-  checks : (room : ℕ) → 16384 ≤ room → check net text room ≡ gives (checkedOf R)
-  checks room h = check-by-lines net net text (recordBytes R) refl lines-are room ∙ (operations .checks net N hN R room h (checkedOf R) .1 (I, refl))
+  pub check-given : (room : ℕ) → 16384 ≤ room → check net text room ≡ gives (checkedOf R)
+  check-given room h = check-by-lines net net text (recordBytes R) refl lines-are room ∙ (operations .checks net N hN R room h (checkedOf R) .1 (I, refl))
 
   entry-is : (e f : ℕ) → e < length (R .events) → f < length (R .events) → getD (checkedOf R .table) (128 * e + f) 0 ≡ related R e f
   unfolding checkedOf tableBytes tableAt
@@ -122,7 +122,7 @@ module _ (net : List ℕ) (N : Net) (hN : readNet net ≡ gives N) (text : List 
   unfolding related checkedOf tableBytes
   tables = record {
     answer = checkedOf R;
-    checks = checks;
+    checks = check-given;
     full = length-rows 128 (λ e. map (tableAt R e) (upTo 128)) (λ k. length-map (upTo 128) (tableAt R k) ∙ Laws.length-upTo 128) 128;
     strict = λ e f t. (
       λ h. strict-is N R W e f .0 (related-strict (isStrictlyBefore R e f) (isNotLater R e f) .0 (sym (entry-is e f (t .one) (t .other)) ∙ h)),

@@ -19,6 +19,7 @@ use Rattle.spec.specs.Arrangement.{index}
 use Rattle.spec.specs.Arranging.{arrangementBytes}
 use Rattle.spec.specs.Runs.{EnabledSequence, KeepsOrder, asSteps, logBytes}
 use Rattle.spec.specs.Demand.{OrderOfRuns, RunIsRecorded}
+use Rattle.spec.specs.Independence.{FreeToSwap}
 use Rattle.spec.specs.Quoted.{asText}
 use Rattle.spec.specs.Cases.{drive, recordB, openAll}
 use Rattle.spec.specs.declared.ArcKind.the-variants.{Input, Output, Inhibitor}
@@ -82,6 +83,10 @@ b-weak = (λ e. omega arith, (false, single (record { source = 1; target = 0; st
 pub never-first : (lines : List (List ℕ)) → KeepsOrder runB lines → ¬ (index 0 lines < index 1 lines)
 unfolding runB
 never-first = order-b .order .weak 1 0 (record { one = omega arith; other = omega arith; differ = λ e. omega arith }) .0 b-weak
+
+-- so that they are not free to swap (02, 2026-04)
+pub bound : ¬ FreeToSwap runB 0 1
+bound s = let r = s .one-first in never-first (r .0) (r .1) (r .2)
 
 -- ---- cases a and f: events 0, 1 and 2 are the write, the flush and the park; the condition that the write made is marked
 

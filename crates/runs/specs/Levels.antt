@@ -30,7 +30,7 @@ use Rattle.runs.specs.Closure.{strict-is, weak-is}
 -- ---- arrangements that keep the record's order keep it as a relation of numbers
 
 module _ (N : Net) (R : RunRecord) (W : WellFormed N R) where
-  kept : {lines : List (List ℕ)} → KeepsOrder R lines → Kept (length (R .events)) (orderOf R) lines
+  pub kept : {lines : List (List ℕ)} → KeepsOrder R lines → Kept (length (R .events)) (orderOf R) lines
   kept {lines} k = record {
     arranged = k .each-once;
     keeps = record {
@@ -42,7 +42,7 @@ module _ (N : Net) (R : RunRecord) (W : WellFormed N R) where
     };
   }
 
-  kept-back : {lines : List (List ℕ)} → Kept (length (R .events)) (orderOf R) lines → KeepsOrder R lines
+  pub kept-back : {lines : List (List ℕ)} → Kept (length (R .events)) (orderOf R) lines → KeepsOrder R lines
   kept-back k = record {
     each-once = k .arranged;
     strict = λ e f l m p. k .keeps .strict e f l m (strict-order N R W e f l m .1 p);

@@ -46,6 +46,7 @@ pub mod Within
 pub mod ReaderSpots
 pub mod Spots
 pub mod Summary
+pub mod Independence
 pub mod Readless
 pub mod WithoutReads
 pub mod EitherEnding

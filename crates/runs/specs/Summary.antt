@@ -54,7 +54,7 @@ lines-most : (N : Net) (R : RunRecord) → IsProcess N R → lineCount (levels R
 lines-most N R I = omega (arith, arranged-count R, lines-few (length (R .events)) (arrangedLines (levels R)) (arranged-keeps N R (I .wellFormed) (I .process) .each-once))
 
 -- what is built from the lines of a net and a log is a process
-built-is-process : (net log : List Line) (N : Net) (R : RunRecord) → netOf net ≡ gives N → built bench N log ≡ gives R → IsProcess N R
+pub built-is-process : (net log : List Line) (N : Net) (R : RunRecord) → netOf net ≡ gives N → built bench N log ≡ gives R → IsProcess N R
 unfolding built recordFor bench
 built-is-process net log N R e h =
     let b = of-bind (playLog bench N log) _ h in
