@@ -1,5 +1,6 @@
-//! Demand 3 by brute force: small nets, runs of up to five events, and every arrangement of the events. The clauses are
-//! judged against a subject by what is written here and in `model` alone; nothing of the simulator is asked.
+//! Demand 3 and independent pairs (02, 2026-04) by brute force: small nets, runs of up to five events, and every arrangement of
+//! the events. The clauses are judged against a subject by what is written here and in `model` alone; nothing of the simulator is
+//! asked.
 
 #[cfg(test)]
 mod faults;
@@ -21,7 +22,7 @@ pub struct Plan {
     pub seed: u64,
 }
 
-/// What is judged: the clauses of demand 3, and the exactness that they rest on.
+/// What is judged: the clauses of demand 3, the exactness that they rest on, and what independent pairs are.
 #[derive(Clone, Copy, Debug, PartialEq, Eq, PartialOrd, Ord)]
 pub enum Clause {
     Placed,
@@ -33,6 +34,7 @@ pub enum Clause {
     SameEnd,
     Strict,
     NotLater,
+    Swapped,
     Accepted,
     Own,
     Process,
@@ -41,7 +43,7 @@ pub enum Clause {
 }
 
 impl Clause {
-    pub const ALL: [(Clause, &'static str); 14] = [
+    pub const ALL: [(Clause, &'static str); 15] = [
         (Clause::Placed, "the arrangement written puts each event into one of its steps, none of them empty"),
         (Clause::Keeps, "the arrangement written keeps the order"),
         (Clause::Least, "the returned count is that of its steps, and no arrangement that keeps the order has fewer"),
@@ -51,11 +53,12 @@ impl Clause {
         (Clause::SameEnd, "all arrangements that keep the order end in the same marking"),
         (Clause::Strict, "2 in the table exactly where earlier in every arrangement"),
         (Clause::NotLater, "1 or 2 in the table exactly where later in none"),
+        (Clause::Swapped, "two events are an independent pair, with 0 twice, exactly where each is first in some arrangement and both are in one step of some"),
         (Clause::Accepted, "the record built from an enabled step sequence is accepted"),
         (Clause::Own, "an enabled step sequence is among the arrangements that keep its record's order"),
         (Clause::Process, "39 exactly where no arrangement keeps the pairs"),
         (Clause::Built, "exactly the enabled step sequences are built, and 24 or 25 says why not"),
-        (Clause::Rest, "the rest of the table is 0, and the counts of events, conditions and independent pairs"),
+        (Clause::Rest, "the rest of the table is 0, and the counts of events and conditions"),
     ];
 }
 
@@ -65,6 +68,8 @@ pub struct Counts {
     records: usize,
     /// Records accepted that have R marks.
     reading: usize,
+    /// Records accepted that have two events which no arrangement parts.
+    looped: usize,
     cyclic: usize,
     arrangements: usize,
     keeping: usize,
@@ -87,13 +92,14 @@ pub fn brute(subject: &dyn Subject, plan: &Plan) -> bool {
         println!("{:>9} times: {words}", counts.judged.get(&clause).unwrap_or(&0));
     }
     println!(
-        "brute ({}): every run of {} nets and one of {}: {} runs, {} records accepted ({} with readers) and {} cyclic, {} arrangements of which {} keep the order, {} failed",
+        "brute ({}): every run of {} nets and one of {}: {} runs, {} records accepted ({} with readers, {} with loops) and {} cyclic, {} arrangements of which {} keep the order, {} failed",
         subject.name(),
         plan.nets,
         plan.runs,
         counts.runs,
         counts.records,
         counts.reading,
+        counts.looped,
         counts.cyclic,
         counts.arrangements,
         counts.keeping,
@@ -145,7 +151,7 @@ fn every_run(subject: &dyn Subject, rng: &mut Rng, counts: &mut Counts) -> Resul
 
 /// A net, a run of it with its events in any order in a step, its record and some changed ones.
 fn one_run(subject: &dyn Subject, rng: &mut Rng, counts: &mut Counts) -> Result<(), Failure> {
-    let (net, steps) = longest_of_four(rng);
+    let (net, steps) = if rng.chance(20) { rings_and_run(rng) } else { longest_of_four(rng) };
     let text = net.text();
     let mut trial = Trial { subject, net: &net, net_text: &text, rng, counts };
     let built = trial.build(&steps)?;
@@ -179,6 +185,12 @@ fn other_reads(trial: &mut Trial, record: &RecordPlan) -> Result<(), Failure> {
 
 fn any_step(rng: &mut Rng, net: &NetPlan) -> Vec<usize> {
     (0..rng.between(1, 3)).map(|_| rng.below(net.transitions())).collect()
+}
+
+/// Loops of events, which other nets seldom have.
+fn rings_and_run(rng: &mut Rng) -> (NetPlan, Vec<Vec<usize>>) {
+    let rings = gen::loops::rings(rng, SIZE.transitions, SIZE.events);
+    (rings.net(), rings.steps(|| rng.chance(70)))
 }
 
 /// Runs of one event or none show little: a few are made, and the longest taken.

@@ -100,7 +100,8 @@ pub struct Case {
 }
 
 impl Case {
-    /// Does no text make use of a request of document 02 but these? Then the answer is what it is with these alone.
+    /// Does no text make use of a request of document 02 but these? Then the answer is what it is with these alone. 2026-04 is one
+    /// of them wherever this is asked: it adds nothing to the texts.
     pub fn within(&self, requests: Requests) -> bool {
         let reads = |text: &[u8]| text.split(|byte| *byte == 10).any(|line| line.starts_with(b"R"));
         let returns = |text: &[u8]| text.windows(2).any(|two| two == b"\r\n");

@@ -13,7 +13,7 @@ pub enum Source {
     Vectors,
     Fixed,
     Generated,
-    /// By the generators as they were before each request of document 02, by turns.
+    /// By the generators as they were before each request of document 02 that adds to the texts, by turns.
     Base,
     /// By the generators as they were before 2026-02, each case with two choices of line ends.
     Endings,
@@ -21,7 +21,7 @@ pub enum Source {
 
 impl Source {
     pub const ALL: [Source; 5] = [Source::Vectors, Source::Fixed, Source::Generated, Source::Base, Source::Endings];
-    /// For a subject that has document 01 alone.
+    /// For a subject that has document 01 with 2026-04, which is all that there is without lines `R` and byte 13.
     pub const OF_DOCUMENT_01: [Source; 3] = [Source::Vectors, Source::Fixed, Source::Base];
 
     pub fn name(self) -> &'static str {
@@ -40,7 +40,7 @@ pub struct Reference<'a> {
 pub struct Plan {
     pub sources: Vec<Source>,
     /// Generated cases, besides the others. By earlier generators there are a quarter as many, or as many for a subject that has
-    /// document 01 alone; with two choices of line ends, a tenth.
+    /// the texts of document 01 alone; with two choices of line ends, a tenth.
     pub cases: usize,
     pub seed: u64,
     /// After so many differences nothing more is run.
@@ -87,7 +87,7 @@ pub fn compare(subject: &dyn Subject, reference: Reference, plan: &Plan) -> bool
 }
 
 impl Comparison<'_> {
-    /// Has the subject document 01 alone? Then cases that make use of a request are left out.
+    /// Has the subject the texts of document 01 alone? Then cases that make use of a request are left out.
     fn of_document_01(&self) -> bool {
         self.plan.sources == Source::OF_DOCUMENT_01
     }

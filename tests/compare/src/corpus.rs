@@ -1,5 +1,6 @@
 //! Fixed cases without an answer written out: texts damaged at every byte, and the limits from both sides.
 
+mod loops;
 mod returns;
 
 use crate::case::{lent, run, Case, Operation};
@@ -28,6 +29,7 @@ pub fn all() -> Vec<Case> {
     lines_asked(&mut cases);
     long_texts(&mut cases);
     returns::add(&mut cases);
+    loops::add(&mut cases);
     cases
 }
 

@@ -4,6 +4,7 @@
 mod arrangements;
 mod damage;
 mod logs;
+pub mod loops;
 mod nets;
 mod readers;
 mod records;
@@ -69,9 +70,13 @@ pub fn round(rng: &mut Rng) -> Vec<Case> {
     round_with(rng, Requests::ALL)
 }
 
-/// A round as it was when these requests were taken in and no other. Byte 13 is put in last, so that the draws before it stay.
+/// A round as it was when these requests were taken in and no other. Loops come after all else, and byte 13 is put in last, so that
+/// the draws before them stay.
 pub fn round_with(rng: &mut Rng, requests: Requests) -> Vec<Case> {
     let mut cases = cases(rng, requests.read_arcs);
+    if requests.free_to_swap && rng.chance(15) {
+        cases.extend(loops::cases(rng));
+    }
     if requests.carriage_returns {
         cases.iter_mut().for_each(|case| returns::put(rng, case));
     }

@@ -73,12 +73,15 @@ pub struct Requests {
     pub read_arcs: bool,
     /// 2026-02: 13 and 10 end a line too.
     pub carriage_returns: bool,
+    /// 2026-04: two events are no longer independent where one is not later than the other.
+    pub free_to_swap: bool,
 }
 
 impl Requests {
-    pub const ALL: Requests = Requests { read_arcs: true, carriage_returns: true };
-    /// What was taken in before each of them.
-    pub const BEFORE: [Requests; 2] = [Requests { read_arcs: false, carriage_returns: false }, Requests { read_arcs: true, carriage_returns: false }];
+    pub const ALL: Requests = Requests { read_arcs: true, carriage_returns: true, free_to_swap: true };
+    /// What was taken in before each request that adds to the texts. 2026-04 is in both: it adds nothing to them, and changes the
+    /// answers to old ones too.
+    pub const BEFORE: [Requests; 2] = [Requests { read_arcs: false, carriage_returns: false, ..Self::ALL }, Requests { carriage_returns: false, ..Self::ALL }];
 }
 
 /// The net, the record and its order, when none of 11 to 15, 51 and 31 to 39 is met.
@@ -111,7 +114,7 @@ fn try_check(requests: Requests, net: &[u8], record: &[u8], table: &mut [u8]) ->
             table[EVENTS * e + f] = order.entry(e, f);
         }
     }
-    Ok(Answer::gives(record.events.len(), record.conditions.len(), order.independent_pairs()))
+    Ok(Answer::gives(record.events.len(), record.conditions.len(), order.independent_pairs(requests)))
 }
 
 fn try_replay(requests: Requests, net: &[u8], record: &[u8], arrangement: &[u8], rows: &mut [u16]) -> Result<Answer, Refusal> {
@@ -140,16 +143,17 @@ pub struct Simulator {
 /// With every request taken in: what the library is held to.
 pub const SIMULATOR: Simulator = Simulator { requests: Requests::ALL };
 
-/// As it was before each request: what the library is held to where no text makes use of that one or a later one. Before the
-/// first it is document 01.
+/// As it was before each request that adds to the texts: what the library is held to where no text makes use of that one or a
+/// later one. Before the first it is document 01 with 2026-04, which changes the answers to old inputs too.
 pub const BEFORE: [Simulator; 2] = [Simulator { requests: Requests::BEFORE[0] }, Simulator { requests: Requests::BEFORE[1] }];
 
 impl Subject for Simulator {
     fn name(&self) -> &'static str {
         match self.requests {
             Requests::ALL => "simulator",
+            Requests { free_to_swap: false, .. } => "simulator with the pairs of document 01",
             Requests { read_arcs: true, .. } => "simulator without carriage returns",
-            _ => "simulator without requests",
+            _ => "simulator without read arcs and carriage returns",
         }
     }
 

@@ -11,6 +11,7 @@ mod programs;
 mod readers;
 mod records;
 mod returns;
+mod swaps;
 
 use crate::answer::Answer;
 use crate::case::{fresh, lent, Case, Operation, Outcome};
@@ -219,5 +220,6 @@ pub fn all() -> Vec<Vector> {
     programs::add(&mut book);
     readers::add(&mut book);
     returns::add(&mut book);
+    swaps::add(&mut book);
     book.vectors
 }

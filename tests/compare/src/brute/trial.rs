@@ -178,17 +178,31 @@ impl Trial<'_> {
 
     fn table(&mut self, text: &[u8], record: &RecordPlan, answer: &Answer, table: &[u8], kept: &Kept) -> Result<(), Failure> {
         let events = record.events.len();
-        let mut independent = 0;
         for (e, f) in (0..events).flat_map(|e| (0..events).map(move |f| (e, f))).filter(|(e, f)| e != f) {
             let entry = table[WIDTH * e + f];
             self.hold(Clause::Strict, (entry == 2) == kept.earlier_in_all(e, f), answer, &[text])?;
             self.hold(Clause::NotLater, (entry == 1 || entry == 2) == kept.later_in_none(e, f), answer, &[text])?;
-            independent += (e < f && !kept.earlier_in_all(e, f) && !kept.earlier_in_all(f, e)) as u64;
         }
         let of_two = |at: usize| at / WIDTH != at % WIDTH && (at / WIDTH).max(at % WIDTH) < events;
         let zeros = (0..table.len()).all(|at| of_two(at) || table[at] == 0);
-        let counts = (events as u64, record.conditions.len() as u64, independent);
-        self.hold(Clause::Rest, zeros && (answer.a, answer.b, answer.c) == counts, answer, &[text])
+        let counts = (events as u64, record.conditions.len() as u64);
+        self.hold(Clause::Rest, zeros && (answer.a, answer.b) == counts, answer, &[text])?;
+        self.swapped(text, events, answer, table, kept)
+    }
+
+    /// Which pairs are independent, by the arrangements that keep the order; where one comes first in some and the other in some,
+    /// there is one with both in one step.
+    fn swapped(&mut self, text: &[u8], events: usize, answer: &Answer, table: &[u8], kept: &Kept) -> Result<(), Failure> {
+        let mut independent = 0;
+        let pairs = || (0..events).flat_map(|f| (0..f).map(move |e| (e, f)));
+        self.counts.looped += pairs().any(|(e, f)| kept.later_in_none(e, f) && kept.later_in_none(f, e)) as usize;
+        for (e, f) in pairs() {
+            let (either_first, together) = (kept.earlier_in_some(e, f) && kept.earlier_in_some(f, e), kept.together_in_some(e, f));
+            let zeros = table[WIDTH * e + f] == 0 && table[WIDTH * f + e] == 0;
+            self.hold(Clause::Swapped, zeros == (either_first && together) && (together || !either_first), answer, &[text])?;
+            independent += (either_first && together) as u64;
+        }
+        self.hold(Clause::Swapped, answer.c == independent, answer, &[text])
     }
 
     /// What arranging writes.
@@ -222,7 +236,15 @@ impl Kept {
     }
 
     fn later_in_none(&self, e: usize, f: usize) -> bool {
-        !self.arranged.iter().any(|line_of| line_of[e] > line_of[f])
+        !self.earlier_in_some(f, e)
+    }
+
+    fn earlier_in_some(&self, e: usize, f: usize) -> bool {
+        self.arranged.iter().any(|line_of| line_of[e] < line_of[f])
+    }
+
+    fn together_in_some(&self, e: usize, f: usize) -> bool {
+        self.arranged.iter().any(|line_of| line_of[e] == line_of[f])
     }
 }
 

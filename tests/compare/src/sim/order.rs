@@ -1,7 +1,7 @@
 //! The closed order, by search. A walk is followed through states (event, was there a strict pair yet?): f is reached
 //! strictly from e when the state (f, yes) is reached from (e, no). A state search covers walks that go round a cycle too.
 
-use super::EVENTS;
+use super::{Requests, EVENTS};
 
 #[derive(Clone, Copy, Debug, PartialEq, Eq, PartialOrd, Ord)]
 pub struct Pair {
@@ -45,9 +45,10 @@ impl Order {
         }
     }
 
-    /// Unordered pairs of two different events, neither strictly before the other.
-    pub fn independent_pairs(&self) -> usize {
-        let free = |e: usize, f: usize| !self.strictly_before(e, f) && !self.strictly_before(f, e);
+    /// Unordered pairs of two different events, neither strictly before the other, nor not later than it (02, 2026-04).
+    pub fn independent_pairs(&self, requests: Requests) -> usize {
+        let ordered = |e: usize, f: usize| self.strictly_before(e, f) || requests.free_to_swap && self.not_later(e, f);
+        let free = |e: usize, f: usize| !ordered(e, f) && !ordered(f, e);
         (0..self.events()).map(|f| (0..f).filter(|e| free(*e, f)).count()).sum()
     }
 }

@@ -15,7 +15,7 @@ fn printed(requests: Requests, input: &[u8]) -> Result<String, Refusal> {
     let parsed = net::read(requests, net)?;
     let text = run::read(&parsed, log)?.record(&parsed).text();
     let (_, record, order) = accepted(requests, net, text.as_bytes())?;
-    let pairs = order.independent_pairs();
+    let pairs = order.independent_pairs(requests);
     let arranged = arranging::lines(&order).len();
     Ok(format!("{text}Z,{},{},{pairs},{arranged}\n", record.events.len(), record.conditions.len()))
 }

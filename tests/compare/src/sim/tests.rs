@@ -1,7 +1,7 @@
 //! The simulator against the vectors, and against literal renderings of the rules for which it takes a short cut.
 
 use crate::answer::Answer;
-use crate::case::{difference, lent, run, Case, Operation, Subject};
+use crate::case::{difference, lent, run, Case, Operation, Outcome, Subject};
 use crate::gen::{self, Size, SMALL};
 use crate::model::{log_text, ConditionPlan, MarkPlan, NetPlan, RecordPlan};
 use crate::rng::Rng;
@@ -137,7 +137,8 @@ fn levels_text(levels: &[usize]) -> String {
     (0..lines).map(|level| format!("G{}\n", line(level))).collect()
 }
 
-/// Where no text makes use of a request or of a later one, the simulator as it was before gives the same outcome as it does now.
+/// Where no text makes use of a request or of a later one, the simulator as it was before gives the same outcome as it does now;
+/// of the requests that add to the texts.
 #[test]
 fn requests_turned_off_change_nothing_else() {
     let vectors = vectors::all().into_iter().map(|vector| vector.case);
@@ -165,6 +166,46 @@ fn earlier_rounds_make_no_use_of_later_requests() {
         let (within, other): (Vec<Case>, Vec<Case>) = cases.partition(|case| case.within(requests));
         assert!(within.len() > 50 * other.len(), "{} cases within {requests:?} and {} others", within.len(), other.len());
     }
+}
+
+/// Document 01's count of pairs, all else as it is now.
+const PAIRS_OF_DOCUMENT_01: Simulator = Simulator { requests: Requests { free_to_swap: false, ..Requests::ALL } };
+
+/// Turned off, 2026-04 changes the third number of the check and of the `Z` line, and nothing else: by as many pairs as are
+/// ordered by 1s alone.
+#[test]
+fn requests_turned_off_count_weakly_ordered_pairs() {
+    let mut more = [0; 2];
+    for case in (0..3_000).flat_map(|round| gen::round(&mut Rng::for_round(18, round))) {
+        let (mut now, mut old) = (run(&SIMULATOR, &case), run(&PAIRS_OF_DOCUMENT_01, &case));
+        if case.operation == Operation::Check && now.answer.accepted() {
+            let table = lent(&mut now.bytes);
+            let weak = |e: usize, f: usize| table[EVENTS * e + f].max(table[EVENTS * f + e]) == 1;
+            let weakly: usize = (0..now.answer.a as usize).map(|f| (0..f).filter(|e| weak(*e, f)).count()).sum();
+            assert_eq!(old.answer.c, now.answer.c + weakly as u64, "{case}");
+            more[0] += (weakly > 0) as usize;
+            old.answer.c = now.answer.c;
+        }
+        if case.operation == Operation::Program && old != now {
+            more[1] += 1;
+            assert!(same_but_the_pairs(&mut old, &mut now), "{case}");
+        } else {
+            assert_eq!(difference(&old, &now), None, "{case}");
+        }
+    }
+    assert!(more.iter().all(|count| *count > 100), "{more:?} records and logs");
+}
+
+/// Are two texts that the program printed the same but for the third number of their `Z` lines, which is greater in the first?
+fn same_but_the_pairs(old: &mut Outcome, now: &mut Outcome) -> bool {
+    let parted = |outcome: &mut Outcome| -> (Vec<String>, usize) {
+        let printed = String::from_utf8_lossy(&lent(&mut outcome.bytes)[..outcome.answer.a as usize]).into_owned();
+        let (record, last) = printed.split_at(printed.rfind('Z').unwrap_or(0));
+        let words: Vec<&str> = last.split(',').collect();
+        (vec![record.to_string(), words[..3].join(","), words[4..].join(",")], words[3].parse().expect("a number"))
+    };
+    let (old, now) = (parted(old), parted(now));
+    old.0 == now.0 && old.1 > now.1
 }
 
 fn refusal(subject: &Simulator, operation: Operation, texts: &[&[u8]]) -> (u64, u64) {

@@ -66,7 +66,7 @@ fn levels(book: &mut Book) {
     let record = "E,0 E,1 E,2 C,0,-,0 C,4,-,2 C,1,0,1 C,2,1,- C,3,2,- B,4,1";
     book.built("63: built", lifted, "S,0 S,1,2", record);
     book.arranged("63: lifted by a weak pair", lifted, record, "G,0 G,1,2");
-    book.checked("63: checked", lifted, record, [3, 5, 1], &[(0, 1, 2), (0, 2, 2), (1, 2, 1)]);
+    book.checked("63: checked", lifted, record, [3, 5, 0], &[(0, 1, 2), (0, 2, 2), (1, 2, 1)]);
     book.arranged("58: nothing to arrange", "", "", "");
     let many: Vec<String> = (0..128).map(|event| format!(",{event}")).collect();
     let conditions: Vec<String> = (0..128).map(|event| format!("C,0,-,{event} C,1,{event},-")).collect();

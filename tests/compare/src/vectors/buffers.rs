@@ -28,7 +28,7 @@ pub fn add(book: &mut Book) {
 fn longer(book: &mut Book, more: usize) {
     book.built("65: longer", DRIVE, "S,0,2", CASE_B);
     book.again_with_room("65: longer", Operation::Build.stated_room() + more);
-    book.checked("65: longer", DRIVE, CASE_B, [2, 4, 1], &[(1, 0, 1)]);
+    book.checked("65: longer", DRIVE, CASE_B, [2, 4, 0], &[(1, 0, 1)]);
     book.again_with_room("65: longer", Operation::Check.stated_room() + more);
     book.replayed("65: longer", DRIVE, CASE_B, "G,0,1", &[&[1, 0, 1, 0, 0], &[0, 1, 0, 1, 0]]);
     book.again_with_room("65: longer", Operation::Replay.stated_room() + more);

@@ -56,7 +56,7 @@ fn enabling(book: &mut Book) {
     let outputs = times(7, "C,0,-,-");
     let twice = format!("E,0 E,0 C,0,-,0 C,0,-,1 {outputs} C,1,0,- C,1,1,- B,10,0 B,9,1");
     book.built("26, 35: own output inhibits, twice in a step", SELF, "S,0,0", &twice);
-    book.checked("26: all-weak cycle", SELF, &twice, [2, 11, 1], &[(0, 1, 1), (1, 0, 1)]);
+    book.checked("26: all-weak cycle", SELF, &twice, [2, 11, 0], &[(0, 1, 1), (1, 0, 1)]);
     book.arranged("26: on one line", SELF, &twice, "G,0,1");
     book.not_built("26: not in two steps", SELF, "S,0 S,0", 25, 2);
     book.built("inhibited and taken later", DRIVE, "S,2 S,0 S,1", "E,2 E,0 E,1 C,0,-,1 C,2,-,0 C,3,0,- C,1,1,2 C,4,2,- B,3,0");
@@ -99,7 +99,7 @@ fn marks_limit(book: &mut Book) {
     book.not_built("28: 65 self-inhibiting", "P,99 P,0 T I,0,0 O,0,1 H,1,0", &line_of('S', 65, 0), 27, 1);
     let watched = watched_record();
     book.built("28: 4,096 marks", watch, &full, &watched);
-    book.checked("32: 4,096 marks checked", watch, &watched, [96, 328, 96 * 95 / 2], &watched_table());
+    book.checked("32: 4,096 marks checked", watch, &watched, [96, 328, 64 * 63 / 2 + 32 * 31 / 2], &watched_table());
 }
 
 /// 64 events of transition 0, before 32 of transition 1, which fill places 2 and 3.

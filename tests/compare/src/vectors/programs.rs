@@ -57,7 +57,7 @@ fn printing(book: &mut Book) {
     book.printed("net's line", "P,1 P,999 =", "X,12,2");
     book.printed("unended log line", &format!("{DRIVE} = S,0~"), "X,21,1");
     book.printed("conditions alone", "P,2 =", "C,0,-,- C,0,-,- Z,0,2,0,0");
-    book.printed("mutual pairs", &format!("{MUTUAL} = S,0,1"), &format!("{MUTUAL_RECORD} Z,2,4,1,1"));
+    book.printed("mutual pairs", &format!("{MUTUAL} = S,0,1"), &format!("{MUTUAL_RECORD} Z,2,4,0,1"));
     let conditions: Vec<String> = (0..128).map(|e| format!("C,0,{e},{}", if e < 127 { (e + 1).to_string() } else { "-".to_string() })).collect();
     let chain = format!("{} C,0,-,0 {} Z,128,129,0,128", times(128, "E,0"), conditions.join(" "));
     book.printed("128 lines", &format!("{LOOP} = {}", times(128, "S,0")), &chain);

@@ -165,7 +165,7 @@ fn marks(book: &mut Book) {
     let two = "E,0 E,1 C,0,-,0 C,2,-,1 C,2,-,- C,1,0,- C,3,1,-";
     book.no_record("37: two conditions of the place", TWO_TOKENS, &format!("{two} R,1,0 R,2,0"), 37, 0);
     let both = "E,0 E,1 C,0,-,0 C,1,-,1 C,3,-,- C,2,0,- C,2,1,-";
-    book.checked("due of either kind", READ_AND_WATCH, &format!("{both} R,2,0 B,3,1"), [2, 5, 1], &[(1, 0, 1)]);
+    book.checked("due of either kind", READ_AND_WATCH, &format!("{both} R,2,0 B,3,1"), [2, 5, 0], &[(1, 0, 1)]);
     book.no_record("37: R and B missing, the lower event reads", READ_AND_WATCH, both, 37, 0);
     book.no_record("37: B missing", READ_AND_WATCH, &format!("{both} R,2,0"), 37, 1);
     let turned = "E,1 E,0 C,0,-,1 C,1,-,0 C,3,-,- C,2,0,- C,2,1,-";
@@ -194,34 +194,34 @@ fn inhibited_too(book: &mut Book) {
 
 fn orders(book: &mut Book) {
     let record = "E,0 E,1 C,0,-,0 C,2,-,1 C,1,0,- C,3,1,- R,1,0";
-    book.checked("reader not later than the taker", READ, record, [2, 4, 1], &[(0, 1, 1)]);
+    book.checked("reader not later than the taker", READ, record, [2, 4, 0], &[(0, 1, 1)]);
     book.arranged("on one line", READ, record, "G,0,1");
     book.replayed("reader first", READ, record, "G,0 G,1", &[&[1, 0, 1, 0], &[0, 1, 1, 0], &[0, 1, 0, 1]]);
     book.replayed("together", READ, record, "G,1,0", &[&[1, 0, 1, 0], &[0, 1, 0, 1]]);
     book.not_replayed("reader after the taker", READ, record, "G,1 G,0", 44, 1);
-    book.checked("two readers", TWO_READERS, TWO_READ, [3, 6, 3], &[(0, 2, 1), (1, 2, 1)]);
-    book.checked("producer strictly before the reader", MADE, MADE_READ, [3, 5, 1], &[(0, 1, 2), (0, 2, 2), (1, 2, 1)]);
+    book.checked("two readers", TWO_READERS, TWO_READ, [3, 6, 1], &[(0, 2, 1), (1, 2, 1)]);
+    book.checked("producer strictly before the reader", MADE, MADE_READ, [3, 5, 0], &[(0, 1, 2), (0, 2, 2), (1, 2, 1)]);
     book.arranged("behind the producer", MADE, MADE_READ, "G,0 G,1,2");
     book.not_replayed("beside the producer", MADE, MADE_READ, "G,0,1 G,2", 44, 1);
-    book.checked("weak both ways", EACH_OTHER, EACH_READ, [2, 4, 1], &[(0, 1, 1), (1, 0, 1)]);
+    book.checked("weak both ways", EACH_OTHER, EACH_READ, [2, 4, 0], &[(0, 1, 1), (1, 0, 1)]);
     book.arranged("each other on one line", EACH_OTHER, EACH_READ, "G,0,1");
     book.not_replayed("each other parted", EACH_OTHER, EACH_READ, "G,0 G,1", 44, 1);
     let turned = "E,1 E,0 C,0,-,1 C,1,-,0 C,2,0,- C,2,1,- R,1,1 R,0,0";
-    book.checked("marks in any order", EACH_OTHER, turned, [2, 4, 1], &[(0, 1, 1), (1, 0, 1)]);
+    book.checked("marks in any order", EACH_OTHER, turned, [2, 4, 0], &[(0, 1, 1), (1, 0, 1)]);
 }
 
 /// Other processes of the same net: another token read than the builder's.
 fn other_conditions(book: &mut Book) {
     let taken = "E,0 E,1 C,0,-,0 C,2,-,1 C,2,-,- C,1,0,- C,3,1,-";
-    book.checked("the builder's", TWO_TOKENS, &format!("{taken} R,1,0"), [2, 5, 1], &[(0, 1, 1)]);
+    book.checked("the builder's", TWO_TOKENS, &format!("{taken} R,1,0"), [2, 5, 0], &[(0, 1, 1)]);
     book.checked("another of the place", TWO_TOKENS, &format!("{taken} R,2,0"), [2, 5, 1], &[]);
     book.replayed("the taker first", TWO_TOKENS, &format!("{taken} R,2,0"), "G,1 G,0", &[&[1, 0, 2, 0], &[1, 0, 1, 1], &[0, 1, 1, 1]]);
     let again = "P,1 P,0 P,1 T T I,0,0 O,0,1 R,2,0 I,2,1 O,1,2";
     let taken = "E,0 E,1 C,0,-,0 C,2,-,1 C,1,0,- C,2,1,-";
-    book.checked("the old one", again, &format!("{taken} R,1,0"), [2, 4, 1], &[(0, 1, 1)]);
+    book.checked("the old one", again, &format!("{taken} R,1,0"), [2, 4, 0], &[(0, 1, 1)]);
     book.checked("the new one", again, &format!("{taken} R,3,0"), [2, 4, 0], &[(1, 0, 2)]);
     let chain = "E,1 E,0 E,1 C,0,-,1 C,2,-,0 C,1,1,- C,2,0,2 C,2,2,-";
-    book.checked("between", again, &format!("{chain} R,3,1"), [3, 5, 1], &[(0, 1, 2), (0, 2, 2), (1, 2, 1)]);
+    book.checked("between", again, &format!("{chain} R,3,1"), [3, 5, 0], &[(0, 1, 2), (0, 2, 2), (1, 2, 1)]);
 }
 
 /// Transition 0 reads place 2 and is inhibited by what it makes: so many events of it have so many squared marks. Transition 1
@@ -246,7 +246,7 @@ fn marks_limit(book: &mut Book) {
     book.built("27: 4,096 marks with 64 R", &full_net(1), &step, &full_record(1));
     book.built("27: 4,096 marks, two tokens to read", &full_net(2), &step, &full_record(2));
     let table: Vec<(usize, usize, u8)> = (0..64).flat_map(|e| (0..64).filter(move |f| *f != e).map(move |f| (e, f, 1))).collect();
-    book.checked("32: 4,096 marks with 64 R checked", &full_net(1), &full_record(1), [64, 165, 64 * 63 / 2], &table);
+    book.checked("32: 4,096 marks with 64 R checked", &full_net(1), &full_record(1), [64, 165, 0], &table);
     book.not_built("27: one R more", &full_net(1), &format!("{step} S,1"), 27, 2);
     let two = "P,99 P,0 P,1 P,1 T I,0,0 O,0,1 H,1,0 R,2,0 R,3,0";
     book.not_built("27: 4,160 marks, 4,032 of them B", two, &line_of('S', 64, 0), 27, 1);
@@ -275,12 +275,12 @@ fn many_readers(book: &mut Book) {
     book.built("127 readers, one a line", net, &format!("{} S,1", times(127, "S,0")), &record);
     book.built("127 readers and the taker on a line", net, &format!("{},1", line_of('S', 127, 0)), &record);
     let table: Vec<(usize, usize, u8)> = (0..127).map(|event| (event, 127, 1)).collect();
-    book.checked("127 readers checked", net, &record, [128, 256, 8_128], &table);
+    book.checked("127 readers checked", net, &record, [128, 256, 8_128 - 127], &table);
 }
 
 fn printed(book: &mut Book) {
-    book.printed("a reader and a taker", &format!("{READ} = S,0,1"), "E,0 E,1 C,0,-,0 C,2,-,1 C,1,0,- C,3,1,- R,1,0 Z,2,4,1,1");
-    book.printed("a token made and read", &format!("{MADE} = S,0 S,1,2"), &format!("{MADE_READ} Z,3,5,1,2"));
+    book.printed("a reader and a taker", &format!("{READ} = S,0,1"), "E,0 E,1 C,0,-,0 C,2,-,1 C,1,0,- C,3,1,- R,1,0 Z,2,4,0,1");
+    book.printed("a token made and read", &format!("{MADE} = S,0 S,1,2"), &format!("{MADE_READ} Z,3,5,0,2"));
     book.printed("no token to read", &format!("{READ} = S,1 S,0"), "X,24,2");
     book.printed("read and consumed", "P,1 T O,0,0 I,0,0 R,0,0 = S,0", "X,51,5");
 }

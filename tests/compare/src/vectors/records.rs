@@ -103,8 +103,8 @@ fn cycles(book: &mut Book) {
 }
 
 fn tables(book: &mut Book) {
-    book.checked("50: mutual weak pairs are one independent pair", MUTUAL, MUTUAL_RECORD, [2, 4, 1], &[(0, 1, 1), (1, 0, 1)]);
-    book.checked("38: marks in another order", MUTUAL, "E,0 E,1 C,3,1,- C,1,-,1 C,2,0,- C,0,-,0 B,2,1 B,0,0", [2, 4, 1], &[(0, 1, 1), (1, 0, 1)]);
+    book.checked("50: mutual weak pairs are no independent pair (2026-04)", MUTUAL, MUTUAL_RECORD, [2, 4, 0], &[(0, 1, 1), (1, 0, 1)]);
+    book.checked("38: marks in another order", MUTUAL, "E,0 E,1 C,3,1,- C,1,-,1 C,2,0,- C,0,-,0 B,2,1 B,0,0", [2, 4, 0], &[(0, 1, 1), (1, 0, 1)]);
     let chosen = "E,0 E,0 C,0,-,1 C,0,-,0 C,1,0,- C,1,1,-";
     book.checked("39: another condition taken", "P,2 P,0 T I,0,0 O,0,1", chosen, [2, 4, 1], &[]);
     let newest = "E,0 E,0 C,0,-,0 C,0,-,- C,0,0,1 C,0,1,-";

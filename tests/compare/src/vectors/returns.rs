@@ -62,7 +62,7 @@ fn logs(book: &mut Book) {
 }
 
 fn records(book: &mut Book) {
-    let table = [2, 4, 1];
+    let table = [2, 4, 0];
     let drive = Text::from(DRIVE).0;
     book.checked("either ending in a record", drive.clone(), b"E,0\r\nE,2\nC,0,-,0\r\nC,2,-,1\r\nC,1,0,-\nC,3,1,-\r\nB,2,1\r\n", table, &[(1, 0, 1)]);
     book.arranged("byte 10 alone is written", MIXED.to_vec(), b"E,0\r\nC,0,-,0\r\nC,1,0,-\r\n", "G,0");

@@ -33,7 +33,7 @@ pub enum Op {
     Program,
 }
 
-/// One implementation of document 01.
+/// One implementation of document 01 with 2026-04.
 pub trait Ops {
     fn name(&self) -> &'static str;
     /// Whether the implementation has the operation.
@@ -253,6 +253,16 @@ fn long_net(shuffled: bool) -> Vec<u8> {
     text.into_bytes()
 }
 
+/// Transitions that take from place 0 and fill a place each, the place behind
+/// their number, and are inhibited by the place that the next one fills.
+fn crossed_ring(transitions: usize) -> Vec<u8> {
+    let mut text = "P,128\n".to_string() + &"P,0\n".repeat(transitions) + &"T\n".repeat(transitions);
+    for t in 0..transitions {
+        text += &format!("I,0,{t}\nO,{t},{}\nH,{},{t}\n", t + 1, (t + 1) % transitions + 1);
+    }
+    text.into_bytes()
+}
+
 fn built(net: &[u8], log: &[u8]) -> Vec<u8> {
     let mut buffer = vec![0; peer::BUILD_BYTES];
     let len = peer::build(net, log, &mut buffer).expect("a sound run");
@@ -364,11 +374,17 @@ fn cases() -> Vec<Case> {
     let wide_net = lines("P,200 P,0 T I,0,0 O,0,1");
     let wide_log = log_text(&[vec![0; 128]]);
     let wide = built(&wide_net, &wide_log);
+    // 31 transitions in a ring, each inhibited by what the next one fills: 128
+    // events in one step, each not later than all others.
+    let crossed_net = crossed_ring(31);
+    let crossed_log = log_text(&[(0..128).map(|e| e % 31).collect()]);
+    let crossed = built(&crossed_net, &crossed_log);
 
     eprintln!(
-        "drive a: {}\nmiddling: {}\nfull: {}\nchain: {}\ndense: {}\nwide: {}\nlong net: {} bytes, {} lines",
+        "drive a: {}\nmiddling: {}\nfull: {}\nchain: {}\ndense: {}\nwide: {}\ncrossed: {}\nlong net: {} bytes, {} lines",
         counts(&drive, &rec_a), counts(&mid_net, &mid_rec), counts(&full_net, &full_rec),
         counts(&ring, &chain), counts(&dense_net, &dense), counts(&wide_net, &wide),
+        counts(&crossed_net, &crossed),
         long.len(), long.iter().filter(|&&b| b == b'\n').count(),
     );
 
@@ -396,6 +412,7 @@ fn cases() -> Vec<Case> {
     add(Check, "dense", &[&dense_net, &dense], none);
     add(Check, "dense renumbered", &[&dense_net, &dense_mixed], none);
     add(Check, "wide", &[&wide_net, &wide], none);
+    add(Check, "crossed", &[&crossed_net, &crossed], none);
     let last = full_rec[..full_rec.len() - 1].iter().rposition(|&b| b == b'\n').unwrap_or(0) + 1;
     add(Check, "full less a mark (refused 37)", &[&full_net, &full_rec[..last]], none);
     // all of it is read, and nothing more: a mark named by five digits stands behind the last
