@@ -86,10 +86,10 @@ each_example() {
   for log in examples/*/*.log; do holds "$log has an output" test -f "${log%.log}.out"; done
 }
 
-# The lines that document 01 prints for its cases a to e.
+# The lines that document 01 prints for its cases a to e; the events of case b are no independent pair since 2026-04.
 cases() {
   has "case a" examples/drive/a.out E,0 E,1 E,2 C,0,-,0 C,2,-,2 C,1,0,1 C,4,1,- C,3,2,- A,2,2 Z,3,5,0,3
-  has "case b" examples/drive/b.out E,0 E,2 C,0,-,0 C,2,-,1 C,1,0,- C,3,1,- B,2,1 Z,2,4,1,1
+  has "case b" examples/drive/b.out E,0 E,2 C,0,-,0 C,2,-,1 C,1,0,- C,3,1,- B,2,1 Z,2,4,0,1
   has "case c" examples/drive/c.out X,25,2
   has "case d" examples/drive/d.out X,24,1
   has "case e" examples/drive/e.out C,0,-,- C,2,-,- Z,0,2,0,0
@@ -140,18 +140,18 @@ run_limits() {
   { pour 129; step 129 0; } > "$input"; gives "129 events in one step" X,23,1
   { pour 384; step 128 0; } > "$input"; gives "512 conditions" Z,128,512,8128,1
   { pour 385; repeat 128 S,0; } > "$input"; gives "513 conditions" X,26,128
-  { fill; step 64 0; step 32 1; } > "$input"; gives "4,096 marks" Z,96,225,4560,1
+  { fill; step 64 0; step 32 1; } > "$input"; gives "4,096 marks" Z,96,225,2512,1
   holds "4,096 marks are printed" test "$(grep -c '^B,' "$work/printed")" -eq 4096
   { fill; step 64 0; step 32 1; step 1 1; } > "$input"; gives "one mark too many" X,27,3
-  { lamp; step 64 0; } > "$input"; gives "4,096 marks with 64 readers" Z,64,165,2016,1
+  { lamp; step 64 0; } > "$input"; gives "4,096 marks with 64 readers" Z,64,165,0,1
   holds "64 R marks are printed" test "$(grep -c '^R,' "$work/printed")" -eq 64
   { lamp; step 64 0; step 1 1; } > "$input"; gives "one R mark too many" X,27,2
 }
 
 # A token that is read and not taken.
 readers() {
-  has "a token read" examples/temperature/flush.out E,0 E,0 E,1 E,2 E,3 E,1 C,0,-,0 C,0,-,1 C,3,-,3 C,1,0,2 C,1,1,5 C,2,2,- C,4,3,4 C,3,4,- C,2,5,- R,2,2 R,7,5 Z,6,9,5,4
-  has "a token read by two" examples/temperature/together.out E,0 E,0 E,1 E,1 E,2 C,0,-,0 C,0,-,1 C,3,-,4 C,1,0,2 C,1,1,3 C,2,2,- C,2,3,- C,4,4,- R,2,2 R,2,3 Z,5,8,6,2
+  has "a token read" examples/temperature/flush.out E,0 E,0 E,1 E,2 E,3 E,1 C,0,-,0 C,0,-,1 C,3,-,3 C,1,0,2 C,1,1,5 C,2,2,- C,4,3,4 C,3,4,- C,2,5,- R,2,2 R,7,5 Z,6,9,4,4
+  has "a token read by two" examples/temperature/together.out E,0 E,0 E,1 E,1 E,2 C,0,-,0 C,0,-,1 C,3,-,4 C,1,0,2 C,1,1,3 C,2,2,- C,2,3,- C,4,4,- R,2,2 R,2,3 Z,5,8,4,2
   has "no token to read" examples/temperature/warm.out X,24,3
   has "read and consumed" examples/temperature/flush.taken.out X,51,15
   lines P,1 P,1 T I,0,0 O,0,0 R,1,0 = S,0 S,0 > "$input"; gives "a token read again and again" Z,2,4,0,2
@@ -282,7 +282,7 @@ EOF
 small_stack() {
   { fill; step 64 0; step 32 1; } > "$input"
   (ulimit -s 512 && timeout 20 "$program" < "$input" | tail -n 1) > "$work/last" || true
-  has "a stack of 512 kB" "$work/last" Z,96,225,4560,1
+  has "a stack of 512 kB" "$work/last" Z,96,225,2512,1
 }
 
 # ---- the script `record`

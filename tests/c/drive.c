@@ -1,5 +1,6 @@
 /* The C interface from C: the header compiles by itself, its sizes suffice, and the drive net of document 01 comes out as
- * printed there, and a read arc and both line ends as written out here. Exits 0 if all is so; else it says what is not. */
+ * printed there, its pairs counted by 2026-04, and a read arc and both line ends as written out here. Exits 0 if all is so;
+ * else it says what is not. */
 #include "pti.h"
 #include <stdio.h>
 #include <string.h>
@@ -38,7 +39,7 @@ static void build_and_check(void)
     holds("case b's record", memcmp(out, record, sizeof(record) - 1) == 0);
     expect("c", pti_build(TEXT(net), TEXT("S,0\nS,2\n"), out, PTI_RECORD_BYTES), 25, 2, 0, 0, 0);
     expect("short", pti_build(TEXT(net), TEXT("S,0\n"), out, PTI_RECORD_BYTES - 1), 20, 0, 0, 0, 0);
-    expect("check", pti_check(TEXT(net), TEXT(record), out, PTI_TABLE_BYTES), 0, 0, 2, 4, 1);
+    expect("check", pti_check(TEXT(net), TEXT(record), out, PTI_TABLE_BYTES), 0, 0, 2, 4, 0);
     holds("1 at (1,0), and no other of the two events", out[128] == 1 && out[0] == 0 && out[1] == 0 && out[129] == 0);
 }
 
@@ -70,7 +71,7 @@ static void readers(void)
     expect("read and taken", pti_build(TEXT(warm), TEXT("S,0,1\n"), out, PTI_RECORD_BYTES), 0, 0, sizeof(read) - 1, 0, 0);
     holds("an R mark", memcmp(out, read, sizeof(read) - 1) == 0);
     expect("no token to read", pti_build(TEXT(warm), TEXT("S,1\nS,0\n"), out, PTI_RECORD_BYTES), 24, 2, 0, 0, 0);
-    expect("a reader checked", pti_check(TEXT(warm), TEXT(read), out, PTI_TABLE_BYTES), 0, 0, 2, 4, 1);
+    expect("a reader checked", pti_check(TEXT(warm), TEXT(read), out, PTI_TABLE_BYTES), 0, 0, 2, 4, 0);
     holds("the reader not later than the taker", out[1] == 1 && out[128] == 0);
     expect("51", pti_read_net(TEXT("P,1\nT\nO,0,0\nR,0,0\nI,0,0\n")), 51, 5, 0, 0, 0);
 }
