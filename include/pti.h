@@ -32,7 +32,7 @@ pti_answer pti_read_net(const uint8_t *net, size_t net_len);
 pti_answer pti_build(const uint8_t *net, size_t net_len, const uint8_t *log, size_t log_len, uint8_t *out, size_t out_len);
 
 /* Checks a proposed record and writes its order: at 128 * e + f, 2 if e is strictly before f, 1 if only not later, else 0.
- * a: events, b: conditions, c: independent pairs. Refusals 30, the net's, 31 to 39. */
+ * a: events, b: conditions, c: independent pairs, those free to swap. Refusals 30, the net's, 31 to 39. */
 pti_answer pti_check(const uint8_t *net, size_t net_len, const uint8_t *record, size_t record_len, uint8_t *table, size_t table_len);
 
 /* Replays an arrangement and writes the markings: row k's count of place p at 32 * k + p. a: lines played.
