@@ -2,18 +2,15 @@
 -- the program prints behind a record. The crate `runs` has the same over the definitions.
 use mathlib.Core.Path.{_≡_}
 use Prim.Native.Nat.{ℕ, _≤_}
-use mathlib.Core.List.{List, [], _∷_, _++_}
+use mathlib.Core.List.{List}
 use lib.ListN.{length, take}
 use Rattle.spec.specs.Answer.{gives}
-use Rattle.spec.specs.Text.{lineWith}
 use Rattle.spec.specs.Net.{Net, netOf, readNet}
-use Rattle.spec.specs.Record.{RunRecord, bench, recordBytes}
+use Rattle.spec.specs.Record.{RunRecord, bench}
 use Rattle.spec.specs.Building.{built}
 use Rattle.spec.specs.Checking.{readRecord}
-use Rattle.spec.specs.Arranging.{levels, lineCount}
 use Rattle.spec.specs.Printing.{NetAndLog, inputOf}
-use Rattle.spec.specs.Independence.{CountsSwaps}
-use Rattle.spec.specs.declared.Field.the-variants.{Number}
+use Rattle.spec.specs.Independence.{CountsSwaps, printedWith}
 use Rattle.spec.specs.declared.Numbers.{Numbers}
 
 -- the number that the check returns is how many pairs of the record are free to swap
@@ -30,8 +27,7 @@ PairsPromised net text old r =
 pub record PairsPrinted (R : RunRecord) (r : Numbers) (new : List ℕ) : Type 0 where
   pub pairs : ℕ
   pub swaps : CountsSwaps R pairs
-  pub printed : take (r .a) new ≡ recordBytes R ++ lineWith "Z" (Number (length (R .events)) ∷ Number (length (R .conditions))
-      ∷ Number pairs ∷ Number (lineCount (levels R)) ∷ [])
+  pub printed : take (r .a) new ≡ printedWith pairs R
 
 abbrev pub PrintPromised : List ℕ → Numbers → List ℕ → Type 0
 PrintPromised input r new =

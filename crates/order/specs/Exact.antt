@@ -71,7 +71,7 @@ module _ (n : ℕ) (c : ℕ → ℕ → ℕ) (o : Order n c) (fs : List ℕ) (wi
   toward-above : (g f : ℕ) → f < n → c g f ≤ toward c g f
   toward-above g f l = elim (ℕ-discrete g f) [ yes q ↦ rw (q, toward-self c f) (omega (arith, o .acyclic f l)) | no q ↦ le-of-eq (sym (toward-other c g f q)) ]
 
-  -- what comes before g stands to f at least as g does
+  -- what comes before h stands to f at least as h does
   down : (g h f : ℕ) → g < n → h < n → f < n → 0 < c g h → 0 < toward c h f → max (c g h) (toward c h f) ≤ toward c g f
   down g h f i l m p q = elim (ℕ-discrete h f) [
     | yes r ↦ let p′ : 0 < c g f = rw r at p in rw (r, toward-self) (omega (arith, toward-above g f m))
@@ -112,7 +112,7 @@ module _ (n : ℕ) (c : ℕ → ℕ → ℕ) (o : Order n c) (fs : List ℕ) (wi
   unfolding late
   late-strict e h = place-late n (towardAll c fs e) (lev n c e) (omega (arith, few e h))
 
-  -- what is not later than any of them, and none of them, behind it,
+  -- what is in no relation to any of them, and none of them itself, behind it,
   pub late-weak : (e : ℕ) → ((f : ℕ) → In f fs → (e ≢ f) × (c e f ≡ 0)) → n < late n c fs e
   unfolding late place
   late-weak e h = rw none (omega arith)
@@ -146,7 +146,7 @@ module _ (n : ℕ) (c : ℕ → ℕ → ℕ) (o : Order n c) (f : ℕ) (m : f < 
   own-line : lateBy f ≡ n
   own-line = late-together n c o (f ∷ []) within-one (of-one (λ g. (h : ℕ) → In h (f ∷ []) → c g h < 2) f (of-one (λ h. c f h < 2) f (o .acyclic f m))) f here
 
-  -- what is not strictly before f comes no earlier, and what is not bound to be no later comes later
+  -- what is not strictly before f comes no earlier than f, and what is in no relation to f comes later
   pub one-strict : (e : ℕ) → c e f < 2 → lateBy f ≤ lateBy e
   one-strict e h = le-trans (le-of-eq own-line) (late-strict n c o (f ∷ []) within-one e (of-one (λ g. c e g < 2) f h))
 

@@ -2,25 +2,20 @@
 -- the other first and with both in one step. Each of them is an extension of the record's pairs (`order`'s `Swap`).
 use mathlib.Core.Path.{_≡_, refl, ap}
 use mathlib.Core.Logic.{_↔_, Ne·symm}
-use Prim.Native.Nat.{ℕ, _≤_}
+use Prim.Native.Nat.{ℕ}
 use native.Mathlib.Omega.{arith}
 use mathlib.Core.Bool.{true, not}
-use mathlib.Core.List.{List, [], _∷_, _++_}
+use mathlib.Core.List.{List}
 use lib.ListN.{length}
 use lib.Dec.{leb}
 use borrow.Author.Tests.{ne-eqb, lt-leb, leb-false}
-use Rattle.spec.specs.Answer.{gives, _>>=_}
-use Rattle.spec.specs.Text.{lineWith}
-use Rattle.spec.specs.Net.{Net, netOf, readNet}
-use Rattle.spec.specs.Record.{RunRecord, bench, recordBytes}
+use Rattle.spec.specs.Answer.{_>>=_}
+use Rattle.spec.specs.Net.{Net}
+use Rattle.spec.specs.Record.{RunRecord}
 use Rattle.spec.specs.Order.{pairs}
 use Rattle.spec.specs.Process.{Process, WellFormed}
-use Rattle.spec.specs.Building.{built}
-use Rattle.spec.specs.Checking.{Checked, readRecord, independent, independentPairs, checkedOf, check}
-use Rattle.spec.specs.Arranging.{levels, lineCount}
-use Rattle.spec.specs.Printing.{NetAndLog, inputOf, program}
+use Rattle.spec.specs.Checking.{independent, independentPairs, checkedOf}
 use Rattle.spec.specs.Runs.{TwoEvents, InSome}
-use Rattle.spec.specs.declared.Field.the-variants.{Number}
 use Rattle.spec.specs.Independence.{FreeToSwap, CountsSwaps, Independence}
 use Rattle.lists.specs.Laws
 use Rattle.order.specs.Order.{Acyclic}
@@ -80,24 +75,14 @@ module _ (N : Net) (R : RunRecord) (W : WellFormed N R) (P : Process N R) where
   pub counts-swaps : CountsSwaps R (independentPairs R)
   counts-swaps = unfold independentPairs in record { counts = independent R; exactly = free; all = refl }
 
--- ---- over texts
-
--- of every accepted net and record
-checks : (net : List ℕ) (N : Net) → readNet net ≡ gives N → (text : List ℕ) (R : RunRecord) → readRecord bench N text ≡ gives R
-    → (room : ℕ) → 16384 ≤ room → (answer : Checked) × (check net text room ≡ gives answer) × CountsSwaps R (answer .independents)
-unfolding checkedOf
-checks net N hN text R hR room h =
-    let I = exactness .checks net N hN text R .0 hR .1 in
-    (checkedOf R, check-given net N hN text R hR room h, counts-swaps N R (I .wellFormed) (I .process))
-
--- and of every input that the program prints a record of
-prints : (input : List ℕ) (i : NetAndLog) → inputOf input ≡ gives i → (N : Net) → netOf (i .net) ≡ gives N
-    → (R : RunRecord) → built bench N (i .log) ≡ gives R
-    → (k : ℕ) × CountsSwaps R k × (program input ≡ recordBytes R ++ lineWith "Z" (Number (length (R .events)) ∷ Number (length (R .conditions)) ∷ Number k ∷ Number (lineCount (levels R)) ∷ []))
-unfolding answerTo _>>=_
-prints input i hi N hN R hR =
-    let I = built-is-process (i .net) (i .log) N R hN hR in
-    (independentPairs R, counts-swaps N R (I .wellFormed) (I .process), summary-back input R (rw (hi, hN) hR) .0)
-
+-- over texts: of every accepted net and record, and of every input that the program prints a record of
 pub independence : Independence
-independence = record { checks = checks; prints = prints }
+unfolding checkedOf answerTo _>>=_
+independence = record {
+  checks = λ net N hN text R hR room h.
+      let I = exactness .checks net N hN text R .0 hR .1 in
+      (checkedOf R, check-given net N hN text R hR room h, counts-swaps N R (I .wellFormed) (I .process));
+  prints = λ input i hi N hN R hR.
+      let I = built-is-process (i .net) (i .log) N R hN hR in
+      (independentPairs R, counts-swaps N R (I .wellFormed) (I .process), summary-back input R (rw (hi, hN) hR) .0);
+}

@@ -32,6 +32,12 @@ pub record CountsSwaps (R : RunRecord) (k : ℕ) : Type 0 where
   pub exactly : (e f : ℕ) → TwoEvents R e f → (counts e f ≡ true) ↔ FreeToSwap R e f
   pub all : k ≡ sum (map (λ e. count (counts e) (upTo e)) (upTo (length (R .events))))
 
+-- "It prints the record, then `Z,events,conditions,pairs,lines`", with k pairs
+abbrev pub printedWith : ℕ → RunRecord → List ℕ
+printedWith k R =
+    recordBytes R ++ lineWith "Z" (Number (length (R .events)) ∷ Number (length (R .conditions))
+    ∷ Number k ∷ Number (lineCount (levels R)) ∷ [])
+
 pub record Independence : Type 0 where
   -- the number that the check returns, of every accepted net and record
   pub checks : (net : List ℕ) (N : Net) → readNet net ≡ gives N
@@ -41,5 +47,4 @@ pub record Independence : Type 0 where
   -- the third number of the line that the program prints behind a record
   pub prints : (input : List ℕ) (i : NetAndLog) → inputOf input ≡ gives i
       → (N : Net) → netOf (i .net) ≡ gives N → (R : RunRecord) → built bench N (i .log) ≡ gives R
-      → (k : ℕ) × CountsSwaps R k
-      × (program input ≡ recordBytes R ++ lineWith "Z" (Number (length (R .events)) ∷ Number (length (R .conditions)) ∷ Number k ∷ Number (lineCount (levels R)) ∷ []))
+      → (k : ℕ) × CountsSwaps R k × (program input ≡ printedWith k R)
