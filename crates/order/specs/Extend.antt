@@ -123,7 +123,7 @@ extension pair n ps within = (
 
 -- a numbering will do as well
 numbered : (pair : ℕ → ℕ → ℕ) (n : ℕ) (ps : List Added) → Within n ps → (ρ : ℕ → ℕ) → Keeps n pair ρ → ((p : Added) → In p ps → KeepsPair ρ p) → Acyclic (joint pair (listed ps)) n
-numbered pair n ps within ρ k h = keeps-acyclic (joint pair (listed ps)) n ρ (joint-keeps pair (listed ps) n ρ .1 (k, listed-keeps n ps within ρ .1 h))
+numbered pair n ps within ρ k h = acyclic-numbered (joint pair (listed ps)) n .1 (ρ, joint-keeps pair (listed ps) n ρ .1 (k, listed-keeps n ps within ρ .1 h))
 
 -- ---- which pairs may be added
 

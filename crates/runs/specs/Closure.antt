@@ -146,9 +146,15 @@ module _ (N : Net) (R : RunRecord) (W : WellFormed N R) where
     λ h. Laws.true-and (ap not (ne-eqb e f (h .0))) (path-is e f .1 (h .1)),
   )
 
--- ---- two different events are ordered where the closed order has a value between them
+-- ---- the tests on the values of the closed order: 2 is strictly before, and two different events with a value are ordered
 
 module _ (N : Net) (R : RunRecord) (W : WellFormed N R) (e f : ℕ) (l : e < length (R .events)) (m : f < length (R .events)) where
+  pub strict-test : isStrictlyBefore R e f ≡ leb 2 (orderOf R e f)
+  strict-test = Laws.same-tests _ _ (
+    λ h. le-leb 2 (orderOf R e f) (strict-order N R W e f l m .1 (strict-is N R W e f .0 h)),
+    λ h. strict-is N R W e f .1 (strict-order N R W e f l m .0 (leb-true 2 (orderOf R e f) h)),
+  )
+
   pub ordered-test : e ≢ f → ordered R e f ≡ leb 1 (orderOf R e f)
   unfolding ordered
   ordered-test d = Laws.same-tests _ _ (
@@ -171,14 +177,8 @@ table-value false (suc (suc zero)) l h = refl
 table-value false (suc (suc (suc x))) l h = absurd (omega arith)
 
 module _ (N : Net) (R : RunRecord) (W : WellFormed N R) (P : Process N R) (e f : ℕ) (l : e < length (R .events)) (m : f < length (R .events)) where
-  strict-test : isStrictlyBefore R e f ≡ leb 2 (orderOf R e f)
-  strict-test = Laws.same-tests _ _ (
-    λ h. le-leb 2 (orderOf R e f) (strict-order N R W e f l m .1 (strict-is N R W e f .0 h)),
-    λ h. strict-is N R W e f .1 (strict-order N R W e f l m .0 (leb-true 2 (orderOf R e f) h)),
-  )
-
   pub related-is : related R e f ≡ entry (orderOf R) e f
   unfolding related entry isNotLater hasPath
-  related-is = rw (strict-test, reach-is (pairs R) (length (R .events)) e f)
+  related-is = rw (strict-test N R W e f l m, reach-is (pairs R) (length (R .events)) e f)
       (table-value (eqb e f) (orderOf R e f) (close-bound (pairAt (pairs R)) (pair-most (pairs R)) _ e f)
       (λ q. rw (← eqb-true e f q) (order N R W P .acyclic e l)))

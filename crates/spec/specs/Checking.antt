@@ -166,12 +166,12 @@ tableAt r e f = cond (ltb e (length (r .events)) && ltb f (length (r .events))) 
 unfoldable pub tableBytes : RunRecord → List ℕ
 tableBytes r = flat (map (λ e. map (tableAt r e) (upTo 128)) (upTo 128))
 
--- 2026-04: "a pair is independent when neither event is strictly before, or not later than, the other in the closed
--- order."
+-- "strictly before, or not later than, the other in the closed order"
 unfoldable pub ordered : RunRecord → ℕ → ℕ → Bool
 ordered r e f = isStrictlyBefore r e f || isNotLater r e f
 
--- "independent pairs, unordered: two different events"
+-- "independent pairs, unordered: two different events"; 2026-04: "a pair is independent when neither event is strictly
+-- before, or not later than, the other in the closed order."
 unfoldable pub independent : RunRecord → ℕ → ℕ → Bool
 independent r e f = not (eqb e f) && not (ordered r e f) && not (ordered r f e)
 

@@ -35,11 +35,11 @@ ofPairs =
     -- in no relation: the pair counts, each pair once
     counts 1 apart (asText "E,0 E,1 C,0,-,0 C,0,-,- C,0,-,- C,1,-,1 C,2,0,- C,3,1,-")
     && prints apart (asText "S,0,1,0,0") (asText "E,0 E,1 E,0 E,0 C,0,-,0 C,0,-,2 C,0,-,3 C,1,-,1 C,2,0,- C,3,1,- C,2,2,- C,2,3,- Z,4,8,6,1")
-    -- the later event not later than the earlier one, as in case b, and the other way round
+    -- the event with the lower number not later than the other; in case b it is the one with the higher
     && counts 0 drive (asText "E,2 E,0 C,0,-,1 C,2,-,0 C,1,1,- C,3,0,- B,2,0")
     -- by a path through a third event
     && prints row (asText "S,0,1,2") (asText "E,0 E,1 E,2 C,0,-,0 C,1,-,1 C,2,-,2 C,3,0,- C,4,1,- C,5,2,- B,4,0 B,5,1 Z,3,6,0,1")
-    -- each not later than the other: not within a loop, but across two of them
+    -- each not later than the other: no pair within a loop counts, and each pair across two of them does
     && prints loops (asText "S,0,1") (asText "E,0 E,1 C,0,-,0 C,1,-,1 C,2,-,- C,3,-,- C,4,0,- C,5,1,- B,5,0 B,4,1 Z,2,6,0,1")
     && prints loops (asText "S,0,2,1,3") (asText "E,0 E,2 E,1 E,3 C,0,-,0 C,1,-,2 C,2,-,1 C,3,-,3 C,4,0,- C,6,1,- C,5,2,- C,7,3,- B,6,0 B,7,1 B,4,2 B,5,3 Z,4,8,4,1")
 
