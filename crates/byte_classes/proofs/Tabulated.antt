@@ -12,7 +12,7 @@ use Rattle.spec.specs.Lists.{from}
 use Rattle.spec.specs.Text.{classAndDigit}
 use Rattle.spec.specs.Classes.{classCode}
 use Rattle.spec.specs.declared.Class.{Class}
-use Rattle.spec.specs.declared.Class.the-variants.{Digit, Comma, Dash, LineEnd, LetterP, LetterT, LetterI, LetterO, LetterH, LetterS, LetterE, LetterC, LetterB, LetterA, LetterG, LetterR, Return, Foreign}
+use Rattle.spec.specs.declared.Class.the-variants.{Digit, Comma, Dash, LineEnd, LetterP, LetterT, LetterI, LetterO, LetterH, LetterS, LetterE, LetterC, LetterB, LetterA, LetterG, LetterR, LetterK, LetterJ, LetterW, Return, Foreign}
 use Rattle.spec.proofs.Class
 use Rattle.lists.specs.Laws.{and-true, getD-table}
 use Rattle.byte_entries.specs.Entries.{entryOf, classBy, digitBy}
@@ -62,5 +62,8 @@ place-is-code LetterB = refl
 place-is-code LetterA = refl
 place-is-code LetterG = refl
 place-is-code LetterR = refl
+place-is-code LetterK = refl
+place-is-code LetterJ = refl
+place-is-code LetterW = refl
 place-is-code Return = refl
 place-is-code Foreign = refl

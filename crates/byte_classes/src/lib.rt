@@ -14,11 +14,14 @@ use byte_entries::LETTER_E;
 use byte_entries::LETTER_G;
 use byte_entries::LETTER_H;
 use byte_entries::LETTER_I;
+use byte_entries::LETTER_J;
+use byte_entries::LETTER_K;
 use byte_entries::LETTER_O;
 use byte_entries::LETTER_P;
 use byte_entries::LETTER_R;
 use byte_entries::LETTER_S;
 use byte_entries::LETTER_T;
+use byte_entries::LETTER_W;
 use byte_entries::LINE_END;
 use byte_entries::RETURN;
 use spec::Class;
@@ -65,6 +68,9 @@ pub fn class_of(entry: u8) -> Class
         LETTER_A => Class::LetterA,
         LETTER_G => Class::LetterG,
         LETTER_R => Class::LetterR,
+        LETTER_K => Class::LetterK,
+        LETTER_J => Class::LetterJ,
+        LETTER_W => Class::LetterW,
         RETURN => Class::Return,
         _ => Class::Foreign,
     }
@@ -91,8 +97,11 @@ fn class_code(k: Class) -> u8
         Class::LetterA => 13,
         Class::LetterG => 14,
         Class::LetterR => 15,
-        Class::Return => 16,
-        Class::Foreign => 17,
+        Class::LetterK => 16,
+        Class::LetterJ => 17,
+        Class::LetterW => 18,
+        Class::Return => 19,
+        Class::Foreign => 20,
     }
 }
 

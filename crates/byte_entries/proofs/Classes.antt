@@ -12,7 +12,7 @@ use Rattle.spec.specs.Lists.{every}
 use Rattle.spec.specs.Text.{named, classNames, inDigits, classOf, digitOf, isA}
 use Rattle.spec.specs.Classes.{classCode, alike}
 use Rattle.spec.specs.declared.Class.{Class}
-use Rattle.spec.specs.declared.Class.the-variants.{Digit, Comma, Dash, LineEnd, LetterP, LetterT, LetterI, LetterO, LetterH, LetterS, LetterE, LetterC, LetterB, LetterA, LetterG, LetterR, Return, Foreign}
+use Rattle.spec.specs.declared.Class.the-variants.{Digit, Comma, Dash, LineEnd, LetterP, LetterT, LetterI, LetterO, LetterH, LetterS, LetterE, LetterC, LetterB, LetterA, LetterG, LetterR, LetterK, LetterJ, LetterW, Return, Foreign}
 use Rattle.lists.specs.Laws.{not-is-true}
 use Rattle.lists.specs.OneByte.{named-passes, alone, one-byte, only-byte}
 use Rattle.byte_entries.specs.Entries.{codeOf, entryOf, classBy, digitBy, isEntry}
@@ -38,6 +38,9 @@ class-back LetterB h = refl
 class-back LetterA h = refl
 class-back LetterG h = refl
 class-back LetterR h = refl
+class-back LetterK h = refl
+class-back LetterJ h = refl
+class-back LetterW h = refl
 class-back Return h = refl
 class-back Foreign h = refl
 

@@ -7,7 +7,7 @@ use lib.Dec.{eqb, ltb}
 use Rattle.spec.specs.Text.{inDigits, classOf, digitOf, isA}
 use Rattle.spec.specs.Classes.{classCode}
 use Rattle.spec.specs.declared.Class.{Class}
-use Rattle.spec.specs.declared.Class.the-variants.{Digit, Comma, Dash, LineEnd, LetterP, LetterT, LetterI, LetterO, LetterH, LetterS, LetterE, LetterC, LetterB, LetterA, LetterG, LetterR, Return, Foreign}
+use Rattle.spec.specs.declared.Class.the-variants.{Digit, Comma, Dash, LineEnd, LetterP, LetterT, LetterI, LetterO, LetterH, LetterS, LetterE, LetterC, LetterB, LetterA, LetterG, LetterR, LetterK, LetterJ, LetterW, Return, Foreign}
 
 -- the number of a class other than the digits'
 abbrev pub codeOf : Class → ℕ
@@ -21,7 +21,7 @@ entryOf b = cond (inDigits b) (digitOf b) (codeOf (classOf b))
 abbrev pub classesBehind : List Class
 classesBehind =
     Comma ∷ Dash ∷ LineEnd ∷ LetterP ∷ LetterT ∷ LetterI ∷ LetterO ∷ LetterH ∷ LetterS ∷ LetterE ∷ LetterC ∷ LetterB
-    ∷ LetterA ∷ LetterG ∷ LetterR ∷ Return ∷ []
+    ∷ LetterA ∷ LetterG ∷ LetterR ∷ LetterK ∷ LetterJ ∷ LetterW ∷ Return ∷ []
 
 unfoldable pub classBy : ℕ → Class
 classBy e = cond (ltb e 10) Digit (getD classesBehind (e - 10) Foreign)

@@ -31,6 +31,12 @@ pub const LETTER_G: u8 = 23;
 
 pub const LETTER_R: u8 = 24;
 
-pub const RETURN: u8 = 25;
+pub const LETTER_K: u8 = 25;
 
-pub const FOREIGN: u8 = 26;
+pub const LETTER_J: u8 = 26;
+
+pub const LETTER_W: u8 = 27;
+
+pub const RETURN: u8 = 28;
+
+pub const FOREIGN: u8 = 29;

@@ -16,11 +16,14 @@ use byte_entries::LETTER_E;
 use byte_entries::LETTER_G;
 use byte_entries::LETTER_H;
 use byte_entries::LETTER_I;
+use byte_entries::LETTER_J;
+use byte_entries::LETTER_K;
 use byte_entries::LETTER_O;
 use byte_entries::LETTER_P;
 use byte_entries::LETTER_R;
 use byte_entries::LETTER_S;
 use byte_entries::LETTER_T;
+use byte_entries::LETTER_W;
 use byte_entries::LINE_END;
 use byte_entries::RETURN;
 use libc::STDOUT_FILENO;
@@ -56,6 +59,9 @@ fn entry_of(b: u8) -> u8
         b'A' => LETTER_A,
         b'G' => LETTER_G,
         b'R' => LETTER_R,
+        b'K' => LETTER_K,
+        b'J' => LETTER_J,
+        b'W' => LETTER_W,
         13 => RETURN,
         _ => FOREIGN,
     }

@@ -16,7 +16,7 @@ use Rattle.spec.specs.Text.{isA, Line, onFirst, rawLinesOf, butReturn, withoutR
 use Rattle.spec.specs.declared.Class.the-variants.{LineEnd, Return}
 use Rattle.lists.specs.Along.{rest-at, take-more}
 use Rattle.lists.specs.LineEnds.{but-last, unended-kept, ended-as}
-use Rattle.byte_entries.specs.Entries.{entryOf, beforeFirst, before}
+use Rattle.byte_entries.specs.Entries.{codeOf, entryOf, beforeFirst, before}
 use Rattle.byte_entries.proofs.Classes.{class-told, line-end, return-byte}
 use Rattle.byte_entries.proofs.Scans.{before-zero, before-suc, within, beyond, width}
 use Rattle.lines.specs.Lines.{endFrom, spanTo, lineOf, LineTo, RawLineAt, LineAt, ten, return-ten, pastEnding, PastEnding, pastBy, Ahead, EndedTo}
@@ -147,7 +147,7 @@ module _ {s : List ℕ} {at : ℕ} where
 pub ten-told : (b : ℕ) → eqb (entryOf b) 12 ≡ eqb b 10
 ten-told b = class-told b LineEnd (lit< tt) ∙ line-end b
 
-return-told : (b : ℕ) → eqb (entryOf b) 25 ≡ eqb b 13
+return-told : (b : ℕ) → eqb (entryOf b) (codeOf Return) ≡ eqb b 13
 return-told b = class-told b Return (lit< tt) ∙ return-byte b
 
 pub end-entry : (b : ℕ) → entryOf b ≡ 12 → isA LineEnd b ≡ true
@@ -156,14 +156,14 @@ end-entry b e = sym (class-told b LineEnd (lit< tt)) ∙ eq-eqb (entryOf b) 12 e
 pub no-end-entry : (b : ℕ) → (entryOf b ≡ 12 → ⊥) → isA LineEnd b ≡ false
 no-end-entry b d = sym (class-told b LineEnd (lit< tt)) ∙ ne-eqb (entryOf b) 12 d
 
-pub return-entry : (b : ℕ) → entryOf b ≡ 25 → isA Return b ≡ true
-return-entry b e = sym (class-told b Return (lit< tt)) ∙ eq-eqb (entryOf b) 25 e
+pub return-entry : (b : ℕ) → entryOf b ≡ codeOf Return → isA Return b ≡ true
+return-entry b e = sym (class-told b Return (lit< tt)) ∙ eq-eqb (entryOf b) (codeOf Return) e
 
-pub no-return-entry : (b : ℕ) → (entryOf b ≡ 25 → ⊥) → isA Return b ≡ false
-no-return-entry b d = sym (class-told b Return (lit< tt)) ∙ ne-eqb (entryOf b) 25 d
+pub no-return-entry : (b : ℕ) → (entryOf b ≡ codeOf Return → ⊥) → isA Return b ≡ false
+no-return-entry b d = sym (class-told b Return (lit< tt)) ∙ ne-eqb (entryOf b) (codeOf Return) d
 
 -- an ending by the entry of the byte at its position
-module _ (s : List ℕ) (at : ℕ) {e : ℕ} (q : e ≡ entryOf (getD s at 0)) (l : at < length s) (m : e ≡ 25 → at + 1 < length s) where
+module _ (s : List ℕ) (at : ℕ) {e : ℕ} (q : e ≡ entryOf (getD s at 0)) (l : at < length s) (m : e ≡ codeOf Return → at + 1 < length s) where
   by-entry : pastBy e s at ≡ pastEnding s at
   unfolding pastBy pastEnding
   by-entry = rw (q, ten-told (getD s at 0), return-told (getD s at 0), ten-told (getD s (at + 1) 0))
@@ -175,7 +175,7 @@ module _ (s : List ℕ) (at : ℕ) {e : ℕ} (q : e ≡ entryOf (getD s at 0)) (
       | no b ↦ found (other-byte a b)
       | yes b ↦ elim (ℕ-discrete (getD s (at + 1) 0) 10) [
         | no c ↦ found (return-alone a c)
-        | yes c ↦ found (return-passed (m (q ∙ eqb-true _ 25 (return-told (getD s at 0) ∙ eq-eqb _ 13 b))) b c)
+        | yes c ↦ found (return-passed (m (q ∙ eqb-true _ (codeOf Return) (return-told (getD s at 0) ∙ eq-eqb _ 13 b))) b c)
       ]
     ]
   ])

@@ -20,8 +20,8 @@ use Rattle.lines.specs.Lines.{lineOf, LineAt}
 use Rattle.lines.specs.declared.Span.{Span}
 use Rattle.lines.proofs.Lines.{line-to}
 use Rattle.spec.specs.declared.Class.{Class}
-use Rattle.spec.specs.declared.Class.the-variants.{LetterP, LetterT, LetterI, LetterO, LetterH, LetterR}
-use Rattle.byte_entries.specs.Entries.{entryOf}
+use Rattle.spec.specs.declared.Class.the-variants.{LetterP, LetterT, LetterI, LetterO, LetterH, LetterR, LetterW, Foreign}
+use Rattle.byte_entries.specs.Entries.{codeOf, entryOf}
 use Rattle.byte_entries.proofs.Classes.{entry-class}
 use Rattle.lines.specs.declared.Opening.{Opening}
 use Rattle.plain_lines.specs.Plain.{LetterEntry, rowWith, PlainLine, MayRead}
@@ -53,7 +53,7 @@ module _ (k : ℕ) (b : List ℕ) (n : NetD) where
 -- ---- plain lines
 
 -- the entries of arcs' letters are among those of letters
-arc-bounds : {e : ℕ} → ArcEntry e → (13 ≤ e) × (e ≤ 24)
+arc-bounds : {e : ℕ} → ArcEntry e → (codeOf LetterP ≤ e) × (e ≤ codeOf LetterW)
 arc-bounds (inl q) = (omega arith, omega arith)
 arc-bounds (inr (inl q)) = (omega arith, omega arith)
 arc-bounds (inr (inr (inl q))) = (omega arith, omega arith)
@@ -62,7 +62,7 @@ arc-bounds (inr (inr (inr q))) = (omega arith, omega arith)
 pub arc-entry : {o : Opening} → ArcLetter o → LetterEntry (o .letter)
 arc-entry {o} a = let b = arc-bounds (a .letter) in letter-entry (o .letter) (b .0) (b .1)
 
-pub arc-tells : {o : Opening} → ArcLetter o → o .letter ≡ 26 → ⊥
+pub arc-tells : {o : Opening} → ArcLetter o → o .letter ≡ codeOf Foreign → ⊥
 arc-tells a z = omega (arith, arc-bounds (a .letter) .1)
 
 module _ (k : ℕ) {text : List ℕ} {i next : ℕ} (m : NetD) where
@@ -95,7 +95,7 @@ offset-within Inhibitor = omega arith
 offset-within Read = omega arith
 
 -- those of the first three kinds one behind the other
-pub kind-place : (e : ℕ) → ArcEntry e → (e ≡ 24 → ⊥) → (15 ≤ e) × (e ≤ 17) × ((e - 15) * kindCount ≡ offsetOf (kindBy e))
+pub kind-place : (e : ℕ) → ArcEntry e → (e ≡ codeOf LetterR → ⊥) → (15 ≤ e) × (e ≤ 17) × ((e - 15) * kindCount ≡ offsetOf (kindBy e))
 unfolding kindBy
 kind-place e (inl q) d = (omega arith, omega arith, rw q)
 kind-place e (inr (inl q)) d = (omega arith, omega arith, rw q)

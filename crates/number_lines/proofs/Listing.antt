@@ -15,10 +15,11 @@ use Rattle.spec.specs.Text.{classOf}
 use Rattle.line_forms.specs.Rows.{aNumber, valueOf, isList, valuesOf}
 use Rattle.spec.specs.Classes.{classCode, alike}
 use Rattle.spec.specs.declared.Class.{Class}
+use Rattle.spec.specs.declared.Class.the-variants.{Return}
 use Rattle.line_forms.specs.declared.Slot.{Slot}
 use Rattle.line_forms.specs.declared.Slot.the-variants.{Number}
 use Rattle.lists.specs.Laws.{here, leb-max}
-use Rattle.byte_entries.specs.Entries.{entryOf, classBy}
+use Rattle.byte_entries.specs.Entries.{codeOf, entryOf, classBy}
 use Rattle.byte_entries.proofs.Classes.{class-named, comma-entry}
 use Rattle.lines.specs.Lines.{lineOf, LineTo, Ending, PastEnding, pastBy, Ahead}
 use Rattle.lines.proofs.Lines.{past-told, went-on, here as inside, on, on-by}
@@ -172,7 +173,7 @@ module _ {s xs : List ℕ} {at count high end stop : ℕ} (w : Walked s at xs co
   }
 
   -- a return lies in front of a line end
-  pub return-on : stop ≡ 25 → end + 1 < length s
+  pub return-on : stop ≡ codeOf Return → end + 1 < length s
   return-on e = inside (on-by (w .ahead) (w .told) (λ z. omega arith))
 
   -- an ending, which is passed

@@ -3,8 +3,8 @@
 -- All others serve as they are. Of these some have a case more, for the class `LetterR` (`classCode`) or for arcs and marks of
 -- the kind `Read` (`arcKindCode`, `markLineOf`, `markPairOf`, `wrongEnd`); no definition here makes an arc or a mark of that
 -- kind. Those that go by `isA`, from `linesOf` to `isLine`, ask for no class that moved but in an `R` line. What a later request
--- moved stands here as it moved it: a carriage return has its class (2026-02), and independent pairs are counted by `Checking`
--- (2026-04).
+-- moved stands here as it moved it: a carriage return has its class (2026-02), independent pairs are counted by `Checking`
+-- (2026-04), and the letters of energy texts have their classes (2026-05).
 use Prim.Native.Nat.{ℕ, _+_}
 use Prim.Native.Char.{code}
 use mathlib.Core.Bool.{Bool, not, _&&_, cond}
@@ -25,7 +25,7 @@ use Rattle.spec.specs.Arranging.{Arranged, arrangedOf}
 use Rattle.spec.specs.Replaying.{Replayed, readArrangement, replayedOf}
 use Rattle.spec.specs.Printing.{inputOf, printed}
 use Rattle.spec.specs.declared.Class.{Class}
-use Rattle.spec.specs.declared.Class.the-variants.{Digit, Comma, Dash as DashByte, LineEnd, LetterP, LetterT, LetterI, LetterO, LetterH, LetterS, LetterE, LetterC, LetterB, LetterA, LetterG, Return}
+use Rattle.spec.specs.declared.Class.the-variants.{Digit, Comma, Dash as DashByte, LineEnd, LetterP, LetterT, LetterI, LetterO, LetterH, LetterS, LetterE, LetterC, LetterB, LetterA, LetterG, LetterK, LetterJ, LetterW, Return}
 use Rattle.spec.specs.declared.ArcKind.{ArcKind}
 use Rattle.spec.specs.declared.ArcKind.the-variants.{Input, Output, Inhibitor}
 use Rattle.spec.specs.declared.Limits.{Limits}
@@ -40,6 +40,7 @@ classNames =
     ∷ (code "S", LetterS)
     ∷ (code "E", LetterE) ∷ (code "C", LetterC) ∷ (code "B", LetterB) ∷ (code "A", LetterA)
     ∷ (code "G", LetterG)
+    ∷ (code "K", LetterK) ∷ (code "J", LetterJ) ∷ (code "W", LetterW)
     ∷ (13, Return)
     ∷ []
 

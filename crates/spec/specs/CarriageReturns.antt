@@ -39,7 +39,7 @@ showsLine net second choice k start line =
 -- ---- the class of a carriage return
 
 pub ofBytes : Bool
-ofBytes = eqb (classCode (classOf 13)) 16 && eqb (digitOf 13) 0
+ofBytes = eqb (classCode (classOf 13)) 19 && eqb (digitOf 13) 0
 
 -- ---- "Both line endings are accepted, mixed or not. A byte 13 elsewhere is malformed."
 

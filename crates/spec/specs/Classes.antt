@@ -3,7 +3,7 @@ use Prim.Native.Nat.{ℕ}
 use mathlib.Core.Bool.{Bool}
 use lib.Dec.{eqb}
 use Rattle.spec.specs.declared.Class.{Class}
-use Rattle.spec.specs.declared.Class.the-variants.{Digit, Comma, Dash, LineEnd, LetterP, LetterT, LetterI, LetterO, LetterH, LetterS, LetterE, LetterC, LetterB, LetterA, LetterG, LetterR, Return, Foreign}
+use Rattle.spec.specs.declared.Class.the-variants.{Digit, Comma, Dash, LineEnd, LetterP, LetterT, LetterI, LetterO, LetterH, LetterS, LetterE, LetterC, LetterB, LetterA, LetterG, LetterR, LetterK, LetterJ, LetterW, Return, Foreign}
 
 abbrev pub classCode : Class → ℕ
 classCode Digit = 0
@@ -22,8 +22,11 @@ classCode LetterB = 12
 classCode LetterA = 13
 classCode LetterG = 14
 classCode LetterR = 15
-classCode Return = 16
-classCode Foreign = 17
+classCode LetterK = 16
+classCode LetterJ = 17
+classCode LetterW = 18
+classCode Return = 19
+classCode Foreign = 20
 
 unfoldable pub alike : Class → Class → Bool
 alike k l = eqb (classCode k) (classCode l)

@@ -10,7 +10,7 @@ use Rattle.spec.specs.Lists.{every}
 use Rattle.spec.specs.Answer.{Answer, gives, refuses, _>>=_}
 use Rattle.spec.specs.Classes.{alike}
 use Rattle.spec.specs.declared.Class.{Class}
-use Rattle.spec.specs.declared.Class.the-variants.{Digit, Comma, Dash as DashByte, LineEnd, LetterP, LetterT, LetterI, LetterO, LetterH, LetterS, LetterE, LetterC, LetterB, LetterA, LetterG, LetterR, Return, Foreign}
+use Rattle.spec.specs.declared.Class.the-variants.{Digit, Comma, Dash as DashByte, LineEnd, LetterP, LetterT, LetterI, LetterO, LetterH, LetterS, LetterE, LetterC, LetterB, LetterA, LetterG, LetterR, LetterK, LetterJ, LetterW, Return, Foreign}
 use Rattle.spec.specs.declared.ByteClass.{ByteClass}
 use Rattle.spec.specs.declared.Field.{Field}
 use Rattle.spec.specs.declared.Field.the-variants.{Number, Dash}
@@ -27,6 +27,8 @@ classNames =
     ∷ (code "G", LetterG)
     -- 2026-01: of a net and of a record
     ∷ (code "R", LetterR)
+    -- 2026-05: of an energy text
+    ∷ (code "K", LetterK) ∷ (code "J", LetterJ) ∷ (code "W", LetterW)
     -- 2026-02: it can stand in front of a line end; no other place allows it, as if it were foreign
     ∷ (13, Return)
     ∷ []

@@ -18,6 +18,9 @@ pub enum Class {
     LetterA,
     LetterG,
     LetterR,
+    LetterK,
+    LetterJ,
+    LetterW,
     Return,
     Foreign,
 }
@@ -65,4 +68,22 @@ pub struct Numbers {
     pub a: u64,
     pub b: u64,
     pub c: u64,
+}
+
+// The three energies, in µJ: what the capacitor can give, what the events draw, and what is left.
+pub struct Energies {
+    pub usable: f64,
+    pub draw: f64,
+    pub left: f64,
+}
+
+// What a call for energies returns: the number and the spot of a refusal, 0 where it is accepted, and the three energies in
+// µJ, 0 where it is refused.
+#[repr(C)]
+pub struct EnergyNumbers {
+    pub number: u64,
+    pub spot: u64,
+    pub usable: f64,
+    pub draw: f64,
+    pub left: f64,
 }

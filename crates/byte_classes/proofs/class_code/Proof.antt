@@ -60,6 +60,15 @@ enum-told-17 c = search needs
 enum-told-18 : tie.Need-enum-told-18
 enum-told-18 c = search needs
 
+enum-told-19 : tie.Need-enum-told-19
+enum-told-19 c = search needs
+
+enum-told-20 : tie.Need-enum-told-20
+enum-told-20 c = search needs
+
+enum-told-21 : tie.Need-enum-told-21
+enum-told-21 c = search needs
+
 returns : tie.Need-returns
 returns c = sym (c .before .match .keys1) ∙ place-is-code (c .before .before .args .k)
 
@@ -114,6 +123,15 @@ returns-17 c = sym (c .before .match .keys17) ∙ place-is-code (c .before .befo
 returns-18 : tie.Need-returns-18
 returns-18 c = sym (c .before .match .keys18) ∙ place-is-code (c .before .before .args .k)
 
+returns-19 : tie.Need-returns-19
+returns-19 c = sym (c .before .match .keys19) ∙ place-is-code (c .before .before .args .k)
+
+returns-20 : tie.Need-returns-20
+returns-20 c = sym (c .before .match .keys20) ∙ place-is-code (c .before .before .args .k)
+
+returns-21 : tie.Need-returns-21
+returns-21 c = sym (c .before .match .keys21) ∙ place-is-code (c .before .before .args .k)
+
 pub class-code-spec : {M : Type 1} → statement M
 class-code-spec =
     tie.close
@@ -136,6 +154,9 @@ class-code-spec =
     enum-told-16
     enum-told-17
     enum-told-18
+    enum-told-19
+    enum-told-20
+    enum-told-21
     returns
     returns-2
     returns-3
@@ -153,4 +174,7 @@ class-code-spec =
     returns-15
     returns-16
     returns-17
-    returns-18)
+    returns-18
+    returns-19
+    returns-20
+    returns-21)

@@ -19,9 +19,9 @@ past : (X : Type 0) (c i n : ℕ) → (X → i ≤ c) → Nots X c i n → i + n
 past X c i zero f h = omega (arith, f h)
 past X c i (suc n) f h = omega (arith, past (X × (c ≡ i → ⊥)) c (suc i) n (λ x. let m = x .1 in omega (arith, f (x .0))) h)
 
-foreign : (c : ℕ) → 26 ≤ c → classBy c ≡ Foreign
+foreign : (c : ℕ) → 29 ≤ c → classBy c ≡ Foreign
 unfolding classBy
-foreign c h = let l : 16 ≤ c - 10 = omega arith in rw (le-ltb c 10 (omega arith)) (List·getD-eq-default classesBehind Foreign l)
+foreign c h = let l : 19 ≤ c - 10 = omega arith in rw (le-ltb c 10 (omega arith)) (List·getD-eq-default classesBehind Foreign l)
 
 returns : tie.Need-returns
 unfolding classBy
@@ -92,7 +92,19 @@ unfolding classBy
 returns-17 c = sym (ap classBy (c .match .keys16))
 
 returns-18 : tie.Need-returns-18
-returns-18 c = sym (foreign _ (past (Unit {0}) (c .before .before .args .entry) 10 16 (λ u. c .before .if1 .left) (c .match .rest)))
+unfolding classBy
+returns-18 c = sym (ap classBy (c .match .keys17))
+
+returns-19 : tie.Need-returns-19
+unfolding classBy
+returns-19 c = sym (ap classBy (c .match .keys18))
+
+returns-20 : tie.Need-returns-20
+unfolding classBy
+returns-20 c = sym (ap classBy (c .match .keys19))
+
+returns-21 : tie.Need-returns-21
+returns-21 c = sym (foreign _ (past (Unit {0}) (c .before .before .args .entry) 10 19 (λ u. c .before .if1 .left) (c .match .rest)))
 
 pub class-of-spec : {M : Type 1} → statement M
-class-of-spec = tie.close (tie.spec returns returns-2 returns-3 returns-4 returns-5 returns-6 returns-7 returns-8 returns-9 returns-10 returns-11 returns-12 returns-13 returns-14 returns-15 returns-16 returns-17 returns-18)
+class-of-spec = tie.close (tie.spec returns returns-2 returns-3 returns-4 returns-5 returns-6 returns-7 returns-8 returns-9 returns-10 returns-11 returns-12 returns-13 returns-14 returns-15 returns-16 returns-17 returns-18 returns-19 returns-20 returns-21)

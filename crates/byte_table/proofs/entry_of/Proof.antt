@@ -73,13 +73,25 @@ unfolding entryOf classOf named inDigits digitOf
 returns-16 c = sym (ap entryOf (c .match .keys16))
 
 returns-17 : tie.Need-returns-17
-returns-17 c = digit _ (c .before .if1 .left) (omega arith)
+unfolding entryOf classOf named inDigits digitOf
+returns-17 c = sym (ap entryOf (c .match .keys17))
 
 returns-18 : tie.Need-returns-18
-returns-18 c = foreign _ (λ p q. omega arith) (c .before .match .rest)
+unfolding entryOf classOf named inDigits digitOf
+returns-18 c = sym (ap entryOf (c .match .keys18))
 
 returns-19 : tie.Need-returns-19
-returns-19 c = foreign _ (λ p q. omega arith) (c .before .before .match .rest)
+unfolding entryOf classOf named inDigits digitOf
+returns-19 c = sym (ap entryOf (c .match .keys19))
+
+returns-20 : tie.Need-returns-20
+returns-20 c = digit _ (c .before .if1 .left) (omega arith)
+
+returns-21 : tie.Need-returns-21
+returns-21 c = foreign _ (λ p q. omega arith) (c .before .match .rest)
+
+returns-22 : tie.Need-returns-22
+returns-22 c = foreign _ (λ p q. omega arith) (c .before .before .match .rest)
 
 pub entry-of-spec : {M : Type 1} → statement M
-entry-of-spec = tie.close (tie.spec returns returns-2 returns-3 returns-4 returns-5 returns-6 returns-7 returns-8 returns-9 returns-10 returns-11 returns-12 returns-13 returns-14 returns-15 returns-16 returns-17 returns-18 returns-19)
+entry-of-spec = tie.close (tie.spec returns returns-2 returns-3 returns-4 returns-5 returns-6 returns-7 returns-8 returns-9 returns-10 returns-11 returns-12 returns-13 returns-14 returns-15 returns-16 returns-17 returns-18 returns-19 returns-20 returns-21 returns-22)
