@@ -17,6 +17,7 @@ use Rattle.spec.specs.Checking.{enterLine, readRecord, check}
 use Rattle.spec.specs.Arranging.{arrangementBytes, arrange}
 use Rattle.spec.specs.Replaying.{groupsLine, readArrangement, replay}
 use Rattle.spec.specs.LineParts.{Part, refusedLine}
+use Rattle.spec.specs.Energy.{EnergyText, energyLine, readEnergy, energy}
 use Rattle.spec.specs.Printing.{isParting, inputOf, program}
 use Rattle.spec.specs.declared.Limits.{Limits}
 
@@ -52,6 +53,8 @@ pub record EitherEnding : Type 0 where
       → playLog lim N (linesOf s) ≡ playLog lim N (linesOf t)
   pub records : (lim : Limits) (N : Net) (s t : List ℕ) → SameButEndings s t → readRecord lim N s ≡ readRecord lim N t
   pub arrangements : (R : RunRecord) (s t : List ℕ) → SameButEndings s t → readArrangement R s ≡ readArrangement R t
+  -- and so does the reader of energy texts (2026-05),
+  pub energy-texts : (N : Net) (s t : List ℕ) → SameButEndings s t → readEnergy N s ≡ readEnergy N t
   -- and the program's input is parted into the same lines "as long as both forms are within the program's 65,536 bytes".
   pub inputs : (s t : List ℕ) → SameButEndings s t → length s ≤ 65536 → length t ≤ 65536 → inputOf s ≡ inputOf t
   -- So each operation gives the same answer; what it leaves in a buffer goes by the answer (`Buffer.leaves`).
@@ -61,6 +64,8 @@ pub record EitherEnding : Type 0 where
       → replay n s a room ≡ replay m t b room
   pub arranges : (n m s t : List ℕ) (room : ℕ) → SameButEndings n m → SameButEndings s t
       → arrange n s room ≡ arrange m t room
+  pub energies : (n m s t a b : List ℕ) → SameButEndings n m → SameButEndings s t → SameButEndings a b
+      → energy n s a ≡ energy m t b
   pub prints : (s t : List ℕ) → SameButEndings s t → length s ≤ 65536 → length t ≤ 65536 → program s ≡ program t
   -- "The refused line is shown without its ending": the same bytes of the same choice.
   pub shows : (n m s t : List ℕ) (choice k : ℕ) → SameButEndings n m → SameButEndings s t
@@ -74,6 +79,7 @@ pub record EitherEnding : Type 0 where
       → enterLine lim N k l R ≡ refuses 31 k
   pub in-arrangements : (l : Line) → In 13 (l .bytes) → (R : RunRecord) (k : ℕ) (gs : List (List ℕ))
       → groupsLine R k l gs ≡ refuses 41 k
+  pub in-energies : (l : Line) → In 13 (l .bytes) → (k : ℕ) (e : EnergyText) → energyLine k l e ≡ refuses 52 k
   pub in-inputs : (l : Line) → In 13 (l .bytes) → isParting l ≡ false
   -- "What we write keeps byte 10 alone.": neither a record, an arrangement nor what the program prints has a byte 13.
   pub written-records : (R : RunRecord) → NoReturn (recordBytes R)

@@ -16,6 +16,8 @@ pub mod Arranging
 pub mod Replaying
 pub mod LineParts
 pub mod Printing
+pub mod Rounding
+pub mod Energy
 pub mod Buffer
 pub mod Values
 pub mod Runs
@@ -23,6 +25,7 @@ pub mod Exactness
 pub mod Computed
 pub mod Demand
 pub mod Independence
+pub mod HoldUp
 pub mod Refusals
 pub mod BeforeReads
 pub mod WithoutReads
@@ -36,3 +39,4 @@ pub mod Bounds
 pub mod ReadArcs
 pub mod CarriageReturns
 pub mod Swaps
+pub mod EnergyCases

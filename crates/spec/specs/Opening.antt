@@ -19,6 +19,9 @@ use Rattle.spec.specs.Replaying.{isGroupLine, repeats, late, breaks, gro
 use Rattle.spec.specs.LineParts.{partsFrom, lineAt, chosenText, refusedLine, partOf}
 use Rattle.spec.specs.Printing.{isParting, withNetLine, parted, inputOf, summary, printed, program}
 use Rattle.spec.specs.Buffer.{over, leaves, buildLeaves, checkLeaves, replayLeaves, arrangeLeaves, programLeaves}
+use lib.Ieee.{round, toBits}
+use Rattle.spec.specs.Rounding.{nearest, floatOf, nearestDifference}
+use Rattle.spec.specs.Energy.{isFigures, figureAt, isCapacitorLine, isPulseLine, isLoadLine, drawIn, ratingsIn, noEnergy, capacitorLine, drawLine, energyLine, readEnergy, drawOf, usableOf, leftOf, energiesOf, energy, asEnergy}
 use Rattle.spec.specs.Runs.{markingAt, asSteps, eventLines, stepLine, logBytes}
 use Rattle.spec.specs.Quoted.{ascii, asText, unended, same, refused, given, passes, atMost, zerosBut}
 
@@ -94,6 +97,10 @@ unfoldable openBuffer : Unit {0}
 unfolding over leaves buildLeaves checkLeaves replayLeaves arrangeLeaves programLeaves
 openBuffer = tt
 
+unfoldable openEnergy : Unit {0}
+unfolding round toBits nearest floatOf nearestDifference isFigures figureAt isCapacitorLine isPulseLine isLoadLine drawIn ratingsIn noEnergy capacitorLine drawLine energyLine readEnergy drawOf usableOf leftOf energiesOf energy asEnergy
+openEnergy = tt
+
 unfoldable openRuns : Unit {0}
 unfolding markingAt asSteps eventLines stepLine logBytes
 openRuns = tt
@@ -103,5 +110,5 @@ unfolding ascii asText unended same refused given passes atMost zerosBut
 openQuoted = tt
 
 unfoldable pub openDefinitions : Unit {0}
-unfolding openLists openAnswer openText openForms openNet openNetText openStep openRecord openOrder openProcess openBuilding openChecking openArrangement openArranging openReplaying openLineParts openPrinting openBuffer openRuns openQuoted
+unfolding openLists openAnswer openText openForms openNet openNetText openStep openRecord openOrder openProcess openBuilding openChecking openArrangement openArranging openReplaying openLineParts openPrinting openBuffer openEnergy openRuns openQuoted
 openDefinitions = tt

@@ -1,17 +1,20 @@
 -- The refusals that each operation can meet, in the paper's order, each with its least and its greatest spot (01,
--- "Refusals by operation"; 02, 2026-01); and the statement that an operation meets no other. The statement is a type here; the
+-- "Refusals by operation"; 02, 2026-01, 2026-05); and the statement that an operation meets no other. The statement is a type here; the
 -- crate `runs` has its proof.
 use mathlib.Core.Path.{_≡_}
 use mathlib.Core.Logic.{_≢_}
 use Prim.Native.Nat.{ℕ, _≤_}
 use mathlib.Core.List.{List, [], _∷_, _++_}
+use lib.ListN.{length}
 use Rattle.spec.specs.Lists.{In}
 use Rattle.spec.specs.Answer.{Answer, refuses}
+use Rattle.spec.specs.Text.{linesOf}
 use Rattle.spec.specs.Net.{readNet}
 use Rattle.spec.specs.Building.{build}
 use Rattle.spec.specs.Checking.{check}
 use Rattle.spec.specs.Arranging.{arrange}
 use Rattle.spec.specs.Replaying.{replay}
+use Rattle.spec.specs.Energy.{energy}
 use Rattle.spec.specs.LineParts.{refusedLine}
 use Rattle.spec.specs.Printing.{inputOf}
 
@@ -54,6 +57,11 @@ recordRefusals =
 abbrev pub arrangementRefusals : List NumberAndSpots
 arrangementRefusals = refusal 41 1 129 ∷ refusal 42 1 129 ∷ refusal 43 1 129 ∷ refusal 44 1 127 ∷ refusal 45 0 127 ∷ []
 
+-- 2026-05: "52 malformed line, wrong letter .. or value out of range, at the line; then 53 line count other than
+-- transitions plus one, spot 0.": lines beyond the last transition are judged too, so that the spot is any line of the text
+abbrev pub figureRefusals : ℕ → List NumberAndSpots
+figureRefusals lines = refusal 52 1 lines ∷ refusal 53 0 0 ∷ []
+
 -- ---- by operation
 
 -- "Build: 20 buffer under 48,256 bytes (spot 0); net's; per line .."
@@ -71,6 +79,10 @@ replayRefusals = refusal 40 0 0 ∷ netRefusals ++ (recordRefusals ++ arrangemen
 -- "Arrange: 50 buffer under 768 bytes (spot 0); net's; check's but 30."
 abbrev pub arrangeRefusals : List NumberAndSpots
 arrangeRefusals = refusal 50 0 0 ∷ netRefusals ++ recordRefusals
+
+-- 2026-05: "after net and record, 52 .., 53 ..", of an energy text with so many lines
+abbrev pub energyRefusals : ℕ → List NumberAndSpots
+energyRefusals lines = netRefusals ++ (recordRefusals ++ figureRefusals lines)
 
 -- "Refused line: 46 choice over 1 or no such line (spot: the line number asked)"
 abbrev pub lineRefusals : ℕ → List NumberAndSpots
@@ -107,6 +119,8 @@ pub record Refusals : Type 0 where
   pub replay : (net text arrangement : List ℕ) (room : ℕ)
       → RefusesOnly replayRefusals (replay net text arrangement room)
   pub arrange : (net text : List ℕ) (room : ℕ) → RefusesOnly arrangeRefusals (arrange net text room)
+  pub energy : (net text figures : List ℕ)
+      → RefusesOnly (energyRefusals (length (linesOf figures))) (energy net text figures)
   pub line : (net second : List ℕ) (choice asked : ℕ)
       → RefusesOnly (lineRefusals asked) (refusedLine net second choice asked)
   pub input : (input : List ℕ) → RefusesOnly inputRefusals (inputOf input)
