@@ -134,3 +134,15 @@ G-letter = letter "G" refl
 pub R-letter : Letter "R"
 unfolding alone every isA alike classOf inDigits named
 R-letter = letter "R" refl
+
+pub K-letter : Letter "K"
+unfolding alone every isA alike classOf inDigits named
+K-letter = letter "K" refl
+
+pub J-letter : Letter "J"
+unfolding alone every isA alike classOf inDigits named
+J-letter = letter "J" refl
+
+pub W-letter : Letter "W"
+unfolding alone every isA alike classOf inDigits named
+W-letter = letter "W" refl

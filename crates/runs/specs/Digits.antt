@@ -160,6 +160,9 @@ number-bytes most (a ∷ bs) t = rw (zero-add (digitOf a)) (go bs t (and-true (i
     go [] t z = writes-one a (z .0) most (t .few)
     go (b ∷ bs) t z = writes-all 1 (digitOf a) (a ∷ []) (b ∷ bs) (t .lead (omega arith)) (z .1) (writes-one a (z .0)) most (omega (arith, t .few))
 
+pub number-digits : (most : ℕ) (bs : List ℕ) → isNumber most bs ≡ true → every (isA Digit) bs ≡ true
+number-digits most bs h = tested most bs h .all
+
 pub number-is : (most : ℕ) (bs : List ℕ) → isNumber most bs ≡ true → digits most (valueFrom 0 bs) ≡ bs
 number-is most bs h = number-bytes most bs (tested most bs h)
 

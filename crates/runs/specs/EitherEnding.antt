@@ -11,26 +11,30 @@ use mathlib.Core.List.{List, [], _∷_, map, List·Memᴰ·not-nil, List·Memᴰ
 use lib.ListN.{length, getD, getElem?}
 use lib.Dec.{eqb, ltb}
 use borrow.Author.Tests.{le-ltb, ne-eqb}
-use Rattle.spec.specs.Lists.{In}
-use Rattle.spec.specs.Answer.{refuses, _>>_, refuse_at_when_, found}
-use Rattle.spec.specs.Text.{Line, rawLinesOf, withoutReturn, linesOf}
-use Rattle.spec.specs.Forms.{FieldForm, number, numberOrDash, isLine, isListLine}
+use Rattle.spec.specs.Lists.{In, every}
+use Rattle.spec.specs.Answer.{Answer, refuses, _>>_, refuse_at_when_, found}
+use Rattle.spec.specs.Classes.{alike}
+use Rattle.spec.specs.Text.{Line, named, inDigits, classOf, isA, isNumber, rawLinesOf, withoutReturn, linesOf}
+use Rattle.spec.specs.Forms.{FieldForm, number, numberOrDash, isLine, isListLine, hasLetter, fieldsOf}
 use Rattle.spec.specs.Net.{Net, addLine}
 use Rattle.spec.specs.Record.{RunRecord}
 use Rattle.spec.specs.Building.{Run, isStepLine, logLine, playLog}
 use Rattle.spec.specs.Checking.{enterLine}
 use Rattle.spec.specs.Replaying.{isGroupLine, groupsLine}
+use Rattle.spec.specs.Energy.{isFigures, energyDigits, isCapacitorLine, isPulseLine, isLoadLine, EnergyText, capacitorLine, drawLine, energyLine}
 use Rattle.spec.specs.LineParts.{Part, partsFrom, lineAt, chosenText, refusedLine}
 use Rattle.spec.specs.Printing.{isParting, inputOf, program}
 use Rattle.spec.specs.Endings.{SameButEndings, shownOf, EitherEnding}
+use Rattle.spec.specs.declared.Class.the-variants.{Digit, Return}
 use Rattle.spec.specs.declared.Field.{Field}
 use Rattle.spec.specs.declared.Limits.{Limits}
-use Rattle.lists.specs.Laws.{true-or-false}
-use Rattle.runs.specs.Bytes.{Letter, P-letter, T-letter, I-letter, O-letter, H-letter, R-letter, S-letter, E-letter, C-letter, B-letter, A-letter, G-letter}
-use Rattle.runs.specs.Fields.{body}
+use Rattle.lists.specs.Laws.{true-or-false, and-four, every-in}
+use Rattle.runs.specs.Bytes.{Letter, P-letter, T-letter, I-letter, O-letter, H-letter, R-letter, S-letter, E-letter, C-letter, B-letter, A-letter, G-letter, K-letter, J-letter, W-letter, other-class}
+use Rattle.runs.specs.Fields.{body, line-lacks}
+use Rattle.runs.specs.Digits.{number-digits}
 use Rattle.runs.specs.LineForms.{form-is, list-is}
 use Rattle.runs.specs.Texts.{returns-none}
-use Rattle.runs.specs.Endings.{raw-lines, same-lines, net-by-lines, record-by-lines, arrangement-by-lines, build-by-lines, check-by-lines, arrange-by-lines, replay-by-lines}
+use Rattle.runs.specs.Endings.{raw-lines, same-lines, net-by-lines, record-by-lines, arrangement-by-lines, energy-text-by-lines, energy-by-lines, build-by-lines, check-by-lines, arrange-by-lines, replay-by-lines}
 use Rattle.runs.specs.Written.{lacks-none, none-in-record, none-in-arrangement, none-printed}
 
 -- ---- the program
@@ -96,6 +100,10 @@ shows n m s t choice k N S = chosen-shown n s choice k ∙ rw (chosen-lines n m 
 
 -- ---- a line with a byte 13 in it
 
+comma-stays : isA Return (code ",") ≡ false
+unfolding isA alike classOf named inDigits
+comma-stays = refl
+
 module _ (l : Line) (m : In 13 (l .bytes)) where
   not-written : {c : Char} → Letter c → (fs : List Field) → l .bytes ≡ body c fs → ⊥
   not-written {c} L fs e = lacks-none (body c fs) (returns-none c (L .noReturn) fs) 13 (rw (← e) m) refl
@@ -132,6 +140,28 @@ module _ (l : Line) (m : In 13 (l .bytes)) where
   unfolding groupsLine isGroupLine refuse_at_when_ _>>_
   in-arrangements R k gs = rw (no-list G-letter)
 
+  -- neither a letter nor a number has it
+  no-figures : {c : Char} → Letter c → (n : ℕ) → isFigures c n l ≡ false
+  unfolding isFigures isNumber alike
+  no-figures {c} L n = elim (true-or-false (isFigures c n l)) [
+    | inl t ↦
+        let z = and-four (l .ended) (hasLetter c l) (eqb (length (fieldsOf l)) n) (every (isNumber energyDigits) (fieldsOf l)) t in
+        absurd (lacks-none (l .bytes) (line-lacks L Return comma-stays (L .noReturn) l (z .1) (λ p i b j.
+        other-class Digit Return refl b (every-in (isA Digit) p (number-digits energyDigits p (every-in (isNumber energyDigits) (fieldsOf l) (z .3) p i)) b j))) 13 m refl)
+    | inr f ↦ f
+  ]
+
+  in-energies : (k : ℕ) (e : EnergyText) → energyLine k l e ≡ refuses 52 k
+  unfolding energyLine capacitorLine drawLine isCapacitorLine isPulseLine isLoadLine refuse_at_when_ _>>_
+  in-energies k e = rw (no-figures K-letter 3, no-figures J-letter 1, no-figures W-letter 2) (same (eqb k 1))
+    where
+      refused : Answer EnergyText
+      refused = refuses 52 k
+
+      same : (t : Bool) → cond t refused refused ≡ refused
+      same true = refl
+      same false = refl
+
 -- it is not the line `=`, whose one byte is another
 in-inputs : (l : Line) → In 13 (l .bytes) → isParting l ≡ false
 unfolding isParting
@@ -149,17 +179,20 @@ either-ending = record {
   logs = λ lim N s t S. ap (playLog lim N) (same-lines s t S);
   records = λ lim N s t S. record-by-lines s t (same-lines s t S) lim N;
   arrangements = λ R s t S. arrangement-by-lines s t (same-lines s t S) R;
+  energy-texts = λ N s t S. energy-text-by-lines s t (same-lines s t S) N;
   inputs = inputs;
   builds = λ n m s t room N S. build-by-lines n m s t (same-lines n m N) (same-lines s t S) room;
   checks = λ n m s t room N S. check-by-lines n m s t (same-lines n m N) (same-lines s t S) room;
   replays = λ n m s t a b room N S A. replay-by-lines n m s t (same-lines n m N) (same-lines s t S) room a b (same-lines a b A);
   arranges = λ n m s t room N S. arrange-by-lines n m s t (same-lines n m N) (same-lines s t S) room;
+  energies = λ n m s t a b N S A. energy-by-lines n m s t (same-lines n m N) (same-lines s t S) a b (same-lines a b A);
   prints = prints;
   shows = shows;
   in-nets = in-nets;
   in-logs = in-logs;
   in-records = in-records;
   in-arrangements = in-arrangements;
+  in-energies = in-energies;
   in-inputs = in-inputs;
   written-records = none-in-record;
   written-arrangements = none-in-arrangement;

@@ -16,6 +16,7 @@ use Rattle.spec.specs.Record.{RunRecord, bench}
 use Rattle.spec.specs.Building.{build}
 use Rattle.spec.specs.Checking.{readRecord, accepts, checkWithin, check}
 use Rattle.spec.specs.Arranging.{arrange}
+use Rattle.spec.specs.Energy.{readEnergy, energy}
 use Rattle.spec.specs.Replaying.{readArrangement, replay}
 use Rattle.spec.specs.Endings.{plainEnds, NoReturn, SameButEndings}
 use Rattle.spec.specs.declared.Limits.{Limits}
@@ -155,23 +156,32 @@ module _ (s t : List ℕ) (e : linesOf s ≡ linesOf t) where
   unfolding readArrangement
   arrangement-by-lines R = rw e
 
-module _ (n m s t : List ℕ) (e : linesOf n ≡ linesOf m) (f : linesOf s ≡ linesOf t) (room : ℕ) where
-  pub build-by-lines : build n s room ≡ build m t room
-  unfolding build readNet
-  build-by-lines = rw (e, f)
+  pub energy-text-by-lines : (N : Net) → readEnergy N s ≡ readEnergy N t
+  unfolding readEnergy
+  energy-text-by-lines N = rw e
 
+module _ (n m s t : List ℕ) (e : linesOf n ≡ linesOf m) (f : linesOf s ≡ linesOf t) where
   accepts-by-lines : accepts bench n s ≡ accepts bench m t
   unfolding accepts readNet readRecord
   accepts-by-lines = rw (e, f)
 
-  pub check-by-lines : check n s room ≡ check m t room
-  unfolding check checkWithin
-  check-by-lines = rw accepts-by-lines
+  pub energy-by-lines : (a b : List ℕ) → linesOf a ≡ linesOf b → energy n s a ≡ energy m t b
+  unfolding energy readEnergy
+  energy-by-lines a b g = rw (accepts-by-lines, g)
 
-  pub arrange-by-lines : arrange n s room ≡ arrange m t room
-  unfolding arrange
-  arrange-by-lines = rw accepts-by-lines
+  module _ (room : ℕ) where
+    pub build-by-lines : build n s room ≡ build m t room
+    unfolding build readNet
+    build-by-lines = rw (e, f)
 
-  pub replay-by-lines : (a b : List ℕ) → linesOf a ≡ linesOf b → replay n s a room ≡ replay m t b room
-  unfolding replay readArrangement
-  replay-by-lines a b g = rw (accepts-by-lines, g)
+    pub check-by-lines : check n s room ≡ check m t room
+    unfolding check checkWithin
+    check-by-lines = rw accepts-by-lines
+
+    pub arrange-by-lines : arrange n s room ≡ arrange m t room
+    unfolding arrange
+    arrange-by-lines = rw accepts-by-lines
+
+    pub replay-by-lines : (a b : List ℕ) → linesOf a ≡ linesOf b → replay n s a room ≡ replay m t b room
+    unfolding replay readArrangement
+    replay-by-lines a b g = rw (accepts-by-lines, g)

@@ -1,10 +1,11 @@
 -- Lines as fields: the pieces of a line that is written are its letter and its fields, and a line with this letter and these
 -- fields is what is written for them.
-use mathlib.Core.Path.{_≡_, refl, sym, ap, _∙_}
+use mathlib.Core.Path.{_≡_, refl, sym, ap, _∙_, subst}
+use mathlib.Core.Logic.{inl, inr}
 use Prim.Native.Nat.{ℕ, _^_, _<_}
 use Prim.Native.Char.{Char, code}
 use mathlib.Core.Bool.{Bool, true, false, cond}
-use mathlib.Core.List.{List, [], _∷_, _++_, map, append-nil, List·Memᴰ·eq-of-singleton, tail-eq-of-cons-eq}
+use mathlib.Core.List.{List, [], _∷_, _++_, map, append-nil, List·Memᴰ·eq-of-singleton, List·Memᴰ·cases-cons, tail-eq-of-cons-eq}
 use native.Mathlib.Omega.{arith}
 use lib.ListN.{length, getD, drop}
 use lib.Dec.{eqb}
@@ -17,7 +18,7 @@ use Rattle.spec.specs.declared.Class.{Class}
 use Rattle.spec.specs.declared.Class.the-variants.{Digit, Comma, Dash as DashByte}
 use Rattle.spec.specs.declared.Field.{Field}
 use Rattle.spec.specs.declared.Field.the-variants.{Number, Dash}
-use Rattle.lists.specs.Laws.{here, there, and-true, every-in}
+use Rattle.lists.specs.Laws.{here, there, and-true, every-in, in-flat-map}
 use Rattle.runs.specs.Bytes.{other-class, comma-is, dash-is, Letter}
 use Rattle.runs.specs.Digits.{digits-all}
 
@@ -131,3 +132,18 @@ module _ {c : Char} (L : Letter c) where
   body-is l fs h e =
       let q : led (drop 1 (pieces (l .bytes))) ≡ fieldsBytes fs = ap led (sym e) ∙ led-fields fs in
       tail-eq-of-cons-eq (sym (led-pieces (l .bytes)) ∙ ap led (line-pieces (pieces (l .bytes)) h) ∙ ap (λ (r : List ℕ). code "," ∷ code c ∷ r) q)
+
+  -- a line that begins with the letter lacks a class if the letter, the comma and its fields do
+  pub line-lacks : (k : Class) → isA k (code ",") ≡ false → isA k (code c) ≡ false → (l : Line) → hasLetter c l ≡ true → ((p : List ℕ) → In p (fieldsOf l) → Lacks k p) → Lacks k (l .bytes)
+  unfolding hasLetter fieldsOf led
+  line-lacks k x y l h w b m =
+      let ps : List (List ℕ) = (code c ∷ []) ∷ drop 1 (pieces (l .bytes)) in
+      let e : led ps ≡ code "," ∷ l .bytes = ap led (sym (line-pieces (pieces (l .bytes)) h)) ∙ led-pieces (l .bytes) in
+      let z = in-flat-map (λ p. code "," ∷ p) ps (subst (λ (bs : List ℕ). In b bs) (sym e) (there m)) in
+      elim (List·Memᴰ·cases-cons (z .2)) [
+        | inl q ↦ rw q x
+        | inr u ↦ elim (List·Memᴰ·cases-cons (z .1)) [
+          | inl q ↦ rw (List·Memᴰ·eq-of-singleton (subst (λ (p : List ℕ). In b p) q u)) y
+          | inr v ↦ w (z .0) v b u
+        ]
+      ]

@@ -50,3 +50,4 @@ pub mod Independence
 pub mod Readless
 pub mod WithoutReads
 pub mod EitherEnding
+pub mod EnergyText

@@ -1,32 +1,34 @@
 -- The numbers and spots of refusals: each operation meets those of its list alone, within their ranges. So the line
 -- `X,number,spot` that the program prints, whose fields have at most four digits, shows both whole.
 use mathlib.Core.Path.{_≡_, refl, ap, _∙_}
-use Prim.Native.Nat.{ℕ, _≤_, _<_, zero-le}
+use Prim.Native.Nat.{ℕ, suc, _+_, _≤_, _<_, zero-le}
 use native.Mathlib.Nat.{le-refl}
 use native.Mathlib.Omega.{arith}
 use mathlib.Core.Bool.{_&&_}
 use mathlib.Core.Option.{some}
 use mathlib.Core.List.{List, [], _∷_, _++_, Memᴰ·append-left, Memᴰ·append-right}
-use lib.Dec.{ltb, leb}
+use lib.ListN.{length}
+use lib.Dec.{eqb, ltb, leb}
 use borrow.Author.Tests.{ltb-true, leb-true}
 use Rattle.spec.specs.Lists.{In, every, first}
 use Rattle.spec.specs.Answer.{Answer, gives, refuses, _>>=_, found}
-use Rattle.spec.specs.Text.{linesOf, mostDigits, numberIn, digits, lineWith}
+use Rattle.spec.specs.Text.{Line, linesOf, byLines, mostDigits, numberIn, digits, lineWith}
 use Rattle.spec.specs.Net.{places, netOf, readNet}
 use Rattle.spec.specs.Record.{RunRecord, bench}
 use Rattle.spec.specs.Building.{built, build}
 use Rattle.spec.specs.Checking.{readRecord, accepts, checkWithin, check}
 use Rattle.spec.specs.Arranging.{arrange}
 use Rattle.spec.specs.Replaying.{readArrangement, replay}
+use Rattle.spec.specs.Energy.{EnergyText, noEnergy, capacitorLine, drawLine, energyLine, readEnergy, energy}
 use Rattle.spec.specs.LineParts.{refusedLine}
 use Rattle.spec.specs.Printing.{inputOf, parted, printed, program}
-use Rattle.spec.specs.Refusals.{NumberAndSpots, refusal, netRefusals, logRefusals, recordRefusals, arrangementRefusals, buildRefusals, checkRefusals, replayRefusals, arrangeRefusals, lineRefusals, inputRefusals, programRefusals, IsAmong, RefusesOnly, Refusals}
+use Rattle.spec.specs.Refusals.{NumberAndSpots, refusal, netRefusals, logRefusals, recordRefusals, arrangementRefusals, figureRefusals, energyRefusals, buildRefusals, checkRefusals, replayRefusals, arrangeRefusals, lineRefusals, inputRefusals, programRefusals, IsAmong, RefusesOnly, Refusals}
 use Rattle.spec.specs.declared.Field.the-variants.{Number}
 use Rattle.lists.specs.Laws.{there, and-true, every-in}
 use Rattle.runs.specs.Digits.{number-back}
 use Rattle.runs.specs.NetLimits.{net-limits}
 use Rattle.runs.specs.Exactness.{exactness}
-use Rattle.runs.specs.Within.{listed, Within, given-within, when-within, wider, bind-within, refuses-listed, found-within}
+use Rattle.runs.specs.Within.{listed, Within, given-within, when-within, cond-within, wider, bind-within, refuses-listed, found-within}
 use Rattle.runs.specs.ReaderSpots.{net-within, log-within, record-within, arrangement-within}
 
 -- ---- the operations
@@ -68,6 +70,28 @@ replay-within net text arrangement room =
     bind-within (readArrangement (a .run) arrangement) _ (wider replayRefusals (λ r m. there (Memᴰ·append-right netRefusals (Memᴰ·append-right recordRefusals m)))
     (arrangement-within (a .net) (a .run) I arrangement)) (λ gs q v. given-within tt))
 
+-- the lines of an energy text from line k on, up to the last
+figures-within : (lines k : ℕ) (ls : List Line) (e : EnergyText) → 1 ≤ k → k + length ls ≡ lines + 1 → Within (λ e. Unit) (figureRefusals lines) (byLines energyLine k ls e)
+unfolding byLines energyLine capacitorLine drawLine first
+figures-within lines k [] e a b = given-within tt
+figures-within lines k (l ∷ ls) e a b =
+    let spot : (1 ≤ k) × (k ≤ lines) = (a, omega (arith, b)) in
+    bind-within {P = λ s. Unit} (energyLine k l e) _
+    (cond-within (eqb k 1) _ _ (when-within 52 k _ _ (λ t. listed (figureRefusals lines) 52 refl spot) (λ t. given-within tt)) (when-within 52 k _ _ (λ t. listed (figureRefusals lines) 52 refl spot) (λ t. given-within tt)))
+    (λ s h u. figures-within lines (suc k) ls s (omega arith) (omega (arith, b)))
+
+energy-within : (net text figures : List ℕ) → Within (λ e. Unit) (energyRefusals (length (linesOf figures))) (energy net text figures)
+unfolding energy readEnergy first
+energy-within net text figures =
+    let m = length (linesOf figures) in
+    let rs = energyRefusals m in
+    let last : (r : NumberAndSpots) → In r (figureRefusals m) → In r rs = λ r i. Memᴰ·append-right netRefusals (Memᴰ·append-right recordRefusals i) in
+    bind-within (accepts bench net text) _ (accepts-within rs (λ r i. Memᴰ·append-left (recordRefusals ++ figureRefusals m) i) (λ r i. Memᴰ·append-right netRefusals (Memᴰ·append-left (figureRefusals m) i)) net text) (λ a e p.
+    bind-within {P = λ t. Unit} (readEnergy (a .net) figures) _ (wider rs last (
+    bind-within (byLines energyLine 1 (linesOf figures) noEnergy) _ (figures-within m 1 (linesOf figures) noEnergy (omega arith) (omega arith)) (λ t h u.
+    when-within 53 0 _ _ (λ b. listed (figureRefusals m) 53 refl (zero-le, zero-le)) (λ b. given-within tt))))
+    (λ t h u. given-within tt))
+
 line-within : (net second : List ℕ) (choice asked : ℕ) → Within (λ p. Unit) (lineRefusals asked) (refusedLine net second choice asked)
 unfolding refusedLine first
 line-within net second choice asked =
@@ -88,6 +112,7 @@ refusals = record {
   check = λ net text room. refuses-listed refl (check-within net text room);
   replay = λ net text arrangement room. refuses-listed refl (replay-within net text arrangement room);
   arrange = λ net text room. refuses-listed refl (arrange-within net text room);
+  energy = λ net text figures. refuses-listed refl (energy-within net text figures);
   line = λ net second choice asked. refuses-listed refl (line-within net second choice asked);
   input = λ input. refuses-listed refl (input-within input);
 }
