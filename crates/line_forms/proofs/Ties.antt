@@ -24,52 +24,56 @@ use Rattle.line_forms.specs.declared.Slot.the-variants.{Number, Dash, Wr
 
 -- ---- a piece
 
-abbrev slot : List ℕ → Slot
-slot p = slotOf mostDigits p
+-- where a number has at most `most` digits
+module _ (most : ℕ) where
+  pub number-slot : (p : List ℕ) → isNumber most p ≡ aNumber (slotOf most p)
+  unfolding slotOf
+  number-slot p = go (isNumber most p) (isDash p)
+    where
+      go : (x y : Bool) → x ≡ aNumber (cond x (Number (valueFrom 0 p)) (cond y Dash Wrong))
+      go true y = refl
+      go false true = refl
+      go false false = refl
 
-number-slot : (p : List ℕ) → isOf number p ≡ aNumber (slot p)
-unfolding isOf slotOf
-number-slot p = go (isNumber mostDigits p) (isDash p)
-  where
-    go : (x y : Bool) → x ≡ aNumber (cond x (Number (valueFrom 0 p)) (cond y Dash Wrong))
-    go true y = refl
-    go false true = refl
-    go false false = refl
+  either-slot : (p : List ℕ) → (isNumber most p || isDash p) ≡ aNumberOrDash (slotOf most p)
+  unfolding slotOf
+  either-slot p = go (isNumber most p) (isDash p)
+    where
+      go : (x y : Bool) → (x || y) ≡ aNumberOrDash (cond x (Number (valueFrom 0 p)) (cond y Dash Wrong))
+      go true y = refl
+      go false true = refl
+      go false false = refl
 
-either-slot : (p : List ℕ) → isOf numberOrDash p ≡ aNumberOrDash (slot p)
-unfolding isOf slotOf
-either-slot p = go (isNumber mostDigits p) (isDash p)
-  where
-    go : (x y : Bool) → (x || y) ≡ aNumberOrDash (cond x (Number (valueFrom 0 p)) (cond y Dash Wrong))
-    go true y = refl
-    go false true = refl
-    go false false = refl
+  pub present : (p : List ℕ) → absent (slotOf most p) ≡ false
+  unfolding slotOf
+  present p = go (isNumber most p) (isDash p)
+    where
+      go : (x y : Bool) → absent (cond x (Number (valueFrom 0 p)) (cond y Dash Wrong)) ≡ false
+      go true y = refl
+      go false true = refl
+      go false false = refl
 
-present : (p : List ℕ) → absent (slot p) ≡ false
-unfolding slotOf
-present p = go (isNumber mostDigits p) (isDash p)
-  where
-    go : (x y : Bool) → absent (cond x (Number (valueFrom 0 p)) (cond y Dash Wrong)) ≡ false
-    go true y = refl
-    go false true = refl
-    go false false = refl
+  event-slot : (p : List ℕ) → numberIn most p ≡ eventOf (slotOf most p)
+  unfolding numberIn slotOf
+  event-slot p = go (isNumber most p) (isDash p)
+    where
+      go : (x y : Bool) → cond x (some (valueFrom 0 p)) none ≡ eventOf (cond x (Number (valueFrom 0 p)) (cond y Dash Wrong))
+      go true y = refl
+      go false true = refl
+      go false false = refl
 
-event-slot : (p : List ℕ) → numberIn mostDigits p ≡ eventOf (slot p)
-unfolding numberIn slotOf
-event-slot p = go (isNumber mostDigits p) (isDash p)
-  where
-    go : (x y : Bool) → cond x (some (valueFrom 0 p)) none ≡ eventOf (cond x (Number (valueFrom 0 p)) (cond y Dash Wrong))
-    go true y = refl
-    go false true = refl
-    go false false = refl
+  pub event-there : (ps : List (List ℕ)) (i : ℕ) → numberIn most (getD ps i []) ≡ eventOf (getD (map (slotOf most) ps) i Absent)
+  event-there [] i = unfold numberIn isNumber in refl
+  event-there (p ∷ ps) zero = event-slot p
+  event-there (p ∷ ps) (suc i) = event-there ps i
 
-event-value : (s : Slot) → orZero (eventOf s) ≡ valueOf s
+pub event-value : (s : Slot) → orZero (eventOf s) ≡ valueOf s
 event-value (Number n) = refl
 event-value Dash = refl
 event-value Wrong = refl
 event-value Absent = refl
 
-letter-slot : (k : Class) → alike Foreign k ≡ false → (p : List ℕ) → isOnly k p ≡ alike (letterOf p) k
+pub letter-slot : (k : Class) → alike Foreign k ≡ false → (p : List ℕ) → isOnly k p ≡ alike (letterOf p) k
 unfolding isOnly letterOf isA
 letter-slot k h p = go (eqb (length p) 1)
   where
@@ -79,52 +83,50 @@ letter-slot k h p = go (eqb (length p) 1)
 
 -- ---- the fields of a line
 
+abbrev slot : List ℕ → Slot
+slot p = slotOf mostDigits p
+
 no-field : (ps : List (List ℕ)) → areOf [] ps ≡ absent (getD (map slot ps) 0 Absent)
 unfolding areOf
 no-field [] = refl
-no-field (p ∷ ps) = sym (present p)
+no-field (p ∷ ps) = sym (present mostDigits p)
 
 one-field : (ps : List (List ℕ)) → areOf (number ∷ []) ps ≡ (aNumber (getD (map slot ps) 0 Absent) && absent (getD (map slot ps) 1 Absent))
-unfolding areOf
+unfolding areOf isOf
 one-field [] = refl
-one-field (p ∷ ps) = ap₂ _&&_ (number-slot p) (no-field ps)
+one-field (p ∷ ps) = ap₂ _&&_ (number-slot mostDigits p) (no-field ps)
 
 two-fields : (ps : List (List ℕ))
     → areOf (number ∷ number ∷ []) ps ≡ (aNumber (getD (map slot ps) 0 Absent) && (aNumber (getD (map slot ps) 1 Absent) && absent (getD (map slot ps) 2 Absent)))
-unfolding areOf
+unfolding areOf isOf
 two-fields [] = refl
-two-fields (p ∷ ps) = ap₂ _&&_ (number-slot p) (one-field ps)
+two-fields (p ∷ ps) = ap₂ _&&_ (number-slot mostDigits p) (one-field ps)
 
 either-field : (ps : List (List ℕ)) → areOf (numberOrDash ∷ []) ps ≡ (aNumberOrDash (getD (map slot ps) 0 Absent) && absent (getD (map slot ps) 1 Absent))
-unfolding areOf
+unfolding areOf isOf
 either-field [] = refl
-either-field (p ∷ ps) = ap₂ _&&_ (either-slot p) (no-field ps)
+either-field (p ∷ ps) = ap₂ _&&_ (either-slot mostDigits p) (no-field ps)
 
 either-fields : (ps : List (List ℕ))
     → areOf (numberOrDash ∷ numberOrDash ∷ []) ps ≡ (aNumberOrDash (getD (map slot ps) 0 Absent) && (aNumberOrDash (getD (map slot ps) 1 Absent) && absent (getD (map slot ps) 2 Absent)))
-unfolding areOf
+unfolding areOf isOf
 either-fields [] = refl
-either-fields (p ∷ ps) = ap₂ _&&_ (either-slot p) (either-field ps)
+either-fields (p ∷ ps) = ap₂ _&&_ (either-slot mostDigits p) (either-field ps)
 
 three-fields : (ps : List (List ℕ)) → areOf (number ∷ numberOrDash ∷ numberOrDash ∷ []) ps
     ≡ (aNumber (getD (map slot ps) 0 Absent) && (aNumberOrDash (getD (map slot ps) 1 Absent) && (aNumberOrDash (getD (map slot ps) 2 Absent) && absent (getD (map slot ps) 3 Absent))))
-unfolding areOf
+unfolding areOf isOf
 three-fields [] = refl
-three-fields (p ∷ ps) = ap₂ _&&_ (number-slot p) (either-fields ps)
-
-event-there : (ps : List (List ℕ)) (i : ℕ) → numberIn mostDigits (getD ps i []) ≡ eventOf (getD (map slot ps) i Absent)
-event-there [] i = unfold numberIn isNumber in refl
-event-there (p ∷ ps) zero = event-slot p
-event-there (p ∷ ps) (suc i) = event-there ps i
+three-fields (p ∷ ps) = ap₂ _&&_ (number-slot mostDigits p) (either-fields ps)
 
 all-numbers : (ps : List (List ℕ)) → every (isOf number) ps ≡ every aNumber (map slot ps)
-unfolding every
+unfolding every isOf
 all-numbers [] = refl
-all-numbers (p ∷ ps) = ap₂ _&&_ (number-slot p) (all-numbers ps)
+all-numbers (p ∷ ps) = ap₂ _&&_ (number-slot mostDigits p) (all-numbers ps)
 
 all-values : (ps : List (List ℕ)) → map (λ p. orZero (numberIn mostDigits p)) ps ≡ map valueOf (map slot ps)
 all-values [] = refl
-all-values (p ∷ ps) = ap₂ (λ (n : ℕ) (ns : List ℕ). n ∷ ns) (ap orZero (event-slot p) ∙ event-value (slot p)) (all-values ps)
+all-values (p ∷ ps) = ap₂ (λ (n : ℕ) (ns : List ℕ). n ∷ ns) (ap orZero (event-slot mostDigits p) ∙ event-value (slot p)) (all-values ps)
 
 -- ---- a line of a letter that is in use
 
@@ -158,7 +160,7 @@ module _ (c : Char) (h : alike Foreign (classOf (code c)) ≡ false) (l : Line) 
 module _ (l : Line) where
   pub event-at : (i : ℕ) → eventAt l i ≡ eventOf (getD (slotsOf mostDigits (l .bytes)) i Absent)
   unfolding eventAt fieldsOf slotsOf
-  event-at i = event-there (drop 1 (pieces (l .bytes))) i
+  event-at i = event-there mostDigits (drop 1 (pieces (l .bytes))) i
 
   pub number-at : (i : ℕ) → numberAt l i ≡ valueOf (getD (slotsOf mostDigits (l .bytes)) i Absent)
   unfolding numberAt

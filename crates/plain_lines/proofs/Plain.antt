@@ -7,20 +7,20 @@ use mathlib.Core.List.{List, [], _∷_, _++_, map, append-nil}
 use native.Mathlib.Omega.{arith}
 use lib.ListN.{length, getD, drop}
 use lib.Dec.{leb, ltb}
-use borrow.Author.Tests.{ltb-true}
+use borrow.Author.Tests.{ltb-true, eqb-true}
 use Rattle.spec.specs.Lists.{from, every}
 use Rattle.spec.specs.Text.{Line, named, inDigits, classOf, digitOf, isA, onFirst, linesOf, needlessZero, isNumber, grow, pieces, isOnly, isDash}
 use Rattle.line_forms.specs.Rows.{slotOf, letterOf, letterIn, slotsOf, rowOf}
 use Rattle.spec.specs.Classes.{alike}
-use Rattle.spec.specs.declared.Class.the-variants.{Comma, LineEnd, Return}
+use Rattle.spec.specs.declared.Class.the-variants.{Comma, LineEnd, LetterP, LetterW, Return, Foreign}
 use Rattle.line_forms.specs.declared.Slot.{Slot}
 use Rattle.line_forms.specs.declared.Slot.the-variants.{Dash, Absent}
 use Rattle.lists.specs.Along.{rest-at}
-use Rattle.lists.specs.Laws.{and-three, every-in, from-in, not-is-true}
+use Rattle.lists.specs.Laws.{and-true, and-three, every-in, from-in, not-is-true}
 use Rattle.lists.specs.LineEnds.{ten-first, return-first, other-first}
-use Rattle.byte_entries.specs.Entries.{entryOf, classBy}
+use Rattle.byte_entries.specs.Entries.{codeOf, entryOf, classBy}
 use Rattle.byte_entries.proofs.Classes.{comma-entry, class-named}
-use Rattle.lines.specs.Lines.{lineOf, LineTo, Ending, ten, return-ten, PastEnding, pastBy, Ahead, EndedTo, openingOf}
+use Rattle.lines.specs.Lines.{lineOf, LineTo, Ending, ten, return-ten, PastEnding, pastBy, Ahead, EndedTo, openingOf, opensWith}
 use Rattle.lines.specs.declared.Cursor.{Cursor}
 use Rattle.lines.specs.declared.Opening.{Opening}
 use Rattle.lines.proofs.Lines.{past-told, went-on, here, on-by, ahead-of}
@@ -163,10 +163,10 @@ dash-field most {s} {at} h = let z : at + 1 - at ≡ suc 0 = omega arith in rw (
 -- ---- what stands behind what was read
 
 -- a return lies in front of a line end, so a byte stands behind it
-pub returns-on : {most : ℕ} {s : List ℕ} {at end stop : ℕ} {f : Slot} → ((stop ≡ 26 → ⊥) → FieldTo most s at end stop f) → stop ≡ 25 → end + 1 < length s
+pub returns-on : {most : ℕ} {s : List ℕ} {at end stop : ℕ} {f : Slot} → ((stop ≡ codeOf Foreign → ⊥) → FieldTo most s at end stop f) → stop ≡ codeOf Return → end + 1 < length s
 returns-on read e = let r = read (λ z. omega arith) in here (on-by (r .ahead) (r .stops) (λ z. omega arith))
 
-module _ {most : ℕ} {s : List ℕ} {at end stop : ℕ} {f : Slot} (read : (stop ≡ 26 → ⊥) → FieldTo most s at end stop f) where
+module _ {most : ℕ} {s : List ℕ} {at end stop : ℕ} {f : Slot} (read : (stop ≡ codeOf Foreign → ⊥) → FieldTo most s at end stop f) where
   -- a comma
   pub record Parted : Type 0 where
     pub field : FieldTo most s at end stop f
@@ -193,7 +193,7 @@ module _ {most : ℕ} {s : List ℕ} {at end stop : ℕ} {f : Slot} (read : (sto
       let g = went-on p d in
       record { field = r; within = p .within g; ending = p .ending g }
     where
-      none-told : stop ≡ 26 → pastBy stop s end ≡ end
+      none-told : stop ≡ codeOf Foreign → pastBy stop s end ≡ end
       none-told z = unfold pastBy in (rw z)
 
 -- ---- a line that is read, and one of another form
@@ -209,12 +209,12 @@ stays-three h = record { read = stays h; second = λ l. absurd (omega arith); th
 
 -- ---- the first two bytes of a line
 
--- every letter in use may begin a line: one test over their entries, from that of P to that of R
-pub letter-entry : (e : ℕ) → 13 ≤ e → e ≤ 24 → LetterEntry e
+-- every letter in use may begin a line: one test over their entries, from that of P to that of W
+pub letter-entry : (e : ℕ) → codeOf LetterP ≤ e → e ≤ codeOf LetterW → LetterEntry e
 unfolding every from alike classBy
 letter-entry e h l =
     let p : ℕ → Bool = λ n. not (alike (classBy n) Comma) && not (alike (classBy n) LineEnd) && not (alike (classBy n) Return) in
-    let z = and-three (not (alike (classBy e) Comma)) (not (alike (classBy e) LineEnd)) (not (alike (classBy e) Return)) (every-in p (from 13 12) refl e (from-in e 13 12 h (omega arith))) in
+    let z = and-three (not (alike (classBy e) Comma)) (not (alike (classBy e) LineEnd)) (not (alike (classBy e) Return)) (every-in p (from 13 15) refl e (from-in e 13 15 h (omega arith))) in
     record { comma = not-is-true _ (z .0); end = not-is-true _ (z .1); return = not-is-true _ (z .2) }
 
 pub opens-by : (b : ℕ) {e : ℕ} → LetterEntry e → entryOf b ≡ e → Opens b
@@ -222,7 +222,7 @@ unfolding isA
 opens-by b l q = record { comma = rw (← class-named b, q) (l .comma); end = rw (← class-named b, q) (l .end); return = rw (← class-named b, q) (l .return) }
 
 -- what the entries at a cursor tell, where they tell anything
-module _ (s : List ℕ) (c : Cursor) {o : Opening} (t : EndedTo s (c .ended)) (q : o ≡ openingOf s c) (d : o .letter ≡ 26 → ⊥) where
+module _ (s : List ℕ) (c : Cursor) {o : Opening} (t : EndedTo s (c .ended)) (q : o ≡ openingOf s c) (d : o .letter ≡ codeOf Foreign → ⊥) where
   pub record Opened : Type 0 where
     pub within : c .at + 1 < c .ended
     pub letter : o .letter ≡ entryOf (getD s (c .at) 0)
@@ -249,3 +249,17 @@ module _ (s : List ℕ) (c : Cursor) {o : Opening} (t : EndedTo s (c .ended)) (q
         comma = record { within = here a; byte = comma-entry (getD s (c .at + 1) 0) (sym (opened .behind) ∙ e) };
         ahead = rw n at (on-by a (opened .behind) (λ z. omega arith));
       }
+
+-- a letter in use and a comma stand at a position, with a line end ahead
+abbrev pub BeginsWith : List ℕ → ℕ → ℕ → Type 0
+BeginsWith s at e = Listed s at × (entryOf (getD s at 0) ≡ e)
+
+-- an opening that tells them
+module _ (s : List ℕ) (c : Cursor) {o : Opening} (t : EndedTo s (c .ended)) (q : o ≡ openingOf s c) where
+  pub begins-with : {e : ℕ} → codeOf LetterP ≤ e → e ≤ codeOf LetterW → o .letter ≡ e → o .behind ≡ codeOf Comma → BeginsWith s (c .at) e
+  begins-with l u h k =
+      let d : o .letter ≡ codeOf Foreign → ⊥ = λ x. omega arith in
+      (listed s c t q d (letter-entry (o .letter) (omega arith) (omega arith)) k, sym (opened s c t q d .letter) ∙ h)
+
+  pub opens-list : (e : ℕ) → codeOf LetterP ≤ e → e ≤ codeOf LetterW → opensWith e o ≡ true → BeginsWith s (c .at) e
+  opens-list e l u h = let z = and-true _ _ h in begins-with l u (eqb-true _ _ (z .0)) (eqb-true _ _ (z .1))

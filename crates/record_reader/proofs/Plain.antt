@@ -1,13 +1,12 @@
 -- Lines of a record text, by their rows, and what plain lines enter.
 use Prim.Native.Nat.{ℕ, _-_, _≤_, _<_}
-use mathlib.Core.Path.{_≡_, refl, sym, _∙_}
+use mathlib.Core.Path.{_≡_, refl, _∙_}
 use mathlib.Core.Bool.{Bool, true, false}
 use mathlib.Core.Logic.{_⊎_, inl, inr}
 use mathlib.Core.List.{List, [], _∷_}
 use native.Mathlib.Omega.{arith}
 use lib.ListN.{getD, drop, take}
 use lib.Dec.{lit<}
-use borrow.Author.Tests.{eqb-true}
 use Rattle.spec.specs.Answer.{Answer, refuses}
 use Rattle.spec.specs.Text.{named, inDigits, classOf, mostDigits}
 use Rattle.spec.specs.Net.{Net}
@@ -18,20 +17,19 @@ use Rattle.line_forms.specs.Rows.{aNumberOrDash, rowOf, isOne, isTwo, isThree}
 use Rattle.line_forms.proofs.Ties.{one-line, two-line, three-line, event-at, number-at}
 use Rattle.spec.specs.Classes.{classCode, alike}
 use Rattle.spec.specs.declared.Class.{Class}
-use Rattle.spec.specs.declared.Class.the-variants.{LetterE, LetterC, LetterB, LetterA, LetterR}
+use Rattle.spec.specs.declared.Class.the-variants.{LetterE, LetterC, LetterB, LetterA, LetterR, LetterP, LetterW}
 use Rattle.spec.specs.declared.Limits.{Limits}
 use Rattle.line_forms.specs.declared.Slot.{Slot}
 use Rattle.line_forms.specs.declared.Slot.the-variants.{Number}
-use Rattle.lists.specs.Laws.{and-true}
 use Rattle.byte_entries.specs.Entries.{codeOf, entryOf}
 use Rattle.byte_entries.proofs.Classes.{entry-class}
-use Rattle.lines.specs.Lines.{lineOf, LineAt, EndedTo, openingOf, opensWith}
+use Rattle.lines.specs.Lines.{lineOf, LineAt, EndedTo, openingOf}
 use Rattle.lines.specs.declared.Cursor.{Cursor}
 use Rattle.lines.specs.declared.Opening.{Opening}
 use Rattle.lines.specs.declared.Span.{Span}
 use Rattle.lines.proofs.Lines.{line-to}
-use Rattle.plain_lines.specs.Plain.{Listed, rowWith, PlainLine, MayRead}
-use Rattle.plain_lines.proofs.Plain.{letter-entry, plain-to, opened, listed}
+use Rattle.plain_lines.specs.Plain.{rowWith, PlainLine, MayRead}
+use Rattle.plain_lines.proofs.Plain.{plain-to, BeginsWith, begins-with}
 use Rattle.record_columns.specs.Enters.{Enters, conditionIn, markOf}
 use Rattle.record_columns.proofs.Answers.{entered-same}
 use Rattle.record_reader.specs.Reads.{Declares, Takes, MarkLetter, kindBy, enterRow}
@@ -59,33 +57,16 @@ module _ (lim : Limits) (k : ℕ) (b : List ℕ) (N : Net) (R : RunRecord) where
 -- ---- plain lines
 
 -- the entries of marks' letters are among those of letters
-mark-bounds : {o : Opening} → MarkLetter o → (13 ≤ o .letter) × (o .letter ≤ 24)
+mark-bounds : {o : Opening} → MarkLetter o → (codeOf LetterP ≤ o .letter) × (o .letter ≤ codeOf LetterW)
 mark-bounds {o} m = go (m .letter)
   where
-    go : (o .letter ≡ codeOf LetterB) ⊎ (o .letter ≡ codeOf LetterA) ⊎ (o .letter ≡ codeOf LetterR) → (13 ≤ o .letter) × (o .letter ≤ 24)
+    go : (o .letter ≡ codeOf LetterB) ⊎ (o .letter ≡ codeOf LetterA) ⊎ (o .letter ≡ codeOf LetterR) → (codeOf LetterP ≤ o .letter) × (o .letter ≤ codeOf LetterW)
     go (inl q) = (omega arith, omega arith)
     go (inr (inl q)) = (omega arith, omega arith)
     go (inr (inr q)) = (omega arith, omega arith)
 
--- such a letter and a comma stand at a position, with a line end ahead
-abbrev pub BeginsWith : List ℕ → ℕ → ℕ → Type 0
-BeginsWith s at e = Listed s at × (entryOf (getD s at 0) ≡ e)
-
--- an opening that tells them
-module _ (s : List ℕ) (c : Cursor) {o : Opening} (t : EndedTo s (c .ended)) (q : o ≡ openingOf s c) where
-  begins-with : {e : ℕ} → 13 ≤ e → e ≤ 24 → o .letter ≡ e → o .behind ≡ 10 → BeginsWith s (c .at) e
-  begins-with {e} l u h k =
-      let z : o .letter ≡ 26 → ⊥ = λ x. omega arith in
-      (listed s c t q z (letter-entry (o .letter) (omega arith) (omega arith)) k, sym (opened s c t q z .letter) ∙ h)
-
-  pub begins-event : opensWith 19 o ≡ true → BeginsWith s (c .at) 19
-  begins-event h = let z = and-true _ _ h in begins-with (omega arith) (omega arith) (eqb-true _ _ (z .0)) (eqb-true _ _ (z .1))
-
-  pub begins-condition : opensWith 20 o ≡ true → BeginsWith s (c .at) 20
-  begins-condition h = let z = and-true _ _ h in begins-with (omega arith) (omega arith) (eqb-true _ _ (z .0)) (eqb-true _ _ (z .1))
-
-  pub begins-mark : MarkLetter o → BeginsWith s (c .at) (o .letter)
-  begins-mark m = let b = mark-bounds m in begins-with (b .0) (b .1) refl (m .comma)
+pub begins-mark : (s : List ℕ) (c : Cursor) {o : Opening} → EndedTo s (c .ended) → o ≡ openingOf s c → MarkLetter o → BeginsWith s (c .at) (o .letter)
+begins-mark s c t q m = let b = mark-bounds m in begins-with s c t q (b .0) (b .1) refl (m .comma)
 
 module _ (lim : Limits) (k : ℕ) {text : List ℕ} {i next : ℕ} (N : Net) (R : RunRecord) where
   pub event-line : {t : ℕ} (l : PlainLine 4 text i next (Number t ∷ [])) → entryOf (getD text i 0) ≡ 19 → enterLine lim N k (lineOf (l .bytes) true) R ≡ enterEvent lim N k t R

@@ -4,6 +4,8 @@ use Prim.Native.Nat.{_+_, _<_}
 use mathlib.Core.Path.{_≡_, sym, subst}
 use native.Mathlib.Omega.{arith}
 use lib.ListN.{length}
+use Rattle.spec.specs.declared.Class.the-variants.{Return}
+use Rattle.byte_entries.specs.Entries.{codeOf}
 use Rattle.lines.specs.Lines.{PastEnding}
 use Rattle.lines.proofs.Lines.{past-told, went-on, here, on-by}
 use Rattle.plain_lines.proofs.Plain.{letter-alone, stays}
@@ -11,7 +13,7 @@ use Rattle.plain_lines.proofs.alone_at.Statement.{statement}
 use Rattle.plain_lines.proofs.alone_at.Tie as tie
 
 -- a return behind the letter lies in front of a line end
-on : (c : tie.Start) → let a = c .args in a .behind ≡ 25 → a .at + 1 + 1 < length (a .s .now)
+on : (c : tie.Start) → let a = c .args in a .behind ≡ codeOf Return → a .at + 1 + 1 < length (a .s .now)
 on c e = here (on-by (c .pre .1 .ahead) (c .pre .1 .told) (λ z. omega arith))
 
 add-end : tie.Need-add-end

@@ -6,7 +6,8 @@ use native.Mathlib.Omega.{arith}
 use Rattle.spec.specs.Checking.{enterEvent, enterCondition, enterMark}
 use Rattle.record_columns.specs.Enters.{conditionIn, markOf}
 use Rattle.record_reader.specs.Reads.{MarkLetter, kindBy}
-use Rattle.record_reader.proofs.Plain.{BeginsWith, begins-event, begins-condition, begins-mark, event-line, condition-line, mark-line, plain-takes}
+use Rattle.plain_lines.proofs.Plain.{BeginsWith, opens-list}
+use Rattle.record_reader.proofs.Plain.{begins-mark, event-line, condition-line, mark-line, plain-takes}
 use Rattle.record_reader.proofs.enter_at.Statement.{statement}
 use Rattle.record_reader.proofs.enter_at.Tie as tie
 
@@ -29,11 +30,11 @@ mark c = let o = c .before .before in let s = o .before .before .before .before 
 
 condition : (c : tie.Then3) → Told (c .before .before .before .before) 20
 condition c = let o = c .before .before .before .before in let s = o .before .before .before .before in
-    begins-condition _ (s .args .c) (s .pre .2) (o .open-at .ensures) (sym (c .before .opens-with .ensures) ∙ c .if3 .taken)
+    opens-list _ (s .args .c) (s .pre .2) (o .open-at .ensures) 20 (omega arith) (omega arith) (sym (c .before .opens-with .ensures) ∙ c .if3 .taken)
 
 event : (c : tie.Then5) → Told (c .before .before .before .before .before .before) 19
 event c = let o = c .before .before .before .before .before .before in let s = o .before .before .before .before in
-    begins-event _ (s .args .c) (s .pre .2) (o .open-at .ensures) (sym (c .before .opens-with2 .ensures) ∙ c .if5 .taken)
+    opens-list _ (s .args .c) (s .pre .2) (o .open-at .ensures) 19 (omega arith) (omega arith) (sym (c .before .opens-with2 .ensures) ∙ c .if5 .taken)
 
 two-at-requires : tie.Need-two-at-requires
 two-at-requires c κs = (c .before .before .before .before .before .before .pre .0, omega arith, omega arith, mark c .0)
