@@ -55,6 +55,7 @@ pub enum Verdict {
 pub struct Accepted {
     pub verdict: Verdict,
     pub places: usize,
+    pub transitions: usize,
     pub events: usize,
     pub conditions: usize,
 }
@@ -132,6 +133,7 @@ fn refused(why: Refusal) -> Accepted
     Accepted {
         verdict: Verdict::Refused(why),
         places: 0,
+        transitions: 0,
         events: 0,
         conditions: 0,
     }
@@ -162,6 +164,7 @@ fn accept_record(
     Accepted {
         verdict: judge(b, tokens, arcs, s, rec, marks, w),
         places: b.places,
+        transitions: b.transitions,
         events: s.events,
         conditions: s.conditions,
     }

@@ -11,18 +11,17 @@ use Rattle.spec.specs.Lists.{sum}
 use Rattle.spec.specs.Answer.{gives, refuses, _>>=_, _>>_, refuse_at_when_, returned}
 use Rattle.spec.specs.Record.{bench, transitionOf}
 use Rattle.spec.specs.Process.{WellFormed}
-use Rattle.spec.specs.Checking.{accepts, Accepted as AcceptedD}
+use Rattle.spec.specs.Checking.{accepts}
 use Rattle.spec.specs.Replaying.{readArrangement, replayedOf, replay}
 use Rattle.spec.specs.Buffer.{leaves, replayLeaves}
-use Rattle.lists.specs.Laws.{at-in}
 use Rattle.runs.specs.Answers.{not-refused}
 use Rattle.lines.specs.Agree.{Agrees, giving, refusing}
 use Rattle.lines.proofs.Answers.{isGiven, same-given, refuses≢gives}
-use Rattle.accepting.specs.Accepting.{refusedBy, verdictOf, HoldsRun, HoldsNet, Accepts, Keeps}
+use Rattle.accepting.specs.Accepting.{refusedBy, verdictOf, Accepts}
 use Rattle.accepting.specs.declared.Refusal.{Refusal}
-use Rattle.accepting.specs.declared.Verdict.the-variants.{Given, Refused}
+use Rattle.accepting.specs.declared.Verdict.the-variants.{Refused}
 use Rattle.accepting.specs.declared.Accepted.{Accepted}
-use Rattle.accepting.proofs.Accepting.{accepted-process}
+use Rattle.accepting.proofs.Accepting.{accepted-process, Took, event-known}
 use Rattle.arrangement_reader.specs.Arrangement.{answerOf, linesPlayed, linesIn, goesOf}
 use Rattle.reach.specs.Rows.{Good}
 use Rattle.arrangement_reader.specs.Lined.{TellsOrder}
@@ -61,13 +60,6 @@ module _ (net text arrangement : List ℕ) where
 
 -- ---- a net and a record that are accepted
 
--- as the definitions and as the arrays have them
-pub record Took (net text : List ℕ) (r : Accepted) (tokens arcs rec t : List ℕ) : Type 0 where
-  pub accepted : AcceptedD
-  pub is : accepts bench net text ≡ gives accepted
-  pub run : HoldsRun r t (accepted .run)
-  pub lent : HoldsNet r tokens arcs rec accepted
-
 lines-kept : (b : ArrangementAnswer) {m : ℕ} → answerOf b ≡ gives (m, 0, 0) → linesIn b ≡ m
 lines-kept (KeepsLines k) y = ap (λ (z : ℕ × ℕ × ℕ). z .0) (same-given y)
 lines-kept (Malformed k) y = absurd (refuses≢gives y)
@@ -83,10 +75,6 @@ one-most (x ∷ xs) zero = omega arith
 one-most (x ∷ xs) (suc p) = omega (arith, one-most xs p)
 
 module _ {net text : List ℕ} {r : Accepted} {tokens arcs rec t : List ℕ} where
-  pub taken : r .verdict ≡ Given → Accepts bench net text r t → Keeps bench net text r tokens arcs rec → Took net text r tokens arcs rec t
-  taken q (giving a e y k) n = record { accepted = a; is = e; run = k; lent = n a e }
-  taken q (refusing n s e y) _ = not-refused (sym y ∙ ap verdictOf q)
-
   module _ (A : Took net text r tokens arcs rec t) where
     well : WellFormed (A .accepted .net) (A .accepted .run)
     well = accepted-process bench net text (A .accepted) (A .is) .0
@@ -107,7 +95,7 @@ module _ {net text : List ℕ} {r : Accepted} {tokens arcs rec t : List ℕ} whe
 
       known : (e : ℕ) → e < r .events → getD ts e 0 < 32
       known e u = let n = A .lent .arrays .counts in
-          omega (arith, transition e u, well .known _ (at-in 0 (A .accepted .run .events) e (omega (arith, A .run .events))), n .fewTransitions)
+          omega (arith, transition e u, event-known A e u, n .fewTransitions)
 
       describes : Describes (r .places) tokens arcs (r .events) ts (A .accepted .net) (A .accepted .run)
       describes = let k = A .lent .arrays in record {

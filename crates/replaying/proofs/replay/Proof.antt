@@ -3,9 +3,9 @@ use mathlib.Core.Path.{refl, sym, _∙_}
 use native.Mathlib.Omega.{arith}
 use borrow.Author.Needs.{needs}
 use borrow.Author.Tests.{not-true, not-false}
-use Rattle.accepting.proofs.Accepting.{at-bench, kept-at-bench}
+use Rattle.accepting.proofs.Accepting.{at-bench, kept-at-bench, taken}
 use Rattle.accepting.proofs.Fresh.{fresh-net, fresh-record, fresh}
-use Rattle.replaying.proofs.Operation.{short-replays, refused-replays, taken, judge-room, refused-lines, playable, same-size, played-lines}
+use Rattle.replaying.proofs.Operation.{short-replays, refused-replays, judge-room, refused-lines, playable, same-size, played-lines}
 use Rattle.replaying.proofs.replay.Statement.{statement}
 use Rattle.replaying.proofs.replay.Tie as tie
 
