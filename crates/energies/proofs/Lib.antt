@@ -1,0 +1,4 @@
+pub mod Ranges
+pub mod Floats
+pub mod Sums
+pub mod Right
