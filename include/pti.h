@@ -17,6 +17,7 @@ extern "C" {
 #endif
 
 typedef struct { uint64_t number, spot, a, b, c; } pti_answer;
+typedef struct { uint64_t number, spot; double usable, draw, left; } pti_energy_answer;
 
 /* Buffers of these sizes, in bytes and in counts, are never too short; the program's has just this one. */
 #define PTI_RECORD_BYTES 48256
@@ -41,6 +42,13 @@ pti_answer pti_replay(const uint8_t *net, size_t net_len, const uint8_t *record,
 
 /* Writes the shortest arrangement. a: bytes written, b: lines. Refusals 50, the net's, 31 to 39. */
 pti_answer pti_arrange(const uint8_t *net, size_t net_len, const uint8_t *record, size_t record_len, uint8_t *out, size_t out_len);
+
+/* The energy of the hold-up capacitor and what the events of a record draw from it, in microjoules. usable: what the capacitor
+ * gives between full and cutoff; draw: the sum over the events, exactly; left: usable less draw, below 0 where it falls short.
+ * The energy text is a line K,capacitance,full,cutoff in microfarads and millivolts, and for each transition of the net, in
+ * order, a line J,microjoules or W,milliwatts,milliseconds. Refusals: the net's, 31 to 39, 52, 53; the three are 0 where it is
+ * refused. */
+pti_energy_answer pti_energy(const uint8_t *net, size_t net_len, const uint8_t *record, size_t record_len, const uint8_t *energy, size_t energy_len);
 
 /* Where a line stands, of the net text (choice 0) or the second text (choice 1), without its ending, 10 or 13 and 10.
  * a: its start in the chosen text, b: its length; both 0 when refused. Refusal 46. */

@@ -2,6 +2,7 @@
 ghost use mathlib.Core.Path.{_≡_};
 ghost use Rattle.spec.specs.Answer.{gives, refuses};
 ghost use Rattle.spec.specs.Values.{asNumbers};
+ghost use Rattle.spec.specs.Energy.{asEnergy};
 ghost use Rattle.lines.specs.Agree.{refusedAs};
 ghost use Rattle.net.specs.NetArrays.{netRefusal, answerOf as netAnswer};
 ghost use Rattle.record_columns.specs.Enters.{recordRefusal};
@@ -13,18 +14,23 @@ ghost use Rattle.checking.specs.Checking.{checkOf};
 ghost use Rattle.arrangement_reader.specs.Arrangement.{answerOf as arrangementAnswer};
 ghost use Rattle.replaying.specs.Replaying.{replayOf};
 ghost use Rattle.arranging.specs.Answers.{answerOf as arrangeAnswer};
+ghost use Rattle.energy_reader.specs.Reads.{refusalOf as figuresRefusal};
+ghost use Rattle.energy.specs.Answers.{energyOf};
 ghost use Rattle.refused_lines.specs.Shown.{answerOf as lineAnswer};
 use accepting::Refusal;
 use arrangement_reader::ArrangementAnswer;
 use arranging::ArrangeAnswer;
 use building::BuildAnswer;
 use checking::CheckAnswer;
+use energy::EnergyAnswer;
+use energy_reader::EnergyRefusal;
 use log_steps::LogRefusal;
 use net::NetAnswer;
 use net::NetRefusal;
 use record_columns::RecordRefusal;
 use refused_lines::LineAnswer;
 use replaying::ReplayAnswer;
+use spec::EnergyNumbers;
 use spec::Numbers;
 use steps::StepRefusal;
 
@@ -129,7 +135,7 @@ fn of_record_refusal(x: RecordRefusal) -> Numbers
     }
 }
 
-// What a net or a record is refused for, by the check, by replaying and by arranging.
+// What a net or a record is refused for, by the check, by replaying, by arranging and by the energies.
 fn of_refusal(x: Refusal) -> Numbers
     ensures { λ r. ⌜ r ≡ asNumbers (refusedBy x) ⌝ }
 {
@@ -183,6 +189,46 @@ pub fn of_arrange(x: ArrangeAnswer) -> Numbers
         ArrangeAnswer::Arranged(bytes, lines) => accepted(bytes, lines, 0),
         ArrangeAnswer::BufferShort => refused(50, 0),
         ArrangeAnswer::Refused(y) => of_refusal(y),
+    }
+}
+
+// What an energy text is refused for.
+fn of_figures(x: EnergyRefusal) -> Numbers
+    ensures { λ r. ⌜ r ≡ asNumbers (refusedAs (figuresRefusal x)) ⌝ }
+{
+    match x {
+        EnergyRefusal::WrongLine(k) => refused(52, k),
+        EnergyRefusal::LineCount => refused(53, 0),
+    }
+}
+
+// A refusal has no energies: they are 0.
+fn without_energies(n: Numbers) -> EnergyNumbers
+    ensures { λ r. ⌜ r ≡ asEnergy (refuses (n .number) (n .spot)) ⌝ }
+{
+    EnergyNumbers {
+        number: n.number,
+        spot: n.spot,
+        usable: 0.0,
+        draw: 0.0,
+        left: 0.0,
+    }
+}
+
+// The energies: usable, draw and what is left.
+pub fn of_energy(x: EnergyAnswer) -> EnergyNumbers
+    ensures { λ r. ⌜ r ≡ asEnergy (energyOf x) ⌝ }
+{
+    match x {
+        EnergyAnswer::Given(e) => EnergyNumbers {
+            number: 0,
+            spot: 0,
+            usable: e.usable,
+            draw: e.draw,
+            left: e.left,
+        },
+        EnergyAnswer::Refused(y) => without_energies(of_refusal(y)),
+        EnergyAnswer::Text(y) => without_energies(of_figures(y)),
     }
 }
 

@@ -1,16 +1,19 @@
-// The second and the third demand, and that independent means free to swap (02, 2026-04), as the promises of functions
-// that make the calls: what each call returned, and what it left in the buffers.
+// The second and the third demand, that independent means free to swap (02, 2026-04), and that energies are right (02,
+// 2026-05), as the promises of functions that make the calls: what each call returned, and what it left in the buffers.
 ghost use Rattle.demands.specs.Exactly.{ReadsExactly, BuildsExactly, ChecksExactly};
 ghost use Rattle.demands.specs.Exactly.{ArrangesExactly, ReplaysExactly};
 ghost use Rattle.demands.specs.Demand.{buffers, OrderPromised, RunPromised};
 ghost use Rattle.demands.specs.Swaps.{PairsPromised, PrintPromised};
+ghost use Rattle.spec.specs.HoldUp.{RightEnergy};
 use pti::PROGRAM_BYTES;
 use pti::pti_arrange;
 use pti::pti_build;
 use pti::pti_check;
+use pti::pti_energy;
 use pti::pti_program;
 use pti::pti_read_net;
 use pti::pti_replay;
+use spec::EnergyNumbers;
 use spec::Numbers;
 
 // Reading a net.
@@ -126,4 +129,11 @@ pub fn pairs_printed(input: &[u8], out: &mut [u8; PROGRAM_BYTES]) -> Numbers
     ensures { λ r. ⌜ PrintPromised (now (input .entry)) r (now (out .exit)) ⌝ }
 {
     pti_program(input, out)
+}
+
+// The energies of a record.
+pub fn energy_right(net: &[u8], run: &[u8], figures: &[u8]) -> EnergyNumbers
+    ensures { λ r. ⌜ RightEnergy (now (net .entry)) (now (run .entry)) (now (figures .entry)) r ⌝ }
+{
+    pti_energy(net, run, figures)
 }

@@ -1,15 +1,17 @@
-// Run records of PTI-nets: the operations of document 01 by slices, and the same for C.
+// Run records of PTI-nets: the operations of documents 01 and 02 by slices, and the same for C.
 //
 // An operation's answer is an enum with a named case for each refusal. Its contract says, by a definition of the
 // crate spec, the number, spot and values of the answer and every byte of the lent buffer; none has a `requires`. A
 // refusal writes nothing, and past what an operation writes a buffer keeps its contents.
 ghost use mathlib.Core.Path.{_≡_};
 ghost use Rattle.spec.specs.Values.{netReturns, lineReturns};
+ghost use Rattle.spec.specs.Energy.{energyReturns};
 ghost use Rattle.pti.specs.Calls.{BuildCall, CheckCall, ReplayCall, ArrangeCall, ProgramCall};
 pub use accepting::Refusal;
 use answer_numbers::of_arrange;
 use answer_numbers::of_build;
 use answer_numbers::of_check;
+use answer_numbers::of_energy;
 use answer_numbers::of_line;
 use answer_numbers::of_net;
 use answer_numbers::of_program;
@@ -21,6 +23,9 @@ pub use building::BuildAnswer;
 pub use building::build;
 pub use checking::CheckAnswer;
 pub use checking::check;
+pub use energy::EnergyAnswer;
+pub use energy::energy;
+pub use energy_reader::EnergyRefusal;
 pub use log_steps::LogRefusal;
 pub use net::NetAnswer;
 pub use net_reader::NetRead;
@@ -33,6 +38,8 @@ pub use refused_lines::refused_line;
 pub use refused_lines::refused_line_answer;
 pub use replaying::ReplayAnswer;
 pub use replaying::replay;
+pub use spec::Energies;
+pub use spec::EnergyNumbers;
 pub use spec::Numbers;
 pub use steps::StepRefusal;
 
@@ -80,6 +87,14 @@ pub extern "C" fn pti_arrange(net: &[u8], text: &[u8], out: &mut [u8]) -> Number
     ensures { λ r. ⌜ ArrangeCall (now (net .entry)) (now (text .entry)) (now (out .entry)) r (now (out .exit)) ⌝ }
 {
     of_arrange(arrange(net, text, out))
+}
+
+// What the hold-up capacitor gives, what the events of a record draw from it, and what is left.
+#[no_mangle]
+pub extern "C" fn pti_energy(net: &[u8], text: &[u8], figures: &[u8]) -> EnergyNumbers
+    ensures { λ r. ⌜ r ≡ energyReturns (now (net .entry)) (now (text .entry)) (now (figures .entry)) ⌝ }
+{
+    of_energy(energy(net, text, figures))
 }
 
 // Where a line stands, of the net text (choice 0) or the second text (choice 1). a: its start in that text, b: its
