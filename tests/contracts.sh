@@ -26,11 +26,12 @@ weaken check 'check(net, text, table)' 'check(text, net, table)'
 weaken replay 'replay(net, text, arrangement, rows)' 'replay(net, arrangement, text, rows)'
 weaken arrange 'arrange(net, text, out)' 'arrange(text, net, out)'
 weaken program 'program(input, out)' 'program(b"", out)'
+weaken energy 'energy(net, text, figures)' 'energy(net, figures, text)'
 
 log=$work/log
 (cd "$work" && rt check demands > "$log" 2>&1) && { echo "contracts: NOT REFUSED"; exit 1; }
 grep -q '^rt: pti proved' "$log" || { echo "contracts: the weaker contracts are not proved"; tail -n 3 "$log"; exit 1; }
-for name in net_read log_built record_checked arrangement_replayed record_arranged order_of_runs run_recorded pairs_counted pairs_printed; do
+for name in net_read log_built record_checked arrangement_replayed record_arranged order_of_runs run_recorded pairs_counted pairs_printed energy_right; do
   grep -q "^fn demands::$name: not proved" "$log" || { echo "contracts: demands::$name is NOT REFUSED"; exit 1; }
   echo "contracts: with a weaker one demands::$name is refused, as it must be"
 done
