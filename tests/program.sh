@@ -473,10 +473,10 @@ script_builds() {
 # Every number of documents 01 and 02 has its line in the table that the script reads.
 table() {
   local number
-  for number in 10 {11..15} {20..27} {30..39} {40..45} 46 50 51; do
-    holds "docs/REFUSALS.txt has $number once" test "$(grep -cE "^$number (none|net|log|record|arrangement|transition|place|event|asked) +[^ ]" docs/REFUSALS.txt)" -eq 1
+  for number in 10 {11..15} {20..27} {30..39} {40..45} 46 {50..53}; do
+    holds "docs/REFUSALS.txt has $number once" test "$(grep -cE "^$number (none|net|log|record|arrangement|energy|transition|place|event|asked) +[^ ]" docs/REFUSALS.txt)" -eq 1
   done
-  holds "docs/REFUSALS.txt has no other" test "$(grep -cE '^[^#]' docs/REFUSALS.txt)" -eq 33
+  holds "docs/REFUSALS.txt has no other" test "$(grep -cE '^[^#]' docs/REFUSALS.txt)" -eq 35
 }
 
 each_example

@@ -9,7 +9,7 @@
 #   byte table    the table that the source keeps is, byte for byte, what its program prints
 #   guarded       the comparison again with pages around every lent part that may not be touched, and the stack of each call
 #   peer          the unverified program that the library is measured against, held to the same comparison by document 01 with
-#                 2026-04, on texts without the other requests
+#                 2026-04 and 2026-05, on texts without the other requests
 #
 #   tests/run.sh           400,000 generated cases, 200 nets, in about a minute
 #   tests/run.sh --long    ten times as many of each, from another seed

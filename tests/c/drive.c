@@ -1,6 +1,6 @@
 /* The C interface from C: the header compiles by itself, its sizes suffice, and the drive net of document 01 comes out as
- * printed there, its pairs counted by 2026-04, and a read arc and both line ends as written out here. Exits 0 if all is so;
- * else it says what is not. */
+ * printed there, its pairs counted by 2026-04, and a read arc, both line ends and energies as written out here. Exits 0 if
+ * all is so; else it says what is not. */
 #include "pti.h"
 #include <stdio.h>
 #include <string.h>
@@ -95,6 +95,35 @@ static void returns(void)
     expect("= 13 10", pti_program((const uint8_t *)input, strlen(input), out), 0, 0, sizeof(built) - 1 + 10, 0, 0);
 }
 
+/* Bit for bit, so that minus zero is not zero. */
+static int same(double one, double other)
+{
+    return memcmp(&one, &other, sizeof one) == 0;
+}
+
+static void expect_energies(const char *what, pti_energy_answer x, uint64_t number, uint64_t spot, double usable, double draw, double left)
+{
+    if (x.number == number && x.spot == spot && same(x.usable, usable) && same(x.draw, draw) && same(x.left, left))
+        return;
+    printf("%s: %llu,%llu gives %.17g,%.17g,%.17g\n", what, (unsigned long long)x.number, (unsigned long long)x.spot, x.usable, x.draw, x.left);
+    wrong = 1;
+}
+
+/* What the write and the park of case b draw from the hold-up capacitor; the flush's line counts for no event. */
+static void energies(void)
+{
+    static const char wrong_line[] = "K,3300,12000,5000\nW,2500,8\nW,4500\nJ,52000\n";
+    expect_energies("energy", pti_energy(TEXT(net), TEXT(record), TEXT("K,3300,12000,5000\nW,2500,8\nW,4500,24\nJ,52000\n")), 0, 0, 196350.0, 72000.0, 124350.0);
+    expect_energies("energy that lacks", pti_energy(TEXT(net), TEXT(record), TEXT("K,1000,12000,5000\r\nW,2500,8\nW,4500,24\r\nJ,52000\n")), 0, 0, 59500.0, 72000.0, -12500.0);
+    expect_energies("rounded once", pti_energy(TEXT(net), TEXT(record), TEXT("K,24,325,75\nJ,1\nJ,9\nJ,0\n")), 0, 0, 1.2, 1.0, 0.19999999999999996);
+    expect_energies("no minus zero", pti_energy(TEXT(net), TEXT(record), TEXT("K,1,5,5\nJ,0\nJ,0\nJ,0\n")), 0, 0, 0.0, 0.0, 0.0);
+    expect_energies("52", pti_energy(TEXT(net), TEXT(record), TEXT(wrong_line)), 52, 3, 0.0, 0.0, 0.0);
+    expect("52's line", pti_refused_line(TEXT(net), TEXT(wrong_line), 1, 3), 0, 0, 27, 6, 0);
+    expect_energies("53", pti_energy(TEXT(net), TEXT(record), TEXT("")), 53, 0, 0.0, 0.0, 0.0);
+    expect_energies("31 before 52", pti_energy(TEXT(net), TEXT("x\n"), TEXT("x\n")), 31, 1, 0.0, 0.0, 0.0);
+    expect_energies("11 before 31", pti_energy(TEXT("x\n"), TEXT("x\n"), TEXT("x\n")), 11, 1, 0.0, 0.0, 0.0);
+}
+
 int main(void)
 {
     build_and_check();
@@ -102,6 +131,7 @@ int main(void)
     lines_and_program();
     readers();
     returns();
+    energies();
     if (!wrong)
         puts("c: the drive net comes out as printed");
     return wrong;

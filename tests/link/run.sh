@@ -60,6 +60,15 @@ each_arrangement() { # PROGRAM
   for order in drive/b.{park,write}_first temperature/flush.reader_{first,late}; do
     try "${order/\//.}" "$1" "examples/${order%/*}/net" "examples/${order%.*}.log" "examples/$order.arr"
   done
+  try energy.b.park_first "$1" examples/drive/{net,b.log,b.park_first.arr} --energy examples/energy/new.energy
+}
+
+# The drive's log a with each energy text of its net.
+each_energy() { # PROGRAM
+  local text
+  for text in new aged wrong short; do
+    try "energy.$text" "$1" examples/drive/net examples/drive/a.log --energy "examples/energy/$text.energy"
+  done
 }
 
 # What the program's operation prints is stored with the examples.
@@ -71,13 +80,19 @@ each_print() { # PROGRAM
   done
 }
 
-misuse() { # PROGRAM: no words, and a file that is not there
+misuse() { # PROGRAM: no words, a file that is not there, no file behind --energy, and one that is not there
   local status=0
   "$1" > "$work/printed" 2>&1 || status=$?
   [ "$status" -eq 2 ] || fail "$1 without words ended with $status, not 2"
   status=0
   "$1" "$work/none" examples/drive/a.log > "$work/printed" 2>&1 || status=$?
   [ "$status" -eq 2 ] || fail "$1 on a file that is not there ended with $status, not 2"
+  status=0
+  "$1" examples/drive/net --energy examples/energy/new.energy > "$work/printed" 2>&1 || status=$?
+  [ "$status" -eq 2 ] || fail "$1 with an energy text and no log ended with $status, not 2"
+  status=0
+  "$1" examples/drive/net examples/drive/a.log --energy "$work/none" > "$work/printed" 2>&1 || status=$?
+  [ "$status" -eq 2 ] || fail "$1 on an energy text that is not there ended with $status, not 2"
 }
 
 # A refused net, besides the logs: its last arc names a place that is not declared.
@@ -92,6 +107,7 @@ compile_c print "$PTI_LIB_DIR" "$work/print_c"
 
 for program in "$work/tour_simulator" "$work/tour_c" target/link/release/tour; do
   each_log "$program"
+  each_energy "$program"
   misuse "$program"
 done
 for program in "$work/tour_simulator" "$work/tour_c"; do each_arrangement "$program"; done

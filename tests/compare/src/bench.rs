@@ -19,6 +19,7 @@ struct Load {
     log: Vec<u8>,
     record: Vec<u8>,
     arrangement: Vec<u8>,
+    energy: Vec<u8>,
     input: Vec<u8>,
     last_line: u64,
 }
@@ -30,8 +31,10 @@ impl Load {
         let written = SIMULATOR.arrange(&net, &record, &mut out).a as usize;
         out.truncate(written);
         let input = [&net[..], b"=\n", &log].concat();
+        let transitions = SIMULATOR.read_net(&net).b as usize;
+        let energy = ["K,3300,12000,5000\n", &"W,4500,24\n".repeat(transitions)].concat().into_bytes();
         let last_line = record.iter().filter(|byte| **byte == 10).count() as u64;
-        Load { name: name.to_string(), net, log, record, arrangement: out, input, last_line }
+        Load { name: name.to_string(), net, log, record, arrangement: out, energy, input, last_line }
     }
 
     fn watched(events: usize) -> Load {
@@ -57,6 +60,7 @@ fn calls<'a>(subject: &'a dyn Subject, operation: Operation, load: &'a Load) -> 
         Operation::Check => subject.check(net, black_box(record), &mut bytes[..TABLE_ROOM]).a,
         Operation::Replay => subject.replay(net, record, black_box(&load.arrangement), &mut rows).a,
         Operation::Arrange => subject.arrange(net, black_box(record), &mut bytes[..ARRANGEMENT_ROOM]).a,
+        Operation::Energy => subject.energy(net, record, black_box(&load.energy)).a,
         Operation::RefusedLine => subject.refused_line(net, black_box(record), 1, load.last_line).a,
         Operation::Program => subject.program(black_box(&load.input), whole(&mut bytes)).a,
     }
@@ -163,7 +167,7 @@ fn measure(subjects: &[&dyn Subject], rows: &mut [Row]) {
 pub fn bench(library: Option<&dyn Subject>) {
     let subjects: Vec<&dyn Subject> = [&SIMULATOR as &dyn Subject].into_iter().chain(library).collect();
     let (sizes, growing) = ([load_of(0), load_of(32), load_of(128), reading()], [8, 16, 32, 64, 128].map(load_of));
-    let operations = [Operation::Build, Operation::Check, Operation::Replay, Operation::Arrange, Operation::Program];
+    let operations = [Operation::Build, Operation::Check, Operation::Replay, Operation::Arrange, Operation::Energy, Operation::Program];
     let mut table: Vec<Row> = sizes.iter().flat_map(|load| rows(subjects.len(), &Operation::ALL, std::slice::from_ref(load))).collect();
     let mut growth = rows(1, &operations, &growing);
     for _ in 0..ROUNDS {

@@ -12,6 +12,8 @@ pub trait Subject {
     fn check(&self, net: &[u8], record: &[u8], table: &mut [u8]) -> Answer;
     fn replay(&self, net: &[u8], record: &[u8], arrangement: &[u8], rows: &mut [u16]) -> Answer;
     fn arrange(&self, net: &[u8], record: &[u8], out: &mut [u8]) -> Answer;
+    /// The answer's a, b and c are the bits of its three f64.
+    fn energy(&self, net: &[u8], record: &[u8], energy: &[u8]) -> Answer;
     fn refused_line(&self, net: &[u8], second: &[u8], choice: u8, line: u64) -> Answer;
     fn program(&self, input: &[u8], out: &mut [u8; PROGRAM_ROOM]) -> Answer;
 }
@@ -23,23 +25,25 @@ pub enum Operation {
     Check,
     Replay,
     Arrange,
+    Energy,
     RefusedLine,
     Program,
 }
 
 impl Operation {
-    pub const ALL: [Operation; 7] = [
+    pub const ALL: [Operation; 8] = [
         Operation::ReadNet,
         Operation::Build,
         Operation::Check,
         Operation::Replay,
         Operation::Arrange,
+        Operation::Energy,
         Operation::RefusedLine,
         Operation::Program,
     ];
 
     pub fn name(self) -> &'static str {
-        ["read_net", "build", "check", "replay", "arrange", "refused_line", "program"][self as usize]
+        ["read_net", "build", "check", "replay", "arrange", "energy", "refused_line", "program"][self as usize]
     }
 
     /// The texts it takes, in their order.
@@ -49,6 +53,7 @@ impl Operation {
             Operation::Build => &["net", "log"],
             Operation::Check | Operation::Arrange => &["net", "record"],
             Operation::Replay => &["net", "record", "arrangement"],
+            Operation::Energy => &["net", "record", "energy"],
             Operation::RefusedLine => &["net", "second"],
             Operation::Program => &["input"],
         }
@@ -62,7 +67,7 @@ impl Operation {
     /// The size at which its lent buffer is no longer too short.
     pub fn stated_room(self) -> usize {
         match self {
-            Operation::ReadNet | Operation::RefusedLine => 0,
+            Operation::ReadNet | Operation::Energy | Operation::RefusedLine => 0,
             Operation::Build => RECORD_ROOM,
             Operation::Check => TABLE_ROOM,
             Operation::Replay => ROWS_ROOM,
@@ -81,6 +86,7 @@ impl Operation {
             Operation::Check => net.chain(30..=39).collect(),
             Operation::Replay => net.chain(record).chain(40..=45).collect(),
             Operation::Arrange => net.chain(record).chain([50]).collect(),
+            Operation::Energy => net.chain(record).chain([52, 53]).collect(),
             Operation::RefusedLine => vec![46],
             Operation::Program => net.chain([10]).chain(21..=27).collect(),
         }
@@ -130,6 +136,7 @@ impl Case {
 /// The answer and all lent memory after the call, with the guards around it.
 #[derive(Clone, Debug, PartialEq, Eq)]
 pub struct Outcome {
+    pub operation: Operation,
     pub answer: Answer,
     pub bytes: Vec<u8>,
     pub counts: Vec<u16>,
@@ -138,6 +145,15 @@ pub struct Outcome {
 }
 
 impl Outcome {
+    /// The answer; of floats their values too, since an answer has their bits.
+    fn words(&self) -> String {
+        let Answer { number, spot, a, b, c } = self.answer;
+        match self.operation {
+            Operation::Energy => format!("{number}, {spot} with {:?} ({a:016X} {b:016X} {c:016X})", [a, b, c].map(f64::from_bits)),
+            _ => format!("{:?}", self.answer),
+        }
+    }
+
     /// The answer's number and spot; of the program, which answers 0 when it prints a refusal, those of the `X` line.
     pub fn refusal(&self) -> (u64, u64) {
         let printed = self.bytes.get(GUARD..).and_then(|lent| lent.strip_prefix(b"X,")).unwrap_or_default();
@@ -214,6 +230,7 @@ fn call(subject: &dyn Subject, case: &Case, texts: &[&[u8]], out: &mut [u8], row
         Operation::Check => subject.check(texts[0], texts[1], out),
         Operation::Replay => subject.replay(texts[0], texts[1], texts[2], rows),
         Operation::Arrange => subject.arrange(texts[0], texts[1], out),
+        Operation::Energy => subject.energy(texts[0], texts[1], texts[2]),
         Operation::RefusedLine => subject.refused_line(texts[0], texts[1], case.choice, case.line),
         Operation::Program => subject.program(texts[0], whole(out)),
     }
@@ -225,13 +242,13 @@ pub fn run(subject: &dyn Subject, case: &Case) -> Outcome {
     let (mut bytes, mut counts) = fresh(case);
     let answer = call(subject, case, &texts, lent(&mut bytes), lent(&mut counts));
     let texts_unchanged = case.texts.iter().zip(&held).all(|(text, held)| *held == lend(text));
-    Outcome { answer, bytes, counts, texts_unchanged }
+    Outcome { operation: case.operation, answer, bytes, counts, texts_unchanged }
 }
 
 /// What differs between two outcomes of a case, in words; nothing if they are the same.
 pub fn difference(left: &Outcome, right: &Outcome) -> Option<String> {
     if left.answer != right.answer {
-        return Some(format!("answers {:?} and {:?}", left.answer, right.answer));
+        return Some(format!("answers {} and {}", left.words(), right.words()));
     }
     if !left.texts_unchanged || !right.texts_unchanged {
         return Some("a lent text was changed".to_string());

@@ -1,5 +1,6 @@
 //! Fixed cases without an answer written out: texts damaged at every byte, and the limits from both sides.
 
+mod energy;
 mod loops;
 mod returns;
 
@@ -30,6 +31,7 @@ pub fn all() -> Vec<Case> {
     long_texts(&mut cases);
     returns::add(&mut cases);
     loops::add(&mut cases);
+    energy::add(&mut cases);
     cases
 }
 
@@ -59,6 +61,7 @@ fn sound() -> Vec<Case> {
         Case::new(Operation::Replay, &[&text(READING), &text(READING_RECORD), &text("G,0 G,1 G,2")]),
         Case::new(Operation::Program, &[&text(&format!("{READING} = S,0 S,1,2"))]),
         Case::new(Operation::RefusedLine, &[&drive, &text(CASE_A)]).asking(1, 4),
+        energy::sound(),
     ]
 }
 
@@ -125,6 +128,7 @@ fn every_byte(cases: &mut Vec<Case>) {
         (Case::new(Operation::Program, &[&text("P,1 T I,0,0 O,0,0 = S,0 S,0")]), 0),
         (Case::new(Operation::ReadNet, &[&text(READING)]), 0),
         (Case::new(Operation::Check, &[&text(READING), &text(READING_RECORD)]), 1),
+        (energy::sound(), 2),
     ];
     for (case, which) in whole {
         for at in 0..case.texts[which].len() {

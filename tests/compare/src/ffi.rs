@@ -1,12 +1,13 @@
 //! A library behind its C interface: the one linked, or one loaded from a file.
 
-use crate::answer::Answer;
+use crate::answer::{Answer, EnergyAnswer};
 use crate::case::Subject;
 use crate::sim::PROGRAM_ROOM;
 
 pub type Text = unsafe extern "C" fn(*const u8, usize) -> Answer;
 pub type Texts = unsafe extern "C" fn(*const u8, usize, *const u8, usize, *mut u8, usize) -> Answer;
 pub type Replay = unsafe extern "C" fn(*const u8, usize, *const u8, usize, *const u8, usize, *mut u16, usize) -> Answer;
+pub type Energy = unsafe extern "C" fn(*const u8, usize, *const u8, usize, *const u8, usize) -> EnergyAnswer;
 pub type Line = unsafe extern "C" fn(*const u8, usize, *const u8, usize, u8, usize) -> Answer;
 pub type Program = unsafe extern "C" fn(*const u8, usize, *mut u8) -> Answer;
 
@@ -18,13 +19,14 @@ pub struct Library {
     pub check: Texts,
     pub replay: Replay,
     pub arrange: Texts,
+    pub energy: Energy,
     pub refused_line: Line,
     pub program: Program,
 }
 
 #[cfg(feature = "lib")]
 mod linked {
-    use crate::answer::Answer;
+    use crate::answer::{Answer, EnergyAnswer};
 
     extern "C" {
         pub fn pti_read_net(net: *const u8, net_len: usize) -> Answer;
@@ -41,6 +43,7 @@ mod linked {
             rows_len: usize,
         ) -> Answer;
         pub fn pti_arrange(net: *const u8, net_len: usize, record: *const u8, record_len: usize, out: *mut u8, out_len: usize) -> Answer;
+        pub fn pti_energy(net: *const u8, net_len: usize, record: *const u8, record_len: usize, energy: *const u8, energy_len: usize) -> EnergyAnswer;
         pub fn pti_refused_line(net: *const u8, net_len: usize, second: *const u8, second_len: usize, choice: u8, line: usize) -> Answer;
         pub fn pti_program(input: *const u8, input_len: usize, out: *mut u8) -> Answer;
     }
@@ -54,6 +57,7 @@ pub static LINKED: Library = Library {
     check: linked::pti_check,
     replay: linked::pti_replay,
     arrange: linked::pti_arrange,
+    energy: linked::pti_energy,
     refused_line: linked::pti_refused_line,
     program: linked::pti_program,
 };
@@ -84,6 +88,10 @@ impl Subject for Library {
 
     fn arrange(&self, net: &[u8], record: &[u8], out: &mut [u8]) -> Answer {
         unsafe { (self.arrange)(net.as_ptr(), net.len(), record.as_ptr(), record.len(), out.as_mut_ptr(), out.len()) }
+    }
+
+    fn energy(&self, net: &[u8], record: &[u8], energy: &[u8]) -> Answer {
+        unsafe { (self.energy)(net.as_ptr(), net.len(), record.as_ptr(), record.len(), energy.as_ptr(), energy.len()) }.into()
     }
 
     fn refused_line(&self, net: &[u8], second: &[u8], choice: u8, line: u64) -> Answer {

@@ -3,6 +3,7 @@
 
 mod arrangements;
 mod damage;
+pub mod energy;
 mod logs;
 pub mod loops;
 mod nets;
@@ -70,13 +71,16 @@ pub fn round(rng: &mut Rng) -> Vec<Case> {
     round_with(rng, Requests::ALL)
 }
 
-/// A round as it was when these requests were taken in and no other. Loops come after all else, and byte 13 is put in last, so that
-/// the draws before them stay.
+/// A round as it was when these requests were taken in and no other. Loops and energy texts come after all else, and byte 13 is put
+/// in last, so that the draws before them stay. Energies are an operation of their own, which nothing older makes use of; so there
+/// are cases of it in every round.
 pub fn round_with(rng: &mut Rng, requests: Requests) -> Vec<Case> {
     let mut cases = cases(rng, requests.read_arcs);
     if requests.free_to_swap && rng.chance(15) {
         cases.extend(loops::cases(rng));
     }
+    let energies = energy::cases(rng, &cases);
+    cases.extend(energies);
     if requests.carriage_returns {
         cases.iter_mut().for_each(|case| returns::put(rng, case));
     }

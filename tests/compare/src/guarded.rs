@@ -83,6 +83,10 @@ impl Subject for Guarded<'_> {
         self.call("arrange", &[net, record], out, |texts, out| self.subject.arrange(texts[0], texts[1], out))
     }
 
+    fn energy(&self, net: &[u8], record: &[u8], energy: &[u8]) -> Answer {
+        self.call::<u8>("energy", &[net, record, energy], &mut [], |texts, _| self.subject.energy(texts[0], texts[1], texts[2]))
+    }
+
     fn refused_line(&self, net: &[u8], second: &[u8], choice: u8, line: u64) -> Answer {
         self.call::<u8>("refused_line", &[net, second], &mut [], |texts, _| self.subject.refused_line(texts[0], texts[1], choice, line))
     }

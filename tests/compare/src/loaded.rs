@@ -28,6 +28,7 @@ pub fn load(file: &str) -> Result<&'static Library, String> {
         check: symbol(library, c"pti_check")?,
         replay: symbol(library, c"pti_replay")?,
         arrange: symbol(library, c"pti_arrange")?,
+        energy: symbol(library, c"pti_energy")?,
         refused_line: symbol(library, c"pti_refused_line")?,
         program: symbol(library, c"pti_program")?,
     })))

@@ -27,7 +27,7 @@ const USAGE: &str = "usage: compare compare [--cases N] [--seed S] [--only vecto
        compare repeat OPERATION [--events N] [--times N]
        compare print < INPUT      what the program prints for that input, by the simulator
 Options of compare, guarded and brute: --subject FILE.so judges that library in place of the one linked;
-of compare: --peer judges the peer, by document 01 with 2026-04, and --reference FILE.so holds the subject to it in place of the simulator.
+of compare: --peer judges the peer, by document 01 with 2026-04 and 2026-05, and --reference FILE.so holds the subject to it in place of the simulator.
 Built without the feature lib and without --subject, brute and bench judge the simulator and compare refuses.";
 
 const NO_LIBRARY: &str = "there is no library in this build to compare with the simulator: \

@@ -8,7 +8,7 @@ mod case;
 #[allow(dead_code)]
 mod sim;
 
-use answer::Answer;
+use answer::{Answer, EnergyAnswer};
 use case::{whole, Subject};
 use sim::{SIMULATOR, PROGRAM_ROOM};
 use std::slice::{from_raw_parts, from_raw_parts_mut};
@@ -46,6 +46,11 @@ unsafe extern "C" fn pti_replay(
 #[no_mangle]
 unsafe extern "C" fn pti_arrange(net: *const u8, net_len: usize, record: *const u8, record_len: usize, out: *mut u8, out_len: usize) -> Answer {
     SIMULATOR.arrange(from_raw_parts(net, net_len), from_raw_parts(record, record_len), from_raw_parts_mut(out, out_len))
+}
+
+#[no_mangle]
+unsafe extern "C" fn pti_energy(net: *const u8, net_len: usize, record: *const u8, record_len: usize, energy: *const u8, energy_len: usize) -> EnergyAnswer {
+    SIMULATOR.energy(from_raw_parts(net, net_len), from_raw_parts(record, record_len), from_raw_parts(energy, energy_len)).into()
 }
 
 #[no_mangle]

@@ -36,6 +36,10 @@ impl Subject for Peer {
         peer::arrange(net, record, out).map_or_else(refused, |written| Answer::gives(written.bytes, written.lines, 0))
     }
 
+    fn energy(&self, net: &[u8], record: &[u8], energy: &[u8]) -> Answer {
+        peer::energy(net, record, energy).map_or_else(refused, |found| Answer::energies([found.usable, found.draw, found.left].map(f64::to_bits)))
+    }
+
     fn refused_line(&self, net: &[u8], second: &[u8], choice: u8, line: u64) -> Answer {
         let shown = peer::refused_line(net, second, choice.into(), line as usize);
         let text = if choice == 0 { net } else { second };

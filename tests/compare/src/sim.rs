@@ -6,9 +6,11 @@
 //! - the process rules compare sorted lists and sets (`process`);
 //! - the closed order is a search over pairs (event, strict pair met yet?) (`order`);
 //! - rows are counts of the conditions that lie between the played and the unplayed events (`replaying`);
-//! - levels come from peeling off what has no strict predecessor left (`arranging`).
+//! - levels come from peeling off what has no strict predecessor left (`arranging`);
+//! - energies are worked out in whole numbers, and f64 are rounded to digit by digit (`energy`, `rounding`).
 
 mod arranging;
+mod energy;
 mod net;
 mod order;
 mod process;
@@ -16,6 +18,7 @@ mod program;
 mod record;
 mod refused;
 mod replaying;
+mod rounding;
 mod run;
 #[cfg(test)]
 mod tests;
@@ -136,6 +139,12 @@ fn try_arrange(requests: Requests, net: &[u8], record: &[u8], out: &mut [u8]) ->
     Ok(Answer::gives(written, lines.len(), 0))
 }
 
+fn try_energy(requests: Requests, net: &[u8], record: &[u8], energy: &[u8]) -> Result<Answer, Refusal> {
+    let (net, record, _) = accepted(requests, net, record)?;
+    let figures = energy::read(&net, energy)?;
+    Ok(Answer::energies(figures.energies(&record)))
+}
+
 pub struct Simulator {
     requests: Requests,
 }
@@ -175,6 +184,10 @@ impl Subject for Simulator {
 
     fn arrange(&self, net: &[u8], record: &[u8], out: &mut [u8]) -> Answer {
         answer(try_arrange(self.requests, net, record, out))
+    }
+
+    fn energy(&self, net: &[u8], record: &[u8], energy: &[u8]) -> Answer {
+        answer(try_energy(self.requests, net, record, energy))
     }
 
     fn refused_line(&self, net: &[u8], second: &[u8], choice: u8, line: u64) -> Answer {

@@ -4,6 +4,7 @@
 
 mod arrangements;
 mod buffers;
+mod energy;
 mod logs;
 mod marked;
 mod nets;
@@ -65,7 +66,7 @@ impl Vector {
                 }
             }
         }
-        Outcome { answer: self.answer, bytes, counts, texts_unchanged: true }
+        Outcome { operation: self.case.operation, answer: self.answer, bytes, counts, texts_unchanged: true }
     }
 }
 
@@ -156,6 +157,12 @@ impl Book {
         self.add(name, case, Answer::gives(arrangement.len(), lines, 0), Written::Text(arrangement));
     }
 
+    /// Usable energy, draw and what is left, to the last bit.
+    pub fn energies(&mut self, name: &str, net: impl Into<Text>, record: impl Into<Text>, energy: impl Into<Text>, [usable, draw, left]: [f64; 3]) {
+        let case = Case::new(Operation::Energy, &[&net.into().0, &record.into().0, &energy.into().0]);
+        self.add(name, case, Answer::energies([usable, draw, left].map(f64::to_bits)), Written::Nothing);
+    }
+
     pub fn line(&mut self, name: &str, texts: [impl Into<Text>; 2], asked: (u8, u64), start: usize, length: usize) {
         let [net, second] = texts.map(|text| text.into().0);
         let case = Case::new(Operation::RefusedLine, &[&net, &second]).asking(asked.0, asked.1);
@@ -190,11 +197,16 @@ impl Book {
         self.refused(name, Operation::Build, &[net, log], number, spot);
     }
 
-    /// Refused alike by all three operations that take a record.
+    /// Refused alike by all four operations that take a record; an energy text is not looked at.
     pub fn no_record(&mut self, name: &str, net: &str, record: &str, number: u64, spot: u64) {
         self.refused(name, Operation::Check, &[net, record], number, spot);
         self.refused(name, Operation::Arrange, &[net, record], number, spot);
         self.refused(name, Operation::Replay, &[net, record, "G,0"], number, spot);
+        self.refused(name, Operation::Energy, &[net, record, "x"], number, spot);
+    }
+
+    pub fn no_energies(&mut self, name: &str, net: &str, record: &str, energy: &str, number: u64, spot: u64) {
+        self.refused(name, Operation::Energy, &[net, record, energy], number, spot);
     }
 
     pub fn not_replayed(&mut self, name: &str, net: &str, record: &str, arrangement: &str, number: u64, spot: u64) {
@@ -221,5 +233,6 @@ pub fn all() -> Vec<Vector> {
     readers::add(&mut book);
     returns::add(&mut book);
     swaps::add(&mut book);
+    energy::add(&mut book);
     book.vectors
 }

@@ -1,14 +1,16 @@
 /* A tour of the library from C: builds the record of a net and a step log, checks it, writes its shortest arrangement and
- * replays that, or an arrangement of your own. Where a text is refused, it shows the refused line.
+ * replays that, or an arrangement of your own. With an energy text it says what the events draw from the hold-up capacitor and
+ * what is left. Where a text is refused, it shows the refused line.
  *
  *   gcc -Iinclude tests/link/c/tour.c target/staticlib/libpti.a -o target/tour
- *   target/tour NET LOG [ARRANGEMENT]
+ *   target/tour NET LOG [ARRANGEMENT] [--energy FILE]
  */
 #include "pti.h"
 
 #include <inttypes.h>
 #include <stdio.h>
 #include <stdlib.h>
+#include <string.h>
 
 typedef struct {
     const char *name;
@@ -55,13 +57,13 @@ static void show_text(text t)
     fwrite(t.bytes, 1, t.len, stdout);
 }
 
-/* The text of which a refusal's spot is a line: 0 the net, 1 the second text (the log or the arrangement), 2 neither. Lines of
- * the record, 31 to 34, are never refused here: it was built. */
+/* The text of which a refusal's spot is a line: 0 the net, 1 the second text (the log, the arrangement or the energy text), 2
+ * neither. Lines of the record, 31 to 34, are never refused here: it was built. */
 static uint8_t choice_of(uint64_t number)
 {
     if ((number >= 11 && number <= 14) || number == 51)
         return 0;
-    return (number >= 21 && number <= 27) || (number >= 41 && number <= 44) ? 1 : 2;
+    return (number >= 21 && number <= 27) || (number >= 41 && number <= 44) || number == 52 ? 1 : 2;
 }
 
 /* Goes on only if the call was accepted. */
@@ -100,10 +102,25 @@ static void show_rows(uint64_t lines, uint64_t places)
     }
 }
 
+/* What is left is below 0 where the capacitor gives less than the events draw. */
+static void show_energies(pti_energy_answer energies)
+{
+    printf("energy: the capacitor gives %.1f µJ between full and cutoff, the events draw %.1f µJ, ", energies.usable, energies.draw);
+    if (energies.left < 0)
+        printf("and it falls short by %.1f µJ\n", -energies.left);
+    else
+        printf("%.1f µJ are left\n", energies.left);
+}
+
 int main(int argc, char **argv)
 {
+    const char *energy_path = NULL;
+    if (argc > 3 && strcmp(argv[argc - 2], "--energy") == 0) {
+        energy_path = argv[argc - 1];
+        argc -= 2;
+    }
     if (argc != 3 && argc != 4) {
-        fprintf(stderr, "usage: tour NET LOG [ARRANGEMENT]\n");
+        fprintf(stderr, "usage: tour NET LOG [ARRANGEMENT] [--energy FILE]\n");
         return 2;
     }
     text net = read_file("net", argv[1]), log = read_file("log", argv[2]);
@@ -132,6 +149,14 @@ int main(int argc, char **argv)
     must_accept(net, arrangement, answer);
     printf("replay: lines %" PRIu64 ", and the marking after each\n", answer.a);
     show_rows(answer.a, pti_read_net(net.bytes, net.len).a);
+
+    if (energy_path != NULL) {
+        text energy = read_file("energy text", energy_path);
+        pti_energy_answer energies = pti_energy(net.bytes, net.len, record.bytes, record.len, energy.bytes, energy.len);
+        must_accept(net, energy, (pti_answer){energies.number, energies.spot, 0, 0, 0});
+        show_energies(energies);
+        free(energy.bytes);
+    }
 
     free(net.bytes);
     free(log.bytes);

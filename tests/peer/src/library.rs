@@ -11,6 +11,15 @@ struct Numbers {
     c: u64,
 }
 
+#[repr(C)]
+struct EnergyNumbers {
+    number: u64,
+    spot: u64,
+    usable: f64,
+    draw: f64,
+    left: f64,
+}
+
 extern "C" {
     fn pti_read_net(net: *const u8, net_len: usize) -> Numbers;
     fn pti_build(net: *const u8, net_len: usize, log: *const u8, log_len: usize, out: *mut u8, out_len: usize) -> Numbers;
@@ -26,6 +35,7 @@ extern "C" {
         rows_len: usize,
     ) -> Numbers;
     fn pti_arrange(net: *const u8, net_len: usize, record: *const u8, record_len: usize, out: *mut u8, out_len: usize) -> Numbers;
+    fn pti_energy(net: *const u8, net_len: usize, record: *const u8, record_len: usize, energy: *const u8, energy_len: usize) -> EnergyNumbers;
     fn pti_refused_line(net: *const u8, net_len: usize, second: *const u8, second_len: usize, choice: u8, line: usize) -> Numbers;
     fn pti_program(input: *const u8, input_len: usize, out: *mut u8) -> Numbers;
 }
@@ -64,6 +74,13 @@ impl Ops for Library {
     }
     fn arrange(&self, net: &[u8], record: &[u8], buffer: &mut [u8]) -> Answer {
         answer(unsafe { pti_arrange(net.as_ptr(), net.len(), record.as_ptr(), record.len(), buffer.as_mut_ptr(), buffer.len()) })
+    }
+    fn energy(&self, net: &[u8], record: &[u8], energy: &[u8]) -> Answer {
+        let r = unsafe { pti_energy(net.as_ptr(), net.len(), record.as_ptr(), record.len(), energy.as_ptr(), energy.len()) };
+        match r.number {
+            0 => [0, r.usable.to_bits(), r.draw.to_bits(), r.left.to_bits()],
+            number => [number, r.spot, 0, 0],
+        }
     }
     fn refused_line(&self, net: &[u8], second: &[u8], choice: usize, line: usize) -> Answer {
         let r = unsafe { pti_refused_line(net.as_ptr(), net.len(), second.as_ptr(), second.len(), choice.min(255) as u8, line) };

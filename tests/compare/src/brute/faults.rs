@@ -244,6 +244,10 @@ impl Subject for Faulty {
         answer
     }
 
+    fn energy(&self, net: &[u8], record: &[u8], energy: &[u8]) -> Answer {
+        SIMULATOR.energy(net, record, energy)
+    }
+
     fn refused_line(&self, net: &[u8], second: &[u8], choice: u8, line: u64) -> Answer {
         SIMULATOR.refused_line(net, second, choice, line)
     }

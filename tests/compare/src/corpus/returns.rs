@@ -57,7 +57,7 @@ fn damaged(text: &[u8]) -> Vec<Vec<u8>> {
 }
 
 /// Every text of up to so many of the pieces.
-fn every_text(pieces: &[&[u8]], most: usize) -> Vec<Vec<u8>> {
+pub fn every_text(pieces: &[&[u8]], most: usize) -> Vec<Vec<u8>> {
     let mut texts = vec![Vec::new()];
     let mut from = 0;
     for _ in 0..most {

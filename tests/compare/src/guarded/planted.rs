@@ -94,6 +94,11 @@ impl Subject for Planted {
         SIMULATOR.arrange(net, record, out)
     }
 
+    fn energy(&self, net: &[u8], record: &[u8], energy: &[u8]) -> Answer {
+        self.touch(Operation::Energy, &[net, record, energy], bytes::<u8>(&mut []));
+        SIMULATOR.energy(net, record, energy)
+    }
+
     fn refused_line(&self, net: &[u8], second: &[u8], choice: u8, line: u64) -> Answer {
         self.touch(Operation::RefusedLine, &[net, second], bytes::<u8>(&mut []));
         SIMULATOR.refused_line(net, second, choice, line)
@@ -106,12 +111,13 @@ impl Subject for Planted {
 }
 
 fn case_of(operation: Operation) -> Case {
-    let [net, log, record, arrangement, input] = [DRIVE, "S,0,2", CASE_B, "G,0,1", "="].map(|words| Text::from(words).0);
+    let [net, log, record, arrangement, energy, input] = [DRIVE, "S,0,2", CASE_B, "G,0,1", "K,1,1,0 J,0 J,0 J,0", "="].map(|words| Text::from(words).0);
     match operation {
         Operation::ReadNet => Case::new(operation, &[&net]),
         Operation::Build => Case::new(operation, &[&net, &log]),
         Operation::Check | Operation::Arrange => Case::new(operation, &[&net, &record]),
         Operation::Replay => Case::new(operation, &[&net, &record, &arrangement]),
+        Operation::Energy => Case::new(operation, &[&net, &record, &energy]),
         Operation::RefusedLine => Case::new(operation, &[&net, &log]).asking(1, 1),
         Operation::Program => Case::new(operation, &[&input]),
     }

@@ -55,14 +55,16 @@ pub fn stacks(subject: &dyn Subject) -> bool {
     let (net, log) = watched_run(128);
     let record = build(&net, &log).expect("a run of the net");
     let arrangement = (0..128).map(|event| format!("G,{event}\n")).collect::<String>().into_bytes();
+    let energy = b"K,1000000,60000,1\nW,1000000,1000000\nJ,1000000\nW,1000000,1000000\n";
     let input = [&net[..], b"=\n", &log].concat();
     let out = || vec![0; PROGRAM_ROOM];
-    let calls: [(&str, Call); 7] = [
+    let calls: [(&str, Call); 8] = [
         ("read_net", &|| subject.read_net(&net)),
         ("build", &|| subject.build(&net, &log, &mut out())),
         ("check", &|| subject.check(&net, &record, &mut out()[..TABLE_ROOM])),
         ("replay", &|| subject.replay(&net, &record, &arrangement, &mut vec![0; ROWS_ROOM])),
         ("arrange", &|| subject.arrange(&net, &record, &mut out()[..ARRANGEMENT_ROOM])),
+        ("energy", &|| subject.energy(&net, &record, energy)),
         ("refused_line", &|| subject.refused_line(&net, &record, 1, 4_000)),
         ("program", &|| subject.program(&input, whole(&mut out()))),
     ];

@@ -249,3 +249,31 @@ fn either_ending_is_read_as_one() {
         }
     }
 }
+
+/// Energies as the document says them, in the machine's floats: halved, then divided; summed event by event; subtracted.
+fn literal_energies(record: &[u8], energy: &[u8]) -> [u64; 3] {
+    let (record, energy) = (String::from_utf8_lossy(record), String::from_utf8_lossy(energy));
+    let figures = |line: &str| line.split(',').skip(1).map(|figure| figure.parse().expect("a figure")).collect::<Vec<f64>>();
+    let mut lines = energy.lines().map(figures);
+    let [capacitance, full, cutoff] = lines.next().expect("a capacitor")[..] else { panic!("three figures") };
+    let draws: Vec<f64> = lines.map(|load| load.iter().product()).collect();
+    let events = record.lines().filter_map(|line| line.strip_prefix("E,"));
+    let draw = events.fold(0.0, |sum, transition| sum + draws[transition.parse::<usize>().expect("a transition")]);
+    let usable = capacitance * (full * full - cutoff * cutoff) / 2.0 / 1_000_000.0;
+    [usable, draw, usable - draw].map(f64::to_bits)
+}
+
+#[test]
+fn energies_are_the_literal_ones() {
+    let fixed = corpus::all().into_iter().filter(|case| case.operation == Operation::Energy);
+    let generated = (0..12_000).flat_map(|round| gen::round(&mut Rng::for_round(25, round)));
+    let mut given = 0;
+    for case in fixed.chain(generated.filter(|case| case.operation == Operation::Energy)) {
+        let answer = run(&SIMULATOR, &case).answer;
+        if answer.accepted() {
+            assert_eq!([answer.a, answer.b, answer.c], literal_energies(&case.texts[1], &case.texts[2]), "{case}");
+            given += 1;
+        }
+    }
+    assert!(given > 10_000, "{given} energies");
+}

@@ -68,6 +68,11 @@ pub struct Words {
 /// Nothing if the line is malformed in any text: unended, no single capital letter in front, or a field that is
 /// neither a number nor a dash.
 pub fn words(line: &Line) -> Option<Words> {
+    words_with(line, field)
+}
+
+/// The same where a field is another one (in an energy text).
+pub fn words_with(line: &Line, field: fn(&[u8]) -> Option<Field>) -> Option<Words> {
     if !line.ended() {
         return None;
     }

@@ -10,6 +10,15 @@ struct Answer {
     c: u64,
 }
 
+#[repr(C)]
+struct EnergyAnswer {
+    number: u64,
+    spot: u64,
+    usable: f64,
+    draw: f64,
+    left: f64,
+}
+
 extern "C" {
     fn pti_read_net(net: *const u8, net_len: usize) -> Answer;
     fn pti_build(net: *const u8, net_len: usize, log: *const u8, log_len: usize, out: *mut u8, out_len: usize) -> Answer;
@@ -25,6 +34,14 @@ extern "C" {
         rows_len: usize,
     ) -> Answer;
     fn pti_arrange(net: *const u8, net_len: usize, record: *const u8, record_len: usize, out: *mut u8, out_len: usize) -> Answer;
+    fn pti_energy(
+        net: *const u8,
+        net_len: usize,
+        record: *const u8,
+        record_len: usize,
+        energy: *const u8,
+        energy_len: usize,
+    ) -> EnergyAnswer;
     fn pti_refused_line(net: *const u8, net_len: usize, second: *const u8, second_len: usize, choice: u8, line: usize) -> Answer;
 }
 
@@ -95,6 +112,25 @@ pub fn replay(net: &[u8], record: &[u8], arrangement: &[u8]) -> Result<Vec<u16>,
     };
     rows.truncate(32 * (answer.values()?.0 + 1));
     Ok(rows)
+}
+
+/// In microjoules.
+pub struct Energies {
+    /// What the capacitor gives between full and cutoff.
+    pub usable: f64,
+    /// What the events draw.
+    pub draw: f64,
+    /// Below 0 where they draw more.
+    pub left: f64,
+}
+
+/// The energy of the hold-up capacitor and what the record's events draw from it.
+pub fn energy(net: &[u8], record: &[u8], energy: &[u8]) -> Result<Energies, Refusal> {
+    let answer = unsafe { pti_energy(net.as_ptr(), net.len(), record.as_ptr(), record.len(), energy.as_ptr(), energy.len()) };
+    match answer.number {
+        0 => Ok(Energies { usable: answer.usable, draw: answer.draw, left: answer.left }),
+        number => Err(Refusal { number, spot: answer.spot }),
+    }
 }
 
 /// A line of the net text (choice 0) or the second text (choice 1), if there is one.

@@ -19,7 +19,8 @@ mod library;
 
 // ------------------------------------------------------------------ operations
 
-/// 0 or the refusal's number; spot or first value; second; third.
+/// 0 or the refusal's number; spot or first value; second; third.  Of floats
+/// their bits.
 pub type Answer = [u64; 4];
 
 #[derive(Clone, Copy, PartialEq, Eq, Debug)]
@@ -29,11 +30,12 @@ pub enum Op {
     Check,
     Replay,
     Arrange,
+    Energy,
     RefusedLine,
     Program,
 }
 
-/// One implementation of document 01 with 2026-04.
+/// One implementation of document 01 with 2026-04 and 2026-05.
 pub trait Ops {
     fn name(&self) -> &'static str;
     /// Whether the implementation has the operation.
@@ -43,6 +45,7 @@ pub trait Ops {
     fn check(&self, net: &[u8], record: &[u8], table: &mut [u8]) -> Answer;
     fn replay(&self, net: &[u8], record: &[u8], arrangement: &[u8], rows: &mut [u16]) -> Answer;
     fn arrange(&self, net: &[u8], record: &[u8], buffer: &mut [u8]) -> Answer;
+    fn energy(&self, net: &[u8], record: &[u8], energy: &[u8]) -> Answer;
     fn refused_line(&self, net: &[u8], second: &[u8], choice: usize, line: usize) -> Answer;
     fn program(&self, input: &[u8], out: &mut [u8]) -> Answer;
 }
@@ -87,6 +90,12 @@ impl Ops for Peer {
     fn arrange(&self, net: &[u8], record: &[u8], buffer: &mut [u8]) -> Answer {
         match peer::arrange(net, record, buffer) {
             Ok(a) => [0, a.bytes as u64, a.lines as u64, 0],
+            Err(r) => refused(r),
+        }
+    }
+    fn energy(&self, net: &[u8], record: &[u8], energy: &[u8]) -> Answer {
+        match peer::energy(net, record, energy) {
+            Ok(e) => [0, e.usable.to_bits(), e.draw.to_bits(), e.left.to_bits()],
             Err(r) => refused(r),
         }
     }
@@ -315,6 +324,18 @@ fn renumbered(record: &[u8]) -> Vec<u8> {
     text.into_bytes()
 }
 
+/// An energy text for so many transitions: loads, and every third a pulse.
+fn energies(transitions: usize) -> Vec<u8> {
+    let mut text = "K,3300,12000,5000\n".to_string();
+    for t in 0..transitions {
+        text += &match t % 3 {
+            0 => format!("J,{}\n", 1_500 + 37 * t),
+            _ => format!("W,{},{}\n", 2_500 + 111 * t, 8 + t),
+        };
+    }
+    text.into_bytes()
+}
+
 fn input(net: &[u8], log: &[u8]) -> Vec<u8> {
     [net, b"=\n", log].concat()
 }
@@ -433,6 +454,10 @@ fn cases() -> Vec<Case> {
     add(Arrange, "chain", &[&ring, &chain], none);
     add(Arrange, "dense renumbered", &[&dense_net, &dense_mixed], none);
 
+    add(Energy, "drive a", &[&drive, &rec_a, &lines("K,3300,12000,5000 W,2500,8 W,4500,24 J,52000")], none);
+    add(Energy, "full", &[&full_net, &full_rec, &energies(32)], none);
+    add(Energy, "chain", &[&ring, &chain, &energies(4)], none);
+
     add(RefusedLine, "drive, line 9", &[&drive, &log_a], [0, 9]);
     add(RefusedLine, "long net, line 3136", &[&long, &log_a], [0, 3136]);
 
@@ -515,6 +540,7 @@ fn call(ops: &dyn Ops, case: &Case, b: &mut Buffers) -> Answer {
         Op::Check => ops.check(t(0), t(1), &mut b.table),
         Op::Replay => ops.replay(t(0), t(1), t(2), &mut b.rows),
         Op::Arrange => ops.arrange(t(0), t(1), &mut b.arrange),
+        Op::Energy => ops.energy(t(0), t(1), t(2)),
         Op::RefusedLine => ops.refused_line(t(0), t(1), case.numbers[0], case.numbers[1]),
         Op::Program => ops.program(t(0), &mut b.out),
     }
