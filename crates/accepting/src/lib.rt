@@ -1,4 +1,4 @@
-// Accepting a net and a record: what check, replay and arrange share, "net's; check's but 30".
+// Accepting a net and a record: what check, replay, arrange and energy share, "net's; check's but 30".
 ghost use mathlib.Core.Path.{_≡_};
 ghost use Prim.Native.Nat.{_≤_};
 ghost use lib.ListN.{length};

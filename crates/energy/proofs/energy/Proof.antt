@@ -2,7 +2,7 @@
 -- on (`Took`); each refusal is the definitions', and the energies are those of the text and the record that were read.
 use native.Mathlib.Omega.{arith}
 use borrow.Author.Needs.{needs}
-use Rattle.accepting.proofs.Accepting.{at-bench, kept-at-bench, Took, taken}
+use Rattle.accepting.proofs.Accepting.{at-bench, taken}
 use Rattle.accepting.proofs.Fresh.{fresh-net, fresh-record, fresh}
 use Rattle.energy.proofs.Operation.{not-accepted, few, known-32, not-read, all-read}
 use Rattle.energy.proofs.energy.Statement.{statement}
@@ -29,14 +29,14 @@ enum-told c = search needs
 
 read-energy-requires : tie.Need-read-energy-requires
 read-energy-requires c κs = let a = c .before .before .before in let b = a .before .before .before .before .before in
-    few (taken (c .enum-told .given .1) (at-bench _ _ (b .bench .ensures .0) (a .accept .ensures .1)) (kept-at-bench _ _ (b .bench .ensures .0) (a .accept .ensures .2)))
+    few (taken (b .bench .ensures .0) (c .enum-told .given .1) (a .accept .ensures))
 
 enum-known-answer : tie.Need-enum-known-answer
 enum-known-answer c = search needs
 
 returns-2 : tie.Need-returns-2
 returns-2 c = let w = c .before in let r = w .before .before in let g = r .before in let a = g .before .before .before in let b = a .before .before .before .before .before in
-    not-read (taken (g .enum-told .given .1) (at-bench _ _ (b .bench .ensures .0) (a .accept .ensures .1)) (kept-at-bench _ _ (b .bench .ensures .0) (a .accept .ensures .2)))
+    not-read (taken (b .bench .ensures .0) (g .enum-told .given .1) (a .accept .ensures))
     _ (r .read-energy .result) (r .read-energy .ensures) _ (w .answer .given .1)
 
 enum-told-2 : tie.Need-enum-told-2
@@ -50,17 +50,17 @@ part-energies-of-start c = search needs
 
 part-energies-of-end : tie.Need-part-energies-of-end
 part-energies-of-end c = let g = c .before .before .before .before .before .before in let a = g .before .before .before in let b = a .before .before .before .before .before in
-    let A = taken (g .enum-told .given .1) (at-bench _ _ (b .bench .ensures .0) (a .accept .ensures .1)) (kept-at-bench _ _ (b .bench .ensures .0) (a .accept .ensures .2)) in
+    let A = taken (b .bench .ensures .0) (g .enum-told .given .1) (a .accept .ensures) in
     omega (arith, A .run .few)
 
 energies-of-requires : tie.Need-energies-of-requires
 energies-of-requires c κs = let g = c .before .before .before .before .before .before .before in let a = g .before .before .before in let b = a .before .before .before .before .before in
-    let A = taken (g .enum-told .given .1) (at-bench _ _ (b .bench .ensures .0) (a .accept .ensures .1)) (kept-at-bench _ _ (b .bench .ensures .0) (a .accept .ensures .2)) in
+    let A = taken (b .bench .ensures .0) (g .enum-told .given .1) (a .accept .ensures) in
     known-32 A (omega (arith, A .run .few))
 
 returns-3 : tie.Need-returns-3
 returns-3 c = let m = c .before .before .before .before .before in let r = m .before .before in let g = r .before in let a = g .before .before .before in let b = a .before .before .before .before .before in
-    let A = taken (g .enum-told .given .1) (at-bench _ _ (b .bench .ensures .0) (a .accept .ensures .1)) (kept-at-bench _ _ (b .bench .ensures .0) (a .accept .ensures .2)) in
+    let A = taken (b .bench .ensures .0) (g .enum-told .given .1) (a .accept .ensures) in
     all-read A _ (r .read-energy .result) (r .read-energy .ensures) (m .enum-told2 .given .1) (omega (arith, A .run .few)) _ (c .energies-of .ensures)
 
 pub energy-spec : {M : Type 1} → statement M
