@@ -34,7 +34,7 @@ isFigures c n l =
 unfoldable pub figureAt : Line → ℕ → ℕ
 figureAt l i = orZero (numberIn energyDigits (getD (fieldsOf l) i []))
 
--- "Capacitance is 1 to 1,000,000, voltages 0 to 60,000 with cutoff no higher than full"
+-- "Capacitance is 1 to 1,000,000, voltages 0 to 60,000 with cutoff no higher than full": full is tested, and by it cutoff
 unfoldable pub isCapacitorLine : Line → Bool
 isCapacitorLine l =
     isFigures "K" 3 l && leb 1 (figureAt l 0) && leb (figureAt l 0) 1000000 && leb (figureAt l 1) 60000
@@ -59,6 +59,25 @@ pub record Ratings : Type 0 where
 
 unfoldable pub ratingsIn : Line → Ratings
 ratingsIn l = record { capacitance = figureAt l 0; full = figureAt l 1; cutoff = figureAt l 2 }
+
+-- ---- the three energies, in µJ
+
+-- "The draw is summed in f64 over the events, in their order, and must equal the whole-number sum."
+unfoldable pub drawOf : List ℕ → RunRecord → ℕ
+drawOf draws r = sumOf (λ t. getD draws t 0) (r .events)
+
+-- "Usable energy is capacitance times the difference of the voltage squares, halved, then divided by 1,000,000: µJ as an
+-- f64, rounded once, by the division, to nearest, ties to even."
+unfoldable pub usableOf : Ratings → Float
+usableOf c = nearest (c .capacitance * (c .full * c .full - c .cutoff * c .cutoff)) (2 * 1000000)
+
+-- "What is left is usable minus draw, rounded once the same way.": usable is the f64, num usable / den usable exactly
+unfoldable pub leftOf : Float → ℕ → Float
+leftOf usable draw = nearestDifference (num usable) (draw * den usable) (den usable)
+
+-- "All three are returned."
+unfoldable pub energiesOf : Ratings → ℕ → Energies
+energiesOf c draw = record { usable = usableOf c; draw = floatOf draw; left = leftOf (usableOf c) draw }
 
 -- ---- "52 malformed line, wrong letter (`K` on line 1, `J` or `W` on any other) or value out of range, at the line;
 -- then 53 line count other than transitions plus one, spot 0."
@@ -89,25 +108,6 @@ readEnergy n text = do
   e ← byLines energyLine 1 (linesOf text) noEnergy
   refuse 53 at 0 when not (eqb (length (linesOf text)) (n .transitions + 1))
   gives e
-
--- ---- the three energies, in µJ
-
--- "The draw is summed in f64 over the events, in their order, and must equal the whole-number sum."
-unfoldable pub drawOf : List ℕ → RunRecord → ℕ
-drawOf draws r = sumOf (λ t. getD draws t 0) (r .events)
-
--- "Usable energy is capacitance times the difference of the voltage squares, halved, then divided by 1,000,000: µJ as an
--- f64, rounded once, by the division, to nearest, ties to even."
-unfoldable pub usableOf : Ratings → Float
-usableOf c = nearest (c .capacitance * (c .full * c .full - c .cutoff * c .cutoff)) (2 * 1000000)
-
--- "What is left is usable minus draw, rounded once the same way.": usable is the f64, num usable / den usable exactly
-unfoldable pub leftOf : Float → ℕ → Float
-leftOf usable draw = nearestDifference (num usable) (draw * den usable) (den usable)
-
--- "All three are returned."
-unfoldable pub energiesOf : Ratings → ℕ → Energies
-energiesOf c draw = record { usable = usableOf c; draw = floatOf draw; left = leftOf (usableOf c) draw }
 
 -- "Errors: after net and record, 52 .., 53 ..": net's; check's but 30
 unfoldable pub energy : List ℕ → List ℕ → List ℕ → Answer Energies

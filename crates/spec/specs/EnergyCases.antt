@@ -6,6 +6,10 @@ use mathlib.Core.Bool.{Bool, true, _&&_}
 use mathlib.Core.List.{List, [], _∷_, _++_}
 use lib.ListN.{replicate}
 use lib.Ieee.{binary64, toBits}
+use Rattle.spec.specs.Net.{readNet}
+use Rattle.spec.specs.Building.{build}
+use Rattle.spec.specs.Checking.{check}
+use Rattle.spec.specs.Replaying.{replay}
 use Rattle.spec.specs.Energy.{drawOf, energiesOf, energy, energyReturns}
 use Rattle.spec.specs.Quoted.{asText, unended, same, refused, given}
 use Rattle.spec.specs.Cases.{openAll}
@@ -100,6 +104,14 @@ order =
     && refused 53 0 (energy one once []) && refused 53 0 (energy [] [] [])
     && refused 53 0 (energy two thrice (asText "K,1,0,0 J,0"))
 
+-- ---- the letters are in use in energy texts alone: any other reader refuses them as it did
+
+pub elsewhere : Bool
+elsewhere =
+    refused 11 1 (readNet (asText "K,1")) && refused 11 2 (readNet (asText "P,1 J,1")) && refused 11 2 (readNet (asText "P,1 W,0,0"))
+    && refused 21 1 (build one (asText "J,0") 48256) && refused 31 4 (check one (once ++ asText "W,0,0") 16384)
+    && refused 41 1 (replay one once (asText "K,0") 4128) && refused 52 2 (energy one once (asText "K,1,0,0 R,0,0"))
+
 -- ---- what a call returns: of a refusal three times 0
 
 returned : EnergyNumbers → ℕ → ℕ → List ℕ → Bool
@@ -111,6 +123,6 @@ calls =
     && returned (energyReturns one once (asText "K,2,1000,0 J")) 52 2 (0 ∷ 0 ∷ 0 ∷ [])
     && returned (energyReturns one (asText "E,0") []) 35 0 (0 ∷ 0 ∷ 0 ∷ [])
 
-pub energies-hold : (figures && tie && lines && order && calls) ≡ true
-unfolding openAll bits one once two thrice leaves3 figures tie refuses52 takes lines order returned calls
+pub energies-hold : (figures && tie && lines && order && elsewhere && calls) ≡ true
+unfolding openAll bits one once two thrice leaves3 figures tie refuses52 takes lines order elsewhere returned calls
 energies-hold = refl
