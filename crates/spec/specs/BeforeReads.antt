@@ -4,7 +4,7 @@
 -- the kind `Read` (`arcKindCode`, `markLineOf`, `markPairOf`, `wrongEnd`); no definition here makes an arc or a mark of that
 -- kind. Those that go by `isA`, from `linesOf` to `isLine`, ask for no class that moved but in an `R` line. What a later request
 -- moved stands here as it moved it: a carriage return has its class (2026-02), independent pairs are counted by `Checking`
--- (2026-04), and the letters of energy texts have their classes (2026-05).
+-- (2026-04), the letters of energy texts have their classes (2026-05), and inputs and outputs carry weights (2026-06).
 use Prim.Native.Nat.{ℕ, _+_}
 use Prim.Native.Char.{code}
 use mathlib.Core.Bool.{Bool, not, _&&_, cond}
@@ -53,20 +53,25 @@ isA k b = alike (classOf b) k
 -- ---- `Net`: "`P,tokens` place. `T` transition. `I,place,transition` input. `O,transition,place` output.
 -- `H,place,transition` inhibitor."
 
-unfoldable pub addArc : ArcKind → ℕ → ℕ → ℕ → Net → Answer Net
-addArc x k p t n = do
+unfoldable pub addArc : ArcKind → ℕ → ℕ → ℕ → ℕ → Net → Answer Net
+addArc x k p t w n = do
   refuse 13 at k when not (ltb p (places n) && ltb t (n .transitions))
+  refuse 54 at k when not (leb 1 w && leb w 16)
   refuse 14 at k when joined n x p t
-  gives (withArc x p t n)
+  gives (withArc x p t w n)
 
 unfoldable pub addLine : ℕ → Line → Net → Answer Net
 addLine k l n =
+    let two = number ∷ number ∷ [] in
+    let three = number ∷ number ∷ number ∷ [] in
     cond (isLine "P" (number ∷ []) l) (addPlace k (numberAt l 0) n)
     (cond (isLine "T" [] l) (addTransition k n)
-    (cond (isLine "I" (number ∷ number ∷ []) l) (addArc Input k (numberAt l 0) (numberAt l 1) n)
-    (cond (isLine "O" (number ∷ number ∷ []) l) (addArc Output k (numberAt l 1) (numberAt l 0) n)
-    (cond (isLine "H" (number ∷ number ∷ []) l) (addArc Inhibitor k (numberAt l 0) (numberAt l 1) n)
-    (refuses 11 k)))))
+    (cond (isLine "I" two l) (addArc Input k (numberAt l 0) (numberAt l 1) 1 n)
+    (cond (isLine "I" three l) (addArc Input k (numberAt l 0) (numberAt l 1) (numberAt l 2) n)
+    (cond (isLine "O" two l) (addArc Output k (numberAt l 1) (numberAt l 0) 1 n)
+    (cond (isLine "O" three l) (addArc Output k (numberAt l 1) (numberAt l 0) (numberAt l 2) n)
+    (cond (isLine "H" two l) (addArc Inhibitor k (numberAt l 0) (numberAt l 1) 1 n)
+    (refuses 11 k)))))))
 
 unfoldable pub netOf : List Line → Answer Net
 netOf ls = do

@@ -9,7 +9,7 @@ use lib.ListN.{length}
 use Rattle.spec.specs.Lists.{In, flat}
 use Rattle.spec.specs.Answer.{gives}
 use Rattle.spec.specs.Net.{Net, readNet}
-use Rattle.spec.specs.NetText.{Declaration, newPlace, newTransition, newArc}
+use Rattle.spec.specs.NetText.{Declaration, newPlace, newTransition, newArc, weightedInput, weightedOutput}
 use Rattle.spec.specs.NetText.{netBytes, declared, Allowed, Complete}
 use Rattle.spec.specs.Record.{RunRecord, Condition, Mark, bench, recordBytes}
 use Rattle.spec.specs.Process.{Process, WellFormed, isBelow}
@@ -123,6 +123,8 @@ abbrev pub DeclarationBelow : ℕ → Declaration → Type 0
 DeclarationBelow b (newPlace v) = v < b
 DeclarationBelow b newTransition = Unit {0}
 DeclarationBelow b (newArc x p t) = (p < b) × (t < b)
+DeclarationBelow b (weightedInput p t w) = (p < b) × (t < b) × (w < b)
+DeclarationBelow b (weightedOutput p t w) = (p < b) × (t < b) × (w < b)
 
 abbrev pub DeclarationsBelow : ℕ → List Declaration → Type 0
 DeclarationsBelow b ds = (d : Declaration) → In d ds → DeclarationBelow b d

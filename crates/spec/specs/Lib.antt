@@ -29,6 +29,8 @@ pub mod HoldUp
 pub mod Refusals
 pub mod BeforeReads
 pub mod WithoutReads
+pub mod BeforeWeights
+pub mod WithoutWeights
 pub mod Endings
 pub mod Quoted
 pub mod Opening
@@ -40,3 +42,4 @@ pub mod ReadArcs
 pub mod CarriageReturns
 pub mod Swaps
 pub mod EnergyCases
+pub mod Weights

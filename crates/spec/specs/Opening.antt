@@ -5,7 +5,7 @@ use Rattle.spec.specs.Answer.{_>>=_, _>>_, refuse_at_when_, refuse_at?_,
 use Rattle.spec.specs.Classes.{alike}
 use Rattle.spec.specs.Text.{named, inDigits, classOf, digitOf, classAndDigit, isA, onFirst, rawLinesOf, butReturn, withoutReturn, linesOf, grow, pieces, isOnly, isDash, needlessZero, isNumber, valueFrom, numberIn, byLines, digitByte, digits, fieldBytes, fieldsBytes, lineWith}
 use Rattle.spec.specs.Forms.{hasLetter, fieldsOf, isOf, areOf, isLine, isListLine, eventAt, numberAt, numbersOf}
-use Rattle.spec.specs.Net.{isArc, joined, takes, makes, inhibits, reads, readAndConsumed, withPlace, withTransition, withArc, addPlace, addTransition, addArc, addLine, emptyNet, lacking, whole, netOf, readNet}
+use Rattle.spec.specs.Net.{isArc, joined, weightOf, takes, makes, inhibits, reads, readAndConsumed, withPlace, withTransition, withArc, addPlace, addTransition, addArc, addLine, emptyNet, lacking, whole, netOf, readNet}
 use Rattle.spec.specs.NetText.{declarationLine, netBytes, declare, declareAll}
 use Rattle.spec.specs.Step.{taken, made, needed, short, inhibited, play, markingAfter}
 use Rattle.spec.specs.Record.{bench, noCondition, names, isNone, slotOf, isAt, marked, due, eventField, eventLine, conditionLine, markLineOf, markLine, recordBytes}
@@ -42,7 +42,7 @@ unfolding hasLetter fieldsOf isOf areOf isLine isListLine eventAt numberAt numbe
 openForms = tt
 
 unfoldable openNet : Unit {0}
-unfolding isArc joined takes makes inhibits reads readAndConsumed withPlace withTransition withArc addPlace addTransition addArc addLine emptyNet lacking whole netOf readNet
+unfolding isArc joined weightOf takes makes inhibits reads readAndConsumed withPlace withTransition withArc addPlace addTransition addArc addLine emptyNet lacking whole netOf readNet
 openNet = tt
 
 unfoldable openNetText : Unit {0}

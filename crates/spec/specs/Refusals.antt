@@ -1,6 +1,6 @@
 -- The refusals that each operation can meet, in the paper's order, each with its least and its greatest spot (01,
--- "Refusals by operation"; 02, 2026-01, 2026-05); and the statement that an operation meets no other. The statement is a type here; the
--- crate `runs` has its proof.
+-- "Refusals by operation"; 02, 2026-01, 2026-05, 2026-06); and the statement that an operation meets no other. The statement
+-- is a type here; the crate `runs` has its proof.
 use mathlib.Core.Path.{_≡_}
 use mathlib.Core.Logic.{_≢_}
 use Prim.Native.Nat.{ℕ, _≤_}
@@ -27,12 +27,13 @@ abbrev pub refusal : ℕ → ℕ → ℕ → NumberAndSpots
 refusal n a b = record { number = n; least = a; most = b }
 
 -- "per line 11 malformed, 12 limit passed, 13 undeclared number, 14 arc repeated (spot: line); then 15 transition
--- lacking input or output (spot: lowest such)"; 2026-01: "51 .. at the line, after 14". 32 places, 32 transitions and
--- 3 × 32 × 32 arcs take 3,136 lines, as an input and a read arc exclude each other; an arc repeated, or of these two the
--- second, stands below a place, a transition and an arc
+-- lacking input or output (spot: lowest such)"; 2026-01: "51 .. at the line, after 14"; 2026-06: "54 .. at the line, after 13
+-- and before 14". 32 places, 32 transitions and 3 × 32 × 32 arcs take 3,136 lines, as an input and a read arc exclude each
+-- other; a weight is judged below a place and a transition, and an arc repeated, or of these two the second, stands below an
+-- arc too
 abbrev pub netRefusals : List NumberAndSpots
 netRefusals =
-    refusal 11 1 3137 ∷ refusal 12 1 3137 ∷ refusal 13 1 3137 ∷ refusal 14 4 3137 ∷ refusal 51 4 3137
+    refusal 11 1 3137 ∷ refusal 12 1 3137 ∷ refusal 13 1 3137 ∷ refusal 54 3 3137 ∷ refusal 14 4 3137 ∷ refusal 51 4 3137
     ∷ refusal 15 0 31 ∷ []
 
 -- "per line 21 malformed, 22 unknown transition, 23 over 128 events, 24 too few tokens, 25 inhibited, 26 over 512

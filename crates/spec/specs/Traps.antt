@@ -66,7 +66,7 @@ texts =
     -- "one capital letter and its fields in fixed order": a field too many, one too few, two letters
     && refused 11 1 (readNet (asText "P,1,1"))
     && refused 11 1 (readNet (asText "T,0"))
-    && refused 11 3 (readNet (asText "P,1 T I,0,0,0"))
+    && refused 11 3 (readNet (asText "P,1 T H,0,0,0"))
     && refused 11 1 (readNet (asText "P"))
     && refused 11 3 (readNet (asText "P,1 T I,0"))
     && refused 11 1 (readNet (asText "PP,1"))
