@@ -10,6 +10,7 @@ pub mod Along
 pub mod Tables
 pub mod Grouped
 pub mod Parts
+pub mod ArcWeights
 pub mod Among
 pub mod Stretch
 pub mod Rows

@@ -11,10 +11,11 @@ use borrow.Author.Tests.{eq-eqb, eqb-true, le-ltb}
 use Rattle.spec.specs.Lists.{In, any, count, asCount}
 use Rattle.spec.specs.Answer.{gives}
 use Rattle.spec.specs.Net.{Net, Arc, arcKindCode, isArc, joined, takes, reads, readAndConsumed, withPlace, withTransition, withArc, emptyNet, readNet}
-use Rattle.spec.specs.NetText.{Declaration, newPlace, newTransition, newArc, declare, Allowed}
+use Rattle.spec.specs.NetText.{Declaration, newPlace, newTransition, newArc, weightedInput, weightedOutput, declare, Allowed}
 use Rattle.spec.specs.declared.ArcKind.{ArcKind}
 use Rattle.spec.specs.declared.ArcKind.the-variants.{Input, Output, Inhibitor, Read}
 use Rattle.lists.specs.Laws.{true-or-false, clash, and-three, true-and, or-true, false-or, true-or-l, true-or-r, same-tests, any-in, any-found, any-none, any-count, count-cons, count-either, count-none, count-in, count-true, count-false}
+use Rattle.lists.specs.ArcWeights.{weight-none}
 use Rattle.runs.specs.NetText.{sound-keeps, net-text}
 
 abbrev pub arcSlot : ArcKind → ℕ
@@ -91,10 +92,10 @@ abbrev pub SlotsOnce : Net → Type 0
 SlotsOnce n = (s p t : ℕ) → count (inSlot s p t) (n .arcs) ≤ 1
 
 -- one arc more, that neither 14 nor 51 refuses
-pub slots-more : (n : Net) (x : ArcKind) (p t : ℕ) → SlotsOnce n → joined n x p t ≡ false → readAndConsumed n x p t ≡ false → SlotsOnce (withArc x p t n)
+pub slots-more : (n : Net) (x : ArcKind) (p t w : ℕ) → SlotsOnce n → joined n x p t ≡ false → readAndConsumed n x p t ≡ false → SlotsOnce (withArc x p t w n)
 unfolding withArc inSlot
-slots-more n x p t h j r s q u =
-    let more = count-cons (inSlot s q u) (record { kind = x; place = p; transition = t }) (n .arcs) in
+slots-more n x p t w h j r s q u =
+    let more = count-cons (inSlot s q u) (record { kind = x; place = p; transition = t; weight = w }) (n .arcs) in
     elim (true-or-false (eqb (arcSlot x) s && eqb p q && eqb t u)) [
       | inl a ↦
           let z = and-three (eqb (arcSlot x) s) (eqb p q) (eqb t u) a in
@@ -107,7 +108,9 @@ declare-slots : (n : Net) (d : Declaration) → SlotsOnce n → Allowed n d → 
 unfolding declare withPlace withTransition
 declare-slots n (newPlace v) h a = h
 declare-slots n newTransition h a = h
-declare-slots n (newArc x p t) h a = slots-more n x p t h (a .2) (a .3)
+declare-slots n (newArc x p t) h a = slots-more n x p t 1 h (a .2) (a .3)
+declare-slots n (weightedInput p t w) h a = slots-more n Input p t w h (a .0 .2) (a .0 .3)
+declare-slots n (weightedOutput p t w) h a = slots-more n Output p t w h (a .0 .2) (a .0 .3)
 
 no-slots : SlotsOnce emptyNet
 unfolding emptyNet count
@@ -135,4 +138,4 @@ module _ (n : Net) (once : SlotsOnce n) (p t : ℕ) where
       let r = any-found (isArc Read p t) (n .arcs) h in
       let some = count-in (isArc Read p t) (r .0) (n .arcs) (r .1) (r .2) in
       let both = count-either (isArc Input p t) (isArc Read p t) (inSlot (arcSlot Read) p t) (n .arcs) (λ a i. both-count a) in
-      count-false (any-count (isArc Input p t) (n .arcs) ∙ le-ltb 0 (count (isArc Input p t) (n .arcs)) (omega (arith, once (arcSlot Read) p t)))
+      weight-none n Input p t (unfold joined in (any-count (isArc Input p t) (n .arcs) ∙ le-ltb 0 (count (isArc Input p t) (n .arcs)) (omega (arith, once (arcSlot Read) p t))))

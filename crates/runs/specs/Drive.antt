@@ -33,10 +33,10 @@ unfoldable pub driveNet : Net
 driveNet = record {
   tokens = 1 ∷ 0 ∷ 1 ∷ 0 ∷ 0 ∷ [];
   transitions = 3;
-  arcs = record { kind = Inhibitor; place = 1; transition = 2 }
-      ∷ record { kind = Output; place = 3; transition = 2 } ∷ record { kind = Input; place = 2; transition = 2 }
-      ∷ record { kind = Output; place = 4; transition = 1 } ∷ record { kind = Input; place = 1; transition = 1 }
-      ∷ record { kind = Output; place = 1; transition = 0 } ∷ record { kind = Input; place = 0; transition = 0 } ∷ [];
+  arcs = record { kind = Inhibitor; place = 1; transition = 2; weight = 1 }
+      ∷ record { kind = Output; place = 3; transition = 2; weight = 1 } ∷ record { kind = Input; place = 2; transition = 2; weight = 1 }
+      ∷ record { kind = Output; place = 4; transition = 1; weight = 1 } ∷ record { kind = Input; place = 1; transition = 1; weight = 1 }
+      ∷ record { kind = Output; place = 1; transition = 0; weight = 1 } ∷ record { kind = Input; place = 0; transition = 0; weight = 1 } ∷ [];
 }
 
 net-accepted : readNet drive ≡ gives driveNet
@@ -171,7 +171,7 @@ unfoldable pub netK : Net
 netK = record {
   tokens = 1 ∷ 0 ∷ [];
   transitions = 1;
-  arcs = record { kind = Inhibitor; place = 0; transition = 0 } ∷ record { kind = Output; place = 1; transition = 0 } ∷ record { kind = Input; place = 0; transition = 0 } ∷ [];
+  arcs = record { kind = Inhibitor; place = 0; transition = 0; weight = 1 } ∷ record { kind = Output; place = 1; transition = 0; weight = 1 } ∷ record { kind = Input; place = 0; transition = 0; weight = 1 } ∷ [];
 }
 
 k-net : readNet (asText "P,1 P,0 T I,0,0 O,0,1 H,0,0") ≡ gives netK

@@ -124,7 +124,8 @@ module _ (l : Line) (m : In 13 (l .bytes)) where
   unfolding addLine
   in-nets k N =
       let two = number ∷ number ∷ [] in
-      rw (no-form P-letter (number ∷ []), no-form T-letter [], no-form I-letter two, no-form O-letter two, no-form H-letter two, no-form R-letter two)
+      let three = number ∷ number ∷ number ∷ [] in
+      rw (no-form P-letter (number ∷ []), no-form T-letter [], no-form I-letter two, no-form I-letter three, no-form O-letter two, no-form O-letter three, no-form H-letter two, no-form R-letter two)
 
   in-logs : (lim : Limits) (N : Net) (k : ℕ) (r : Run) → logLine lim N k l r ≡ refuses 21 k
   unfolding logLine isStepLine refuse_at_when_ _>>_

@@ -18,7 +18,7 @@ use Rattle.spec.specs.declared.Class.{Class}
 use Rattle.spec.specs.declared.Class.the-variants.{Digit, Comma, Dash as DashByte}
 use Rattle.spec.specs.declared.Field.{Field}
 use Rattle.spec.specs.declared.Field.the-variants.{Number, Dash}
-use Rattle.lists.specs.Laws.{here, there, and-true, every-in, in-flat-map}
+use Rattle.lists.specs.Laws.{here, there, true-or-false, and-true, every-in, in-flat-map}
 use Rattle.runs.specs.Bytes.{other-class, comma-is, dash-is, Letter}
 use Rattle.runs.specs.Digits.{digits-all}
 
@@ -85,6 +85,24 @@ pieces-back p [] l = ap pieces (append-nil p) ∙ last-piece p l
 pieces-back p (f ∷ fs) l =
     piece-back p (fieldBytes f ++ fieldsBytes fs) l
     ∙ ap (λ (ps : List (List ℕ)). p ∷ ps) (pieces-back (fieldBytes f) fs (field-lacks Comma refl refl f))
+
+-- a line has a first piece
+pub pieces-some : (bs : List ℕ) → (p : List ℕ) × (ps : List (List ℕ)) × (pieces bs ≡ p ∷ ps)
+unfolding pieces grow
+pieces-some [] = ([], [], refl)
+pieces-some (b ∷ bs) = elim (true-or-false (isA Comma b)) [
+  | inl t ↦ rw t ([], pieces bs, refl)
+  | inr t ↦ let z = pieces-some bs in rw (t, z .2) (b ∷ z .0, z .1, refl)
+]
+
+-- a comma and one piece more behind it
+pub pieces-more : (bs p : List ℕ) → Lacks Comma p → pieces (bs ++ code "," ∷ p) ≡ pieces bs ++ p ∷ []
+unfolding pieces grow
+pieces-more [] p l = rw (comma-parts, last-piece p l)
+pieces-more (b ∷ bs) p l = elim (true-or-false (isA Comma b)) [
+  | inl t ↦ rw (t, pieces-more bs p l)
+  | inr t ↦ let z = pieces-some bs in rw (t, pieces-more bs p l, z .2)
+]
 
 -- pieces, each led by a comma
 unfoldable led : List (List ℕ) → List ℕ

@@ -14,7 +14,7 @@ use lib.Dec.{eqb}
 use Rattle.spec.specs.Lists.{In, every, flat}
 use Rattle.spec.specs.Text.{rawLinesOf, linesOf, named, inDigits, classOf, isA, mostDigits, pieces, digits, fieldBytes, lineWith}
 use Rattle.spec.specs.Forms.{fieldsOf}
-use Rattle.spec.specs.NetText.{Declaration, newPlace, newTransition, newArc, declarationLine, netBytes}
+use Rattle.spec.specs.NetText.{Declaration, newPlace, newTransition, newArc, weightedInput, weightedOutput, declarationLine, netBytes}
 use Rattle.spec.specs.Record.{RunRecord, Condition, Mark, eventField, eventLine, conditionLine, markLineOf, markLine, recordBytes}
 use Rattle.spec.specs.Classes.{alike}
 use Rattle.spec.specs.Arranging.{groupLine, arrangementBytes}
@@ -167,6 +167,8 @@ declaration-form (newArc Input p t) = formed I-letter (Number p ∷ Number t ∷
 declaration-form (newArc Output p t) = formed O-letter (Number t ∷ Number p ∷ [])
 declaration-form (newArc Inhibitor p t) = formed H-letter (Number p ∷ Number t ∷ [])
 declaration-form (newArc Read p t) = formed R-letter (Number p ∷ Number t ∷ [])
+declaration-form (weightedInput p t w) = formed I-letter (Number p ∷ Number t ∷ Number w ∷ [])
+declaration-form (weightedOutput p t w) = formed O-letter (Number t ∷ Number p ∷ Number w ∷ [])
 
 -- the number of a field, from 0
 abbrev numberAt : List Field → ℕ → ℕ
@@ -176,8 +178,11 @@ unfoldable declaration-back : Said → Declaration
 declaration-back r =
     let u = numberAt (r .1) 0 in
     let v = numberAt (r .1) 1 in
+    let w = numberAt (r .1) 2 in
+    let plain = eqb (length (r .1)) 2 in
     cond (eqb (r .0) (code "P")) (newPlace u) (cond (eqb (r .0) (code "T")) newTransition
-    (cond (eqb (r .0) (code "I")) (newArc Input u v) (cond (eqb (r .0) (code "O")) (newArc Output v u)
+    (cond (eqb (r .0) (code "I")) (cond plain (newArc Input u v) (weightedInput u v w))
+    (cond (eqb (r .0) (code "O")) (cond plain (newArc Output v u) (weightedOutput v u w))
     (cond (eqb (r .0) (code "H")) (newArc Inhibitor u v) (newArc Read u v)))))
 
 declarations : Format declarationLine
@@ -191,6 +196,8 @@ declarations = record { form = declaration-form; written = written; back = decla
     written (newArc Output p t) = refl
     written (newArc Inhibitor p t) = refl
     written (newArc Read p t) = refl
+    written (weightedInput p t w) = refl
+    written (weightedOutput p t w) = refl
 
     kept : (d : Declaration) → declaration-back (code (declaration-form d .letter), declaration-form d .fields) ≡ d
     kept (newPlace v) = refl
@@ -199,6 +206,8 @@ declarations = record { form = declaration-form; written = written; back = decla
     kept (newArc Output p t) = refl
     kept (newArc Inhibitor p t) = refl
     kept (newArc Read p t) = refl
+    kept (weightedInput p t w) = refl
+    kept (weightedOutput p t w) = refl
 
 -- ---- records
 
@@ -320,6 +329,8 @@ declaration-below b (newArc Input p t) h = (h .0, (h .1, tt))
 declaration-below b (newArc Output p t) h = (h .1, (h .0, tt))
 declaration-below b (newArc Inhibitor p t) h = (h .0, (h .1, tt))
 declaration-below b (newArc Read p t) h = (h .0, (h .1, tt))
+declaration-below b (weightedInput p t w) h = (h .0, (h .1, (h .2, tt)))
+declaration-below b (weightedOutput p t w) h = (h .1, (h .0, (h .2, tt)))
 
 pub nets-same : (ds es : List Declaration) → Apart DeclarationsBelow ds es → netBytes ds ≡ netBytes es → ds ≡ es
 unfolding netBytes declarations

@@ -49,5 +49,6 @@ pub mod Summary
 pub mod Independence
 pub mod Readless
 pub mod WithoutReads
+pub mod OldNets
 pub mod EitherEnding
 pub mod EnergyText

@@ -8,7 +8,7 @@ use Rattle.spec.specs.Lists.{sum}
 use Rattle.spec.specs.Answer.{gives}
 use Rattle.spec.specs.Text.{Line, linesOf}
 use Rattle.spec.specs.Net.{Net, places, withPlace, withTransition, withArc, emptyNet, netOf, readNet}
-use Rattle.spec.specs.NetText.{Declaration, newPlace, newTransition, newArc, declare, declareAll, Allowed}
+use Rattle.spec.specs.NetText.{Declaration, newPlace, newTransition, newArc, weightedInput, weightedOutput, declare, declareAll, Allowed}
 use Rattle.spec.specs.Exactness.{DeclarationBelow, DeclarationsBelow}
 use Rattle.lists.specs.Arrays.{sum-more}
 use Rattle.runs.specs.NetText.{Sound, sound-tail, sound-keeps, net-lines}
@@ -31,11 +31,15 @@ declare-keeps n (newPlace v) L a = record {
 }
 declare-keeps n newTransition L a = record { places = L .places; transitions = omega arith; tokens = L .tokens }
 declare-keeps n (newArc x p t) L a = record { places = L .places; transitions = L .transitions; tokens = L .tokens }
+declare-keeps n (weightedInput p t w) L a = record { places = L .places; transitions = L .transitions; tokens = L .tokens }
+declare-keeps n (weightedOutput p t w) L a = record { places = L .places; transitions = L .transitions; tokens = L .tokens }
 
 allowed-below : (n : Net) (d : Declaration) → NetLimits n → Allowed n d → DeclarationBelow 1000 d
 allowed-below n (newPlace v) L a = omega (arith, a .1)
 allowed-below n newTransition L a = tt
 allowed-below n (newArc x p t) L a = (omega (arith, a .0, L .places), omega (arith, a .1, L .transitions))
+allowed-below n (weightedInput p t w) L a = (omega (arith, a .0 .0, L .places), omega (arith, a .0 .1, L .transitions), omega arith)
+allowed-below n (weightedOutput p t w) L a = (omega (arith, a .0 .0, L .places), omega (arith, a .0 .1, L .transitions), omega arith)
 
 pub sound-limits : (ds : List Declaration) → Sound emptyNet ds → NetLimits (declareAll emptyNet ds)
 sound-limits ds S = sound-keeps NetLimits declare-keeps emptyNet ds no-net S

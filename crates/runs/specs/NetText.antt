@@ -2,25 +2,26 @@
 -- declare.
 use mathlib.Core.Path.{_≡_, refl, sym, ap, ap₂, _∙_, subst}
 use mathlib.Core.Logic.{_⊎_, inl, inr, _↔_}
-use Prim.Native.Nat.{ℕ, _+_, _<_}
+use Prim.Native.Nat.{ℕ, _+_, _≤_, _<_}
 use native.Mathlib.Omega.{arith}
 use mathlib.Core.Bool.{true, not}
 use mathlib.Core.Option.{none}
-use mathlib.Core.List.{List, [], _∷_, _++_, map, head-eq-of-cons-eq, tail-eq-of-cons-eq}
+use mathlib.Core.List.{List, [], _∷_, _++_, map, head-eq-of-cons-eq, tail-eq-of-cons-eq, List·Memᴰ·head, List·Memᴰ·tail, List·Memᴰ·not-nil}
 use lib.ListN.{length, length-append}
 use lib.Dec.{ltb, leb}
-use borrow.Author.Tests.{ltb-true, ltb-false, leb-false}
-use Rattle.spec.specs.Lists.{any, upTo, sum, lowest, asCount, flat}
+use borrow.Author.Tests.{ltb-true, ltb-false, leb-true, leb-false}
+use Rattle.spec.specs.Lists.{any, upTo, sum, lowest, flat}
 use Rattle.spec.specs.Answer.{gives}
 use Rattle.spec.specs.Text.{Line, linesOf, byLines}
 use Rattle.spec.specs.Forms.{number, isLine, eventAt, numberAt}
-use Rattle.spec.specs.Net.{Net, places, joined, takes, makes, addPlace, addTransition, addArc, addLine, emptyNet, lacking, whole, netOf, readNet}
-use Rattle.spec.specs.NetText.{Declaration, newPlace, newTransition, newArc, declarationLine, netBytes, declare, declareAll, declared, Allowed, Complete}
+use Rattle.spec.specs.Net.{Net, places, joined, weightOf, takes, makes, withPlace, withTransition, withArc, addPlace, addTransition, addArc, addLine, emptyNet, lacking, whole, netOf, readNet}
+use Rattle.spec.specs.NetText.{Declaration, newPlace, newTransition, newArc, weightedInput, weightedOutput, declarationLine, netBytes, declare, declareAll, declared, MayJoin, Allowed, Weighed, Complete}
 use Rattle.spec.specs.Exactness.{IsNet}
 use Rattle.spec.specs.Endings.{plainEnds}
 use Rattle.spec.specs.declared.ArcKind.{ArcKind}
 use Rattle.spec.specs.declared.ArcKind.the-variants.{Input, Output, Inhibitor, Read}
-use Rattle.lists.specs.Laws.{and-true, or-false, false-or, not-is-false, count-pos, any-in, any-found, in-upTo, upTo-in, lowest-none, none-lowest, flat-map-snoc}
+use Rattle.lists.specs.Laws.{and-true, or-false, false-or, not-is-false, any-in, any-found, in-upTo, upTo-in, lowest-none, none-lowest, flat-map-snoc}
+use Rattle.lists.specs.ArcWeights.{weight-joined}
 use Rattle.runs.specs.Bytes.{P-letter, T-letter, I-letter, O-letter, H-letter, R-letter}
 use Rattle.runs.specs.Answers.{of-gives, not-refused, of-bind, of-when, of-lowest, of-cond}
 use Rattle.runs.specs.Texts.{lineBytes, text-is, form-line}
@@ -89,27 +90,38 @@ module _ (k : ℕ) (n m : Net) where
   unfolding addTransition declare
   transition-added h = let z = of-when 12 k _ _ h in (leb-false 32 (n .transitions) (z .0), of-gives (z .1))
 
-  arc-added : (x : ArcKind) (p t : ℕ) → addArc x k p t n ≡ gives m → Allowed n (newArc x p t) × (declare n (newArc x p t) ≡ m)
-  unfolding addArc declare
-  arc-added x p t h =
+  arc-added : (x : ArcKind) (p t w : ℕ) → addArc x k p t w n ≡ gives m → (MayJoin n x p t × (1 ≤ w) × (w ≤ 16)) × (withArc x p t w n ≡ m)
+  unfolding addArc
+  arc-added x p t w h =
       let z = of-when 13 k _ _ h in
-      let y = of-when 14 k _ _ (z .1) in
-      let w = of-when 51 k _ _ (y .1) in
+      let u = of-when 54 k _ _ (z .1) in
+      let y = of-when 14 k _ _ (u .1) in
+      let v = of-when 51 k _ _ (y .1) in
       let b = and-true (ltb p (places n)) (ltb t (n .transitions)) (not-is-false _ (z .0)) in
-      ((ltb-true p (places n) (b .0), ltb-true t (n .transitions) (b .1), y .0, w .0), of-gives (w .1))
+      let c = and-true (leb 1 w) (leb w 16) (not-is-false _ (u .0)) in
+      (((ltb-true p (places n) (b .0), ltb-true t (n .transitions) (b .1), y .0, v .0), leb-true 1 w (c .0), leb-true w 16 (c .1)), of-gives (v .1))
+
+  -- without a weight
+  plain-added : (x : ArcKind) (p t : ℕ) → addArc x k p t 1 n ≡ gives m → Allowed n (newArc x p t) × (declare n (newArc x p t) ≡ m)
+  unfolding declare
+  plain-added x p t h = let z = arc-added x p t 1 h in (z .0 .0, z .1)
 
   line-added : (l : Line) → addLine k l n ≡ gives m → Declares (lineBytes l) n m
-  unfolding addLine declarationLine numberAt eventAt
+  unfolding addLine declarationLine declare numberAt eventAt
   line-added l h =
       let two = number ∷ number ∷ [] in
+      let three = number ∷ number ∷ number ∷ [] in
       let u = numberAt l 0 in
       let v = numberAt l 1 in
+      let w = numberAt l 2 in
       of-cond (isLine "P" (number ∷ []) l) _ _ h (λ t q. declares (newPlace u) (form-line P-letter (number ∷ []) l t) (place-added u q)) λ h.
       of-cond (isLine "T" [] l) _ _ h (λ t q. declares newTransition (form-line T-letter [] l t) (transition-added q)) λ h.
-      of-cond (isLine "I" two l) _ _ h (λ t q. declares (newArc Input u v) (form-line I-letter two l t) (arc-added Input u v q)) λ h.
-      of-cond (isLine "O" two l) _ _ h (λ t q. declares (newArc Output v u) (form-line O-letter two l t) (arc-added Output v u q)) λ h.
-      of-cond (isLine "H" two l) _ _ h (λ t q. declares (newArc Inhibitor u v) (form-line H-letter two l t) (arc-added Inhibitor u v q)) λ h.
-      of-cond (isLine "R" two l) _ _ h (λ t q. declares (newArc Read u v) (form-line R-letter two l t) (arc-added Read u v q)) not-refused
+      of-cond (isLine "I" two l) _ _ h (λ t q. declares (newArc Input u v) (form-line I-letter two l t) (plain-added Input u v q)) λ h.
+      of-cond (isLine "I" three l) _ _ h (λ t q. declares (weightedInput u v w) (form-line I-letter three l t) (arc-added Input u v w q)) λ h.
+      of-cond (isLine "O" two l) _ _ h (λ t q. declares (newArc Output v u) (form-line O-letter two l t) (plain-added Output v u q)) λ h.
+      of-cond (isLine "O" three l) _ _ h (λ t q. declares (weightedOutput v u w) (form-line O-letter three l t) (arc-added Output v u w q)) λ h.
+      of-cond (isLine "H" two l) _ _ h (λ t q. declares (newArc Inhibitor u v) (form-line H-letter two l t) (plain-added Inhibitor u v q)) λ h.
+      of-cond (isLine "R" two l) _ _ h (λ t q. declares (newArc Read u v) (form-line R-letter two l t) (plain-added Read u v q)) not-refused
 
 -- ---- a text
 
@@ -134,23 +146,44 @@ line-declared k l n m done h D =
       named = sym (z .next) ∙ ap (λ (n : Net). declare n (z .what)) (D .named) ∙ sym (declare-snoc emptyNet (D .lines) (z .what));
     }
 
+-- ---- weights
+
+with-weight : (n : Net) (x : ArcKind) (p t w : ℕ) → Weighed n → 1 ≤ w → w ≤ 16 → Weighed (withArc x p t w n)
+unfolding withArc
+with-weight n x p t w W l h a (List·Memᴰ·head e) = rw e (l, h)
+with-weight n x p t w W l h a (List·Memᴰ·tail i) = W a i
+
+declare-weighed : (n : Net) (d : Declaration) → Weighed n → Allowed n d → Weighed (declare n d)
+unfolding declare withPlace withTransition
+declare-weighed n (newPlace v) W a = W
+declare-weighed n newTransition W a = W
+declare-weighed n (newArc x p t) W a = with-weight n x p t 1 W (omega arith) (omega arith)
+declare-weighed n (weightedInput p t w) W a = with-weight n Input p t w W (a .1) (a .2)
+declare-weighed n (weightedOutput p t w) W a = with-weight n Output p t w W (a .1) (a .2)
+
+-- every arc of a net of sound declarations weighs from 1 to 16
+pub sound-weighed : (ds : List Declaration) → Sound emptyNet ds → Weighed (declared ds)
+unfolding emptyNet
+sound-weighed ds S = sound-keeps Weighed declare-weighed emptyNet ds (λ a i. absurd (List·Memᴰ·not-nil i)) S
+
 -- ---- the rule that is judged after all lines
 
--- a transition has an arc of a kind with some place
-has-arc : (n : Net) (x : ArcKind) (t : ℕ) → (any (λ p. ltb 0 (asCount (joined n x p t))) (upTo (places n)) ≡ true) ↔ ((p : ℕ) × (p < places n) × (joined n x p t ≡ true))
-has-arc n x t = (
-  λ h. let z = any-found _ (upTo (places n)) h in (z .0, in-upTo (places n) (z .1), sym (count-pos _) ∙ z .2),
-  λ z. any-in _ (z .0) (upTo (places n)) (upTo-in (places n) (z .1)) (count-pos _ ∙ z .2),
-)
+module _ (n : Net) (W : Weighed n) where
+  -- a transition has an arc of a kind with some place
+  has-arc : (x : ArcKind) (t : ℕ) → (any (λ p. ltb 0 (weightOf n x p t)) (upTo (places n)) ≡ true) ↔ ((p : ℕ) × (p < places n) × (joined n x p t ≡ true))
+  has-arc x t = (
+    λ h. let z = any-found _ (upTo (places n)) h in (z .0, in-upTo (places n) (z .1), sym (weight-joined n x (z .0) t W (omega arith)) ∙ z .2),
+    λ z. any-in _ (z .0) (upTo (places n)) (upTo-in (places n) (z .1)) (weight-joined n x (z .0) t W (omega arith) ∙ z .2),
+  )
 
-pub complete-is : (n : Net) → (lowest (lacking n) (n .transitions) ≡ none) ↔ Complete n
-unfolding lacking takes makes
-complete-is n = (
-  λ h.
-      let z : (t : ℕ) → t < n .transitions → _ = λ t l. or-false _ _ (lowest-none (lacking n) (n .transitions) h t l) in
-      record { input = λ t l. has-arc n Input t .0 (not-is-false _ (z t l .0)); output = λ t l. has-arc n Output t .0 (not-is-false _ (z t l .1)) },
-  λ C. none-lowest (lacking n) (n .transitions) (λ t l. false-or (ap not (has-arc n Input t .1 (C .input t l))) (ap not (has-arc n Output t .1 (C .output t l)))),
-)
+  pub complete-is : (lowest (lacking n) (n .transitions) ≡ none) ↔ Complete n
+  unfolding lacking takes makes
+  complete-is = (
+    λ h.
+        let z : (t : ℕ) → t < n .transitions → _ = λ t l. or-false _ _ (lowest-none (lacking n) (n .transitions) h t l) in
+        record { input = λ t l. has-arc Input t .0 (not-is-false _ (z t l .0)); output = λ t l. has-arc Output t .0 (not-is-false _ (z t l .1)) },
+    λ C. none-lowest (lacking n) (n .transitions) (λ t l. false-or (ap not (has-arc Input t .1 (C .input t l))) (ap not (has-arc Output t .1 (C .output t l)))),
+  )
 
 -- the lines of a text, or of a part of one
 pub net-lines : (ls : List Line) (N : Net) → netOf ls ≡ gives N → IsNet (flat (map lineBytes ls)) N
@@ -159,7 +192,8 @@ net-lines ls N h =
     let z = of-bind (byLines addLine 1 ls emptyNet) _ h in
     let y = of-lowest 15 (lowest (lacking (z .0)) (z .0 .transitions)) (gives (z .0)) (z .2) in
     let D = lines-keep addLine (λ k n done. Declared n done) line-declared 1 ls emptyNet (z .0) [] (z .1) nothing .1 in
-    subst (IsNet (flat (map lineBytes ls))) (of-gives (y .1)) (record { lines = D .lines; written = D .written; sound = D .sound; complete = complete-is (z .0) .0 (y .0); named = D .named })
+    let W = subst Weighed (sym (D .named)) (sound-weighed (D .lines) (D .sound)) in
+    subst (IsNet (flat (map lineBytes ls))) (of-gives (y .1)) (record { lines = D .lines; written = D .written; sound = D .sound; complete = complete-is (z .0) W .0 (y .0); named = D .named })
 
 pub net-text : (text : List ℕ) (N : Net) → readNet text ≡ gives N → IsNet (plainEnds text) N
 unfolding readNet

@@ -99,9 +99,9 @@ module _ {k : ℕ} {n : Net} (D : Drafted k n) where
     once = D .once;
   })
 
-  arc-within : (x : ArcKind) (p t : ℕ) → Within (Drafted (suc k)) netRefusals (addArc x k p t n)
+  arc-within : (x : ArcKind) (p t w : ℕ) → Within (Drafted (suc k)) netRefusals (addArc x k p t w n)
   unfolding addArc withArc first
-  arc-within x p t = when-within 13 k _ _ (λ d. listed netRefusals 13 refl spot-few) λ d.
+  arc-within x p t w = when-within 13 k _ _ (λ d. listed netRefusals 13 refl spot-few) λ d.
       let z = and-true (ltb p (places n)) (ltb t (n .transitions)) (not-is-false _ d) in
       let i = ltb-true p (places n) (z .0) in
       let j = ltb-true t (n .transitions) (z .1) in
@@ -110,25 +110,29 @@ module _ {k : ℕ} {n : Net} (D : Drafted k n) where
       let slot = slot-taken n p t x in
       let taken : (joined n x p t || readAndConsumed n x p t) ≡ true → (4 ≤ k) × (k ≤ 3137) =
       λ e. (omega (arith, D .next, has-some (inSlot (arcSlot x) p t) (n .arcs) (slot ∙ e)), spot-few .1) in
+      when-within 54 k _ _ (λ b. listed netRefusals 54 refl (omega (arith, D .next), spot-few .1)) λ b.
       when-within 14 k _ _ (λ e. listed netRefusals 14 refl (taken (true-or-l (readAndConsumed n x p t) e))) λ e.
       when-within 51 k _ _ (λ f. listed netRefusals 51 refl (taken (true-or-r (joined n x p t) f))) λ f. given-within (record {
         next = omega (arith, D .next);
         places = D .places;
         transitions = D .transitions;
         declared = λ a i. elim i [ List·Memᴰ·head q ↦ rw q (h, l) | List·Memᴰ·tail j ↦ D .declared a j ];
-        once = slots-more n x p t (D .once) e f;
+        once = slots-more n x p t w (D .once) e f;
       })
 
   line-within : (l : Line) → Within (Drafted (suc k)) netRefusals (addLine k l n)
   unfolding addLine first
   line-within l =
       let two = number ∷ number ∷ [] in
+      let three = number ∷ number ∷ number ∷ [] in
       let a : ℕ = numberAt l 0 in
       let b : ℕ = numberAt l 1 in
+      let w : ℕ = numberAt l 2 in
       cond-within (isLine "P" (number ∷ []) l) _ _ (place-within a) (cond-within (isLine "T" [] l) _ _ transition-within
-      (cond-within (isLine "I" two l) _ _ (arc-within Input a b) (cond-within (isLine "O" two l) _ _ (arc-within Output b a)
-      (cond-within (isLine "H" two l) _ _ (arc-within Inhibitor a b) (cond-within (isLine "R" two l) _ _ (arc-within Read a b)
-      (refused-within (listed netRefusals 11 refl spot-few)))))))
+      (cond-within (isLine "I" two l) _ _ (arc-within Input a b 1) (cond-within (isLine "I" three l) _ _ (arc-within Input a b w)
+      (cond-within (isLine "O" two l) _ _ (arc-within Output b a 1) (cond-within (isLine "O" three l) _ _ (arc-within Output b a w)
+      (cond-within (isLine "H" two l) _ _ (arc-within Inhibitor a b 1) (cond-within (isLine "R" two l) _ _ (arc-within Read a b 1)
+      (refused-within (listed netRefusals 11 refl spot-few)))))))))
 
   whole-within : Within (λ m. Unit) netRefusals (whole n)
   unfolding whole first

@@ -64,34 +64,38 @@ formed c fs l h =
     let b : List ℕ = getD (pieces (l .bytes)) 0 [] in
     and-true (eqb (length b) 1) (isA (classOf (code c)) (getD b 0 0)) (and-three (l .ended) (hasLetter c l) (areOf fs (fieldsOf l)) h .1) .1
 
--- so one of another letter is no `R` line
-pub other-form : (c : Char) → alike (classOf (code c)) (classOf (code "R")) ≡ false → (fs : List FieldForm) (l : Line) → isLine c fs l ≡ true → IsNoR l
-other-form c d fs l h = elim (true-or-false (isLine "R" (number ∷ number ∷ []) l)) [
-  | inl a ↦ clash (formed "R" (number ∷ number ∷ []) l a) (other-class (classOf (code c)) (classOf (code "R")) d _ (formed c fs l h))
+-- so it is no line of another letter
+pub other-letter : (c d : Char) → alike (classOf (code c)) (classOf (code d)) ≡ false → (fs gs : List FieldForm) (l : Line) → isLine c fs l ≡ true → isLine d gs l ≡ false
+other-letter c d o fs gs l h = elim (true-or-false (isLine d gs l)) [
+  | inl a ↦ clash (formed d gs l a) (other-class (classOf (code c)) (classOf (code d)) o _ (formed c fs l h))
   | inr a ↦ a
 ]
+
+pub other-form : (c : Char) → alike (classOf (code c)) (classOf (code "R")) ≡ false → (fs : List FieldForm) (l : Line) → isLine c fs l ≡ true → IsNoR l
+other-form c o fs = other-letter c "R" o fs (number ∷ number ∷ [])
 
 -- ---- a net text
 
 abbrev pub NoReads : Net → Type 0
 NoReads n = (p t : ℕ) → reads n p t ≡ false
 
-arc-same : (x : ArcKind) (k p t : ℕ) (n : Net) → readAndConsumed n x p t ≡ false → addArc x k p t n ≡ Then.addArc x k p t n
+arc-same : (x : ArcKind) (k p t w : ℕ) (n : Net) → readAndConsumed n x p t ≡ false → addArc x k p t w n ≡ Then.addArc x k p t w n
 unfolding addArc Then.addArc _>>_ refuse_at_when_
-arc-same x k p t n h = rw h
+arc-same x k p t w n h = rw h
 
 line-same : (k : ℕ) (l : Line) (n : Net) → IsNoR l → NoReads n → addLine k l n ≡ Then.addLine k l n
 unfolding addLine Then.addLine readAndConsumed reads
 line-same k l n q r =
     let u = numberAt l 0 in
     let v = numberAt l 1 in
-    rw (q, arc-same Input k u v n (r u v), arc-same Output k v u n refl, arc-same Inhibitor k u v n refl)
+    let w = numberAt l 2 in
+    rw (q, arc-same Input k u v 1 n (r u v), arc-same Input k u v w n (r u v), arc-same Output k v u 1 n refl, arc-same Output k v u w n refl, arc-same Inhibitor k u v 1 n refl)
 
-arc-kept : (x : ArcKind) (k p t : ℕ) (n m : Net) → eqb (arcKindCode x) (arcKindCode Read) ≡ false → Then.addArc x k p t n ≡ gives m → NoReads n → NoReads m
+arc-kept : (x : ArcKind) (k p t w : ℕ) (n m : Net) → eqb (arcKindCode x) (arcKindCode Read) ≡ false → Then.addArc x k p t w n ≡ gives m → NoReads n → NoReads m
 unfolding Then.addArc withArc reads joined any isArc
-arc-kept x k p t n m d h r =
-    let a = of-when 13 k _ _ h in
-    let b = of-when 14 k (joined n x p t) (gives (withArc x p t n)) (a .1) in
+arc-kept x k p t w n m d h r =
+    let a = of-when 54 k _ _ (of-when 13 k _ _ h .1) in
+    let b = of-when 14 k (joined n x p t) (gives (withArc x p t w n)) (a .1) in
     subst NoReads (of-gives (b .1)) (λ q u. rw d (r q u))
 
 -- what the reader then accepted had no R, and it makes no read arc
@@ -99,13 +103,17 @@ line-kept : (k : ℕ) (l : Line) (n m : Net) → Then.addLine k l n ≡ gives m 
 unfolding Then.addLine addPlace addTransition withPlace withTransition reads joined alike classOf named inDigits
 line-kept k l n m h =
     let two = number ∷ number ∷ [] in
+    let three = number ∷ number ∷ number ∷ [] in
     let u = numberAt l 0 in
     let v = numberAt l 1 in
+    let w = numberAt l 2 in
     of-cond (isLine "P" (number ∷ []) l) _ _ h (λ t q. (other-form "P" refl _ l t, subst NoReads (of-gives (of-when 12 k _ _ q .1)))) λ h.
     of-cond (isLine "T" [] l) _ _ h (λ t q. (other-form "T" refl _ l t, subst NoReads (of-gives (of-when 12 k _ _ q .1)))) λ h.
-    of-cond (isLine "I" two l) _ _ h (λ t q. (other-form "I" refl two l t, arc-kept Input k u v n m refl q)) λ h.
-    of-cond (isLine "O" two l) _ _ h (λ t q. (other-form "O" refl two l t, arc-kept Output k v u n m refl q)) λ h.
-    of-cond (isLine "H" two l) _ _ h (λ t q. (other-form "H" refl two l t, arc-kept Inhibitor k u v n m refl q)) not-refused
+    of-cond (isLine "I" two l) _ _ h (λ t q. (other-form "I" refl two l t, arc-kept Input k u v 1 n m refl q)) λ h.
+    of-cond (isLine "I" three l) _ _ h (λ t q. (other-form "I" refl three l t, arc-kept Input k u v w n m refl q)) λ h.
+    of-cond (isLine "O" two l) _ _ h (λ t q. (other-form "O" refl two l t, arc-kept Output k v u 1 n m refl q)) λ h.
+    of-cond (isLine "O" three l) _ _ h (λ t q. (other-form "O" refl three l t, arc-kept Output k v u w n m refl q)) λ h.
+    of-cond (isLine "H" two l) _ _ h (λ t q. (other-form "H" refl two l t, arc-kept Inhibitor k u v 1 n m refl q)) not-refused
 
 none-yet : NoReads emptyNet
 unfolding reads joined any emptyNet

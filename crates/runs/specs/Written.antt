@@ -11,7 +11,7 @@ use Rattle.spec.specs.Lists.{flat}
 use Rattle.spec.specs.Answer.{Answer, gives, refuses}
 use Rattle.spec.specs.Classes.{alike}
 use Rattle.spec.specs.Text.{named, inDigits, classOf, isA, linesOf, lineWith}
-use Rattle.spec.specs.NetText.{Declaration, newPlace, newTransition, newArc, declarationLine, netBytes}
+use Rattle.spec.specs.NetText.{Declaration, newPlace, newTransition, newArc, weightedInput, weightedOutput, declarationLine, netBytes}
 use Rattle.spec.specs.Record.{RunRecord, Condition, Mark, eventLine, conditionLine, markLineOf, markLine, recordBytes}
 use Rattle.spec.specs.Arranging.{groupLine, arrangementBytes}
 use Rattle.spec.specs.Printing.{summary, printed, program}
@@ -58,6 +58,8 @@ none-in-declaration (newArc Input p t) = none-in-line "I" refl _
 none-in-declaration (newArc Output p t) = none-in-line "O" refl _
 none-in-declaration (newArc Inhibitor p t) = none-in-line "H" refl _
 none-in-declaration (newArc Read p t) = none-in-line "R" refl _
+none-in-declaration (weightedInput p t w) = none-in-line "I" refl _
+none-in-declaration (weightedOutput p t w) = none-in-line "O" refl _
 
 pub none-in-net : (ds : List Declaration) → NoReturn (netBytes ds)
 unfolding netBytes
