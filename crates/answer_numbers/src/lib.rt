@@ -66,6 +66,7 @@ fn of_net_refusal(x: NetRefusal) -> Numbers
         NetRefusal::Malformed(k) => refused(11, k),
         NetRefusal::LimitPassed(k) => refused(12, k),
         NetRefusal::Undeclared(k) => refused(13, k),
+        NetRefusal::WeightOutside(k) => refused(54, k),
         NetRefusal::ArcRepeated(k) => refused(14, k),
         NetRefusal::ReadAndConsumed(k) => refused(51, k),
         NetRefusal::Lacking(t) => refused(15, t),

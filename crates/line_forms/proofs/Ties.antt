@@ -18,7 +18,7 @@ use Rattle.spec.specs.Text.{Line, classOf, isA, pieces, isOnly, isDash, mostDig
 use Rattle.spec.specs.Forms.{number, numberOrDash, hasLetter, fieldsOf, isOf, areOf, isLine, isListLine, eventAt, orZero, numberAt, numbersOf}
 use Rattle.spec.specs.declared.Class.{Class}
 use Rattle.spec.specs.declared.Class.the-variants.{Foreign}
-use Rattle.line_forms.specs.Rows.{aNumber, aNumberOrDash, absent, valueOf, eventOf, slotOf, letterOf, letterIn, slotsOf, rowOf, isAlone, isOne, isTwo, isThree, isList, valuesOf}
+use Rattle.line_forms.specs.Rows.{aNumber, aNumberOrDash, absent, valueOf, eventOf, slotOf, letterOf, letterIn, slotsOf, rowOf, isAlone, isOne, isTwo, isTriple, isThree, isList, valuesOf}
 use Rattle.line_forms.specs.declared.Slot.{Slot}
 use Rattle.line_forms.specs.declared.Slot.the-variants.{Number, Dash, Wrong, Absent}
 
@@ -102,6 +102,12 @@ unfolding areOf isOf
 two-fields [] = refl
 two-fields (p ∷ ps) = ap₂ _&&_ (number-slot mostDigits p) (one-field ps)
 
+triple-fields : (ps : List (List ℕ)) → areOf (number ∷ number ∷ number ∷ []) ps
+    ≡ (aNumber (getD (map slot ps) 0 Absent) && (aNumber (getD (map slot ps) 1 Absent) && (aNumber (getD (map slot ps) 2 Absent) && absent (getD (map slot ps) 3 Absent))))
+unfolding areOf isOf
+triple-fields [] = refl
+triple-fields (p ∷ ps) = ap₂ _&&_ (number-slot mostDigits p) (two-fields ps)
+
 either-field : (ps : List (List ℕ)) → areOf (numberOrDash ∷ []) ps ≡ (aNumberOrDash (getD (map slot ps) 0 Absent) && absent (getD (map slot ps) 1 Absent))
 unfolding areOf isOf
 either-field [] = refl
@@ -145,6 +151,10 @@ module _ (c : Char) (h : alike Foreign (classOf (code c)) ≡ false) (l : Line) 
   pub two-line : isLine c (number ∷ number ∷ []) l ≡ (l .ended && isTwo k (rowOf mostDigits (l .bytes)))
   unfolding isLine hasLetter fieldsOf isTwo rowOf slotsOf letterIn
   two-line = rw (letter-slot k h (getD (pieces (l .bytes)) 0 []), two-fields (drop 1 (pieces (l .bytes)))) (simp and-assoc)
+
+  pub triple-line : isLine c (number ∷ number ∷ number ∷ []) l ≡ (l .ended && isTriple k (rowOf mostDigits (l .bytes)))
+  unfolding isLine hasLetter fieldsOf isTriple rowOf slotsOf letterIn
+  triple-line = rw (letter-slot k h (getD (pieces (l .bytes)) 0 []), triple-fields (drop 1 (pieces (l .bytes)))) (simp and-assoc)
 
   pub three-line : isLine c (number ∷ numberOrDash ∷ numberOrDash ∷ []) l ≡ (l .ended && isThree k (rowOf mostDigits (l .bytes)))
   unfolding isLine hasLetter fieldsOf isThree rowOf slotsOf letterIn

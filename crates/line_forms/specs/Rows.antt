@@ -92,6 +92,11 @@ isOne k r = alike (r .letter) k && aNumber (r .first) && absent (r .second)
 unfoldable pub isTwo : Class → Row → Bool
 isTwo k r = alike (r .letter) k && aNumber (r .first) && aNumber (r .second) && absent (r .third)
 
+-- the letter and three numbers
+unfoldable pub isTriple : Class → Row → Bool
+isTriple k r =
+    alike (r .letter) k && aNumber (r .first) && aNumber (r .second) && aNumber (r .third) && absent (r .fourth)
+
 -- the letter, a number, and two that can be dashes
 unfoldable pub isThree : Class → Row → Bool
 isThree k r =

@@ -1,6 +1,6 @@
 // Lines of a fixed form, as rows: a letter, and so many numbers or dashes.
 ghost use mathlib.Core.Path.{_≡_};
-ghost use Rattle.line_forms.specs.Rows.{aNumber, aNumberOrDash, absent, valueOf, isAlone, isOne, isTwo, isThree};
+ghost use Rattle.line_forms.specs.Rows.{aNumber, aNumberOrDash, absent, valueOf, isAlone, isOne, isTwo, isTriple, isThree};
 use byte_classes::alike;
 use spec::Class;
 
@@ -94,6 +94,18 @@ pub fn is_two(k: Class, r: Row) -> bool
     let second = r.second;
     let third = r.third;
     alike(letter, k) & a_number(first) & a_number(second) & absent(third)
+}
+
+// The letter and three numbers.
+pub fn is_triple(k: Class, r: Row) -> bool
+    ensures { λ b. ⌜ b ≡ isTriple k r ⌝ }
+{
+    let letter = r.letter;
+    let first = r.first;
+    let second = r.second;
+    let third = r.third;
+    let fourth = r.fourth;
+    alike(letter, k) & a_number(first) & a_number(second) & a_number(third) & absent(fourth)
 }
 
 // The letter, a number, and two that can be dashes.

@@ -9,6 +9,7 @@ use Rattle.spec.specs.Answer.{Answer, gives}
 use Rattle.lines.specs.Agree.{Agrees, refusedAs}
 use Rattle.spec.specs.Lists.{sum, asCount}
 use Rattle.spec.specs.Net.{Net as NetD, takes, makes, inhibits, reads, addPlace, addTransition, addArc}
+use Rattle.spec.specs.NetText.{Weighed}
 use Rattle.spec.specs.Values.{netValues}
 use Rattle.net.specs.declared.Net.{Net}
 use Rattle.spec.specs.declared.ArcKind.{ArcKind}
@@ -18,7 +19,7 @@ use Rattle.net.specs.declared.Stepped.{Stepped}
 use Rattle.net.specs.declared.NetAnswer.{NetAnswer}
 use Rattle.net.specs.declared.NetAnswer.the-variants.{Accepted, Refused}
 use Rattle.net.specs.declared.NetRefusal.{NetRefusal}
-use Rattle.net.specs.declared.NetRefusal.the-variants.{Malformed, LimitPassed, Undeclared}
+use Rattle.net.specs.declared.NetRefusal.the-variants.{Malformed, LimitPassed, Undeclared, WeightOutside}
 use Rattle.net.specs.declared.NetRefusal.the-variants.{ArcRepeated, ReadAndConsumed, Lacking}
 
 -- the tokens, one entry for each place; the arcs of a transition, of a kind and of all kinds; and where the outputs,
@@ -60,6 +61,7 @@ pub record Counts (ps ts : ℕ) (xs tokensD : List ℕ) (transitionsD : ℕ) : T
   pub most : sum tokensD ≤ 512
 
 pub record Holds (n : Net) (m : NetD) : Type 0 where
+  pub weighed : Weighed m
   pub counts : Counts (n .places) (n .transitions) (n .tokens) (m .tokens) (m .transitions)
   pub inputs : Cells (n .inputs) (takes m)
   pub outputs : Cells (n .outputs) (makes m)
@@ -161,6 +163,7 @@ abbrev pub netRefusal : NetRefusal → ℕ × ℕ
 netRefusal (Malformed k) = (11, k)
 netRefusal (LimitPassed k) = (12, k)
 netRefusal (Undeclared k) = (13, k)
+netRefusal (WeightOutside k) = (54, k)
 netRefusal (ArcRepeated k) = (14, k)
 netRefusal (ReadAndConsumed k) = (51, k)
 netRefusal (Lacking t) = (15, t)
@@ -187,11 +190,18 @@ AddsPlace k v s tokens r tokens′ =
 abbrev pub AddsTransition : ℕ → Size → Stepped → Type 0
 AddsTransition k s r = (a : Arrays) → Steps s a (addTransition k) r a
 
--- an arc of the kind that stands from `at` on is added as line k adds it, whatever the tokens are
-abbrev pub AddsArc : ℕ → ℕ → ℕ → ℕ → Size → List ℕ → Stepped → List ℕ → Type 0
-AddsArc at k p t s arcs r arcs′ =
-    (x : ArcKind) (tokens : List ℕ) → at ≡ offsetOf x
-    → Steps s (arraysAt tokens arcs) (addArc x k p t) r (arraysAt tokens arcs′)
+-- only inputs and outputs weigh more than 1
+abbrev pub Bears : ArcKind → ℕ → Type 0
+Bears Input w = Unit {0}
+Bears Output w = Unit {0}
+Bears Inhibitor w = w ≡ 1
+Bears Read w = w ≡ 1
+
+-- an arc of weight w, of the kind that stands from `at` on, is added as line k adds it, whatever the tokens are
+abbrev pub AddsArc : ℕ → ℕ → ℕ → ℕ → ℕ → Size → List ℕ → Stepped → List ℕ → Type 0
+AddsArc at k p t w s arcs r arcs′ =
+    (x : ArcKind) (tokens : List ℕ) → at ≡ offsetOf x → Bears x w
+    → Steps s (arraysAt tokens arcs) (addArc x k p t w) r (arraysAt tokens arcs′)
 
 -- the lines so far are accepted, and the net has this size
 abbrev pub acceptedWith : Size → Stepped

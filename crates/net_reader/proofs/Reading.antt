@@ -3,15 +3,15 @@ use Prim.Native.Nat.{ℕ, _+_, _*_, _≤_}
 use mathlib.Core.Path.{_≡_, refl, sym, ap, _∙_, subst}
 use mathlib.Core.Bool.{true, false, true≢false, false≢true}
 use mathlib.Core.Option.{none, some}
-use mathlib.Core.List.{List}
+use mathlib.Core.List.{List, List·Memᴰ·not-nil}
 use native.Mathlib.Omega.{arith}
 use lib.ListN.{length, replicate, length-replicate}
 use Rattle.spec.specs.Answer.{Answer, gives, refuses, _>>=_, returned}
-use Rattle.spec.specs.Lists.{any, sum, asCount, lowest}
+use Rattle.spec.specs.Lists.{any, first, sum, asCount, lowest}
 use Rattle.lists.specs.Arrays.{blank}
 use Rattle.columns.specs.Columns.{column, column-length, column-at}
 use Rattle.spec.specs.Text.{linesOf, byLines}
-use Rattle.spec.specs.Net.{Net as NetD, joined, takes, makes, inhibits, reads, addLine, emptyNet, whole, netOf, readNet}
+use Rattle.spec.specs.Net.{Net as NetD, weightOf, joined, takes, makes, inhibits, reads, addLine, emptyNet, whole, netOf, readNet}
 use Rattle.lines.specs.Agree.{Agrees, giving, refusing}
 use Rattle.lines.proofs.Answers.{isGiven, refuses≢gives, same-given}
 use Rattle.lines.proofs.ByLines.{Running, turn, stop, done}
@@ -97,9 +97,10 @@ blanks at h = record {
 
 -- arrays of zeros hold the empty net
 pub zeros : {tokens arcs : List ℕ} → Blank tokens arcs → Draft noSize (arraysAt tokens arcs) emptyNet
-unfolding emptyNet takes makes inhibits reads joined any asCount sum
+unfolding emptyNet takes makes inhibits reads weightOf joined any first asCount sum
 zeros b = rw (b .tokens, b .arcs) (record {
   holds = record {
+    weighed = λ c i. absurd (List·Memᴰ·not-nil i);
     counts = record { places = refl; transitions = refl; fewPlaces = omega arith; fewTransitions = omega arith; long = length-replicate {A = ℕ} 32 0; tokens = λ p. blank 32 p; most = omega arith };
     inputs = blanks 0 (omega arith);
     outputs = blanks 1024 (omega arith);

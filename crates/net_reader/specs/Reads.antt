@@ -1,10 +1,10 @@
 -- What the functions of the reader promise.
-use Prim.Native.Nat.{ℕ, _+_, _*_}
+use Prim.Native.Nat.{ℕ, _+_, _*_, _≤_, _<_}
 use mathlib.Core.Path.{_≡_}
 use mathlib.Core.Logic.{_⊎_}
 use mathlib.Core.Bool.{Bool, not, _||_, cond}
-use mathlib.Core.List.{List}
-use lib.ListN.{getD, replicate}
+use mathlib.Core.List.{List, [], _∷_}
+use lib.ListN.{length, getD, replicate}
 use lib.Dec.{eqb, ltb}
 use Rattle.lists.specs.Mapped.{Mapped}
 use Rattle.spec.specs.Answer.{Answer, gives, refuses, _>>=_, returned}
@@ -15,8 +15,10 @@ use Rattle.byte_entries.specs.Entries.{codeOf}
 use Rattle.spec.specs.Lists.{any, upTo}
 use Rattle.spec.specs.Text.{linesOf, byLines}
 use Rattle.spec.specs.Net.{Net as NetD, addPlace, addTransition, addArc, addLine, emptyNet, whole, readNet}
-use Rattle.line_forms.specs.Rows.{valueOf, isAlone, isOne, isTwo}
+use Rattle.line_forms.specs.Rows.{valueOf, isAlone, isOne, isTwo, isTriple}
 use Rattle.line_forms.specs.declared.Row.{Row}
+use Rattle.line_forms.specs.declared.Slot.the-variants.{Number}
+use Rattle.plain_lines.specs.Plain.{PlainLine}
 use Rattle.spec.specs.Values.{netValues}
 use Rattle.net.specs.declared.Net.{Net}
 use Rattle.spec.specs.declared.Class.the-variants.{Comma, LetterP, LetterT, LetterI, LetterO, LetterH, LetterR}
@@ -25,10 +27,11 @@ use Rattle.spec.specs.declared.ArcKind.the-variants.{Input, Output, Inhibitor, 
 use Rattle.net.specs.declared.Size.{Size}
 use Rattle.net.specs.declared.Stepped.{Stepped}
 use Rattle.net_reader.specs.declared.Took.{Took}
+use Rattle.net_reader.specs.declared.ArcLine.{ArcLine}
 use Rattle.net_reader.specs.declared.NetRead.{NetRead}
 use Rattle.net.specs.declared.NetAnswer.{NetAnswer}
 use Rattle.net.specs.NetArrays.{tokenCount, rowSize, kindCount, arcCount}
-use Rattle.net.specs.NetArrays.{Holds, Arrays, arrays, arraysAt, netWith, Draft, noSize, answerOf, Steps, HoldsAt}
+use Rattle.net.specs.NetArrays.{Holds, Arrays, arrays, arraysAt, netWith, Draft, noSize, answerOf, Bears, Steps, HoldsAt}
 
 -- all zero
 pub record Blank (ts xs : List ℕ) : Type 0 where
@@ -40,11 +43,13 @@ unfoldable pub addRow : ℕ → Row → NetD → Answer NetD
 addRow k r n =
     cond (isOne LetterP r) (addPlace k (valueOf (r .first)) n)
     (cond (isAlone LetterT r) (addTransition k n)
-    (cond (isTwo LetterI r) (addArc Input k (valueOf (r .first)) (valueOf (r .second)) n)
-    (cond (isTwo LetterO r) (addArc Output k (valueOf (r .second)) (valueOf (r .first)) n)
-    (cond (isTwo LetterH r) (addArc Inhibitor k (valueOf (r .first)) (valueOf (r .second)) n)
-    (cond (isTwo LetterR r) (addArc Read k (valueOf (r .first)) (valueOf (r .second)) n)
-    (refuses 11 k))))))
+    (cond (isTwo LetterI r) (addArc Input k (valueOf (r .first)) (valueOf (r .second)) 1 n)
+    (cond (isTriple LetterI r) (addArc Input k (valueOf (r .first)) (valueOf (r .second)) (valueOf (r .third)) n)
+    (cond (isTwo LetterO r) (addArc Output k (valueOf (r .second)) (valueOf (r .first)) 1 n)
+    (cond (isTriple LetterO r) (addArc Output k (valueOf (r .second)) (valueOf (r .first)) (valueOf (r .third)) n)
+    (cond (isTwo LetterH r) (addArc Inhibitor k (valueOf (r .first)) (valueOf (r .second)) 1 n)
+    (cond (isTwo LetterR r) (addArc Read k (valueOf (r .first)) (valueOf (r .second)) 1 n)
+    (refuses 11 k))))))))
 
 -- the entry of a letter of arcs: I, O, H or R
 abbrev pub ArcEntry : ℕ → Type 0
@@ -61,14 +66,28 @@ kindBy e =
     cond (eqb e (codeOf LetterO)) Output
     (cond (eqb e (codeOf LetterH)) Inhibitor (cond (eqb e (codeOf LetterR)) Read Input))
 
--- what line k adds with such a letter and two numbers: an output's place is the second
-unfoldable pub addLetter : ℕ → ℕ → ℕ → ℕ → NetD → Answer NetD
-addLetter e k v w n = cond (eqb e (codeOf LetterO)) (addArc Output k w v n) (addArc (kindBy e) k v w n)
+-- the line from a position up to `next` is a letter and two numbers, and weighs 1; or, where the letter may have a weight
+-- (I and O stand before H), a letter, two numbers and the weight
+abbrev pub IsArcLine : List ℕ → ℕ → ℕ → ArcLine → Type 0
+IsArcLine text at e r =
+    (PlainLine 4 text at (r .next) (Number (r .first) ∷ Number (r .second) ∷ []) × (r .weight ≡ 1))
+    ⊎ (PlainLine 4 text at (r .next) (Number (r .first) ∷ Number (r .second) ∷ Number (r .weight) ∷ []) × (e < codeOf LetterH))
+
+-- such a line is read, or the position stays
+pub record ArcLineAt (text : List ℕ) (at e : ℕ) (r : ArcLine) : Type 0 where
+  pub within : r .next ≤ length text
+  pub line : at < r .next → IsArcLine text at e r
+
+-- what line k adds with such a letter, two numbers and a weight: an output's place is the second number
+unfoldable pub addLetter : ℕ → ℕ → ArcLine → NetD → Answer NetD
+addLetter e k l n =
+    cond (eqb e (codeOf LetterO)) (addArc Output k (l .second) (l .first) (l .weight) n)
+    (addArc (kindBy e) k (l .first) (l .second) (l .weight) n)
 
 -- it is added, whatever the tokens are
-abbrev pub AddsLetter : ℕ → ℕ → ℕ → ℕ → Size → List ℕ → Stepped → List ℕ → Type 0
-AddsLetter b k v w s arcs r arcs′ =
-    (tokens : List ℕ) → Steps s (arraysAt tokens arcs) (addLetter b k v w) r (arraysAt tokens arcs′)
+abbrev pub AddsLetter : ℕ → ℕ → ArcLine → Size → List ℕ → Stepped → List ℕ → Type 0
+AddsLetter e k l s arcs r arcs′ =
+    (tokens : List ℕ) → Bears (kindBy e) (l .weight) → Steps s (arraysAt tokens arcs) (addLetter e k l) r (arraysAt tokens arcs′)
 
 -- the line that starts at a position is added as the definitions add line k, and the next one starts at `next`
 pub record Takes (text : List ℕ) (at k : ℕ) (s : Size) (a : Arrays) (r : Took) (a′ : Arrays) : Type 0 where

@@ -8,7 +8,8 @@ ghost use Rattle.byte_classes.specs.Table.{byteTable};
 ghost use Rattle.lines.specs.Lines.{EndedTo};
 ghost use Rattle.net.specs.NetArrays.{kindCount, readsAt, inputsIn, outputsIn};
 ghost use Rattle.net.specs.NetArrays.{offsetOf, goesOf, arraysAt, Fits, Few, Steps};
-ghost use Rattle.net_reader.specs.Reads.{addRow, ArcEntry, ArcLetter, kindBy, AddsLetter, Blank, anyCell, lacksOf, Takes};
+ghost use Rattle.plain_lines.specs.Plain.{Listed};
+ghost use Rattle.net_reader.specs.Reads.{addRow, ArcEntry, ArcLetter, kindBy, ArcLineAt, AddsLetter, Blank, anyCell, lacksOf, Takes};
 ghost use Rattle.net_reader.specs.Reads.{ReadsLines, Finishes, noNet, ReadsInto, Reads, Answers, Copies};
 use byte_classes::byte_table;
 use byte_entries::COMMA;
@@ -18,10 +19,12 @@ use byte_entries::LETTER_O;
 use byte_entries::LETTER_P;
 use byte_entries::LETTER_R;
 use byte_entries::LETTER_T;
+use digits::number_from;
 use fields::row_of;
 use line_forms::Row;
 use line_forms::is_alone;
 use line_forms::is_one;
+use line_forms::is_triple;
 use line_forms::is_two;
 use line_forms::number_in;
 use lines::Cursor;
@@ -30,6 +33,7 @@ use lines::ended_to;
 use lines::line_at;
 use lines::open_at;
 use lines::opens_with;
+use lines::past_ending;
 use net::ARCS;
 use net::INHIBITORS;
 use net::INPUTS;
@@ -50,7 +54,6 @@ use net::arc_at;
 use net::refused;
 use plain_lines::alone_at;
 use plain_lines::one_at;
-use plain_lines::two_at;
 use spec::Class;
 
 // What a line declares is added.
@@ -61,8 +64,10 @@ fn add_row(k: usize, r: Row, s: Size, tokens: &mut [u16; TOKENS], arcs: &mut [u8
 {
     let first = r.first;
     let second = r.second;
+    let third = r.third;
     let a = number_in(first);
     let b = number_in(second);
+    let w = number_in(third);
     if is_one(Class::LetterP, r) {
         return add_place(k, a, s, tokens);
     }
@@ -70,16 +75,22 @@ fn add_row(k: usize, r: Row, s: Size, tokens: &mut [u16; TOKENS], arcs: &mut [u8
         return add_transition(k, s);
     }
     if is_two(Class::LetterI, r) {
-        return add_arc(INPUTS, k, a, b, s, arcs);
+        return add_arc(INPUTS, k, a, b, 1, s, arcs);
+    }
+    if is_triple(Class::LetterI, r) {
+        return add_arc(INPUTS, k, a, b, w, s, arcs);
     }
     if is_two(Class::LetterO, r) {
-        return add_arc(OUTPUTS, k, b, a, s, arcs);
+        return add_arc(OUTPUTS, k, b, a, 1, s, arcs);
+    }
+    if is_triple(Class::LetterO, r) {
+        return add_arc(OUTPUTS, k, b, a, w, s, arcs);
     }
     if is_two(Class::LetterH, r) {
-        return add_arc(INHIBITORS, k, a, b, s, arcs);
+        return add_arc(INHIBITORS, k, a, b, 1, s, arcs);
     }
     if is_two(Class::LetterR, r) {
-        return add_arc(READS, k, a, b, s, arcs);
+        return add_arc(READS, k, a, b, 1, s, arcs);
     }
     refused(NetRefusal::Malformed(k), s)
 }
@@ -122,23 +133,69 @@ fn arc_kind(letter: u8) -> usize
     place as usize * KIND
 }
 
+// The two numbers of an arc's line, its weight, which is 1 where the line has none, and where the next line starts. A line
+// of another form leaves `next` at the position.
+pub struct ArcLine {
+    pub first: usize,
+    pub second: usize,
+    pub weight: usize,
+    pub next: usize,
+}
+
+// The arc's line that starts at a position with this letter, read in one walk. Only an input's and an output's line may
+// have a third number, the weight (02, 2026-06).
+fn arc_line_at(table: &[u8; 256], text: &[u8], at: usize, letter: u8) -> ArcLine
+    requires { ⌜ (now table ≡ byteTable) × Listed (now text) at ⌝ }
+    ensures { λ r. ⌜ ArcLineAt (now (text .entry)) at letter r ⌝ }
+{
+    let none = ArcLine {
+        first: 0,
+        second: 0,
+        weight: 1,
+        next: at,
+    };
+    let x = number_from(table, 4, text, at + 2);
+    if x.stop != COMMA {
+        return none;
+    }
+    let first = x.value;
+    let y = number_from(table, 4, text, x.end + 1);
+    let second = y.value;
+    let next = past_ending(table, text, y.stop, y.end);
+    if next != y.end {
+        return ArcLine {
+            first,
+            second,
+            weight: 1,
+            next,
+        };
+    }
+    if (y.stop != COMMA) | (LETTER_H <= letter) {
+        return none;
+    }
+    let z = number_from(table, 4, text, y.end + 1);
+    let next = past_ending(table, text, z.stop, z.end);
+    if next == z.end {
+        return none;
+    }
+    ArcLine {
+        first,
+        second,
+        weight: z.value,
+        next,
+    }
+}
+
 // One more arc of the letter's kind, with the two numbers as they stand on the line.
-fn add_letter(
-    letter: u8,
-    k: usize,
-    first: usize,
-    second: usize,
-    s: Size,
-    arcs: &mut [u8; ARCS],
-) -> Stepped
+fn add_letter(letter: u8, k: usize, line: ArcLine, s: Size, arcs: &mut [u8; ARCS]) -> Stepped
     requires { ⌜ ArcEntry letter × Fits s ⌝ }
-    ensures { λ q. ⌜ AddsLetter letter k first second s (now (arcs .entry)) q (now (arcs .exit)) ⌝ }
+    ensures { λ q. ⌜ AddsLetter letter k line s (now (arcs .entry)) q (now (arcs .exit)) ⌝ }
 {
     let kind = arc_kind(letter);
     if letter == LETTER_O {
-        return add_arc(kind, k, second, first, s, arcs);
+        return add_arc(kind, k, line.second, line.first, line.weight, s, arcs);
     }
-    add_arc(kind, k, first, second, s, arcs)
+    add_arc(kind, k, line.first, line.second, line.weight, s, arcs)
 }
 
 // The line at a cursor is added by the readers of lines and fields, whatever it is.
@@ -185,9 +242,9 @@ fn add_at(
     let at = c.at;
     let open = open_at(table, text, c);
     if arc_letter(open) {
-        let f = two_at(table, 4, text, at);
+        let f = arc_line_at(table, text, at, open.letter);
         if at < f.next {
-            let step = add_letter(open.letter, k, f.a, f.b, s, arcs);
+            let step = add_letter(open.letter, k, f, s, arcs);
             return Took { step, next: f.next };
         }
     }

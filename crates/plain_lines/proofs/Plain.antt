@@ -198,8 +198,11 @@ module _ {most : ℕ} {s : List ℕ} {at end stop : ℕ} {f : Slot} (read : (sto
 
 -- ---- a line that is read, and one of another form
 
+abbrev pub plain-at : {most : ℕ} {s : List ℕ} {at next : ℕ} {fs : List Slot} → next ≤ length s → PlainLine most s at next fs → at < next → LineTo s at next
+plain-at w l h = record { line = lineOf (l .bytes) true; lines = l .lines; on = h; within = omega arith }
+
 abbrev pub plain-to : {most : ℕ} {s : List ℕ} {at next : ℕ} {fs : List Slot} → MayRead most s at next fs → at < next → LineTo s at next
-plain-to r h = record { line = lineOf (r .line h .bytes) true; lines = r .line h .lines; on = h; within = omega (arith, r .within) }
+plain-to r h = plain-at (r .within) (r .line h) h
 
 pub stays : {most : ℕ} {s : List ℕ} {at : ℕ} {fs : List Slot} → at < length s → MayRead most s at at fs
 stays h = record { within = omega arith; line = λ l. absurd (omega arith) }

@@ -40,6 +40,12 @@ enum-known-x-6 c = search needs
 refused-requires-6 : tie.Need-refused-requires-6
 refused-requires-6 c κs = search needs
 
+enum-known-x-7 : tie.Need-enum-known-x-7
+enum-known-x-7 c = search needs
+
+refused-requires-7 : tie.Need-refused-requires-7
+refused-requires-7 c κs = search needs
+
 returns : tie.Need-returns
 returns c = rw (c .before .before .x .given .1) (c .refused .ensures)
 
@@ -58,5 +64,8 @@ returns-5 c = rw (c .before .before .x5 .given .1) (c .refused5 .ensures)
 returns-6 : tie.Need-returns-6
 returns-6 c = rw (c .before .before .x6 .given .1) (c .refused6 .ensures)
 
+returns-7 : tie.Need-returns-7
+returns-7 c = rw (c .before .before .x7 .given .1) (c .refused7 .ensures)
+
 pub of-net-refusal-spec : {M : Type 1} → statement M
-of-net-refusal-spec = tie.close (tie.spec enum-known-x refused-requires enum-known-x-2 refused-requires-2 enum-known-x-3 refused-requires-3 enum-known-x-4 refused-requires-4 enum-known-x-5 refused-requires-5 enum-known-x-6 refused-requires-6 returns returns-2 returns-3 returns-4 returns-5 returns-6)
+of-net-refusal-spec = tie.close (tie.spec enum-known-x refused-requires enum-known-x-2 refused-requires-2 enum-known-x-3 refused-requires-3 enum-known-x-4 refused-requires-4 enum-known-x-5 refused-requires-5 enum-known-x-6 refused-requires-6 enum-known-x-7 refused-requires-7 returns returns-2 returns-3 returns-4 returns-5 returns-6 returns-7)

@@ -9,8 +9,8 @@ use borrow.Author.Tests.{eqb-true}
 use Rattle.spec.specs.Net.{addPlace, addTransition}
 use Rattle.lists.specs.Laws.{and-true}
 use Rattle.plain_lines.proofs.Plain.{letter-entry, opened, lettered, listed}
-use Rattle.net_reader.specs.Reads.{addLetter, ArcLetter}
-use Rattle.net_reader.proofs.Plain.{arc-entry, arc-tells, place-line, transition-line, arc-line, plain-takes}
+use Rattle.net_reader.specs.Reads.{ArcLetter}
+use Rattle.net_reader.proofs.Plain.{arc-entry, arc-tells, place-line, transition-line, arc-takes, plain-takes}
 use Rattle.net_reader.proofs.add_at.Statement.{statement}
 use Rattle.net_reader.proofs.add_at.Tie as tie
 
@@ -24,17 +24,17 @@ arc-letter-requires c κs = search needs
 arc : (c : tie.Then1) → ArcLetter (c .before .before .open-at .result)
 arc c = c .before .arc-letter .ensures (c .if1 .taken)
 
-two-at-requires : tie.Need-two-at-requires
-two-at-requires c κs = let o = c .before .before .open-at .ensures in let a = arc (c) in
-    (c .before .before .before .before .pre .0, omega arith, omega arith, listed _ (c .before .before .before .before .args .c) (c .before .before .before .before .pre .2) o (arc-tells a) (arc-entry a) (a .comma))
+arc-line-at-requires : tie.Need-arc-line-at-requires
+arc-line-at-requires c κs = let o = c .before .before .open-at .ensures in let a = arc (c) in
+    (c .before .before .before .before .pre .0, listed _ (c .before .before .before .before .args .c) (c .before .before .before .before .pre .2) o (arc-tells a) (arc-entry a) (a .comma))
 
 add-letter-requires : tie.Need-add-letter-requires
 add-letter-requires c κs = (arc (c .before .before .before .before) .letter, c .before .before .before .before .before .before .before .before .pre .3)
 
 returns : tie.Need-returns
 returns c = let o = c .before .before .before .before .before .before .before .open-at .ensures in let a = arc (c .before .before .before .before .before) in
-    plain-takes (addLetter _ _ _ _) (c .before .before .before .before .two-at .ensures) (c .before .before .if2 .taken)
-    (λ m l. arc-line _ m l (opened _ (c .before .before .before .before .before .before .before .before .before .args .c) (c .before .before .before .before .before .before .before .before .before .pre .2) o (arc-tells a) .letter) a) (c .add-letter .ensures _)
+    arc-takes _ (c .before .before .before .before .arc-line-at .ensures) (c .before .before .if2 .taken) (a .letter)
+    (opened _ (c .before .before .before .before .before .before .before .before .before .args .c) (c .before .before .before .before .before .before .before .before .before .pre .2) o (arc-tells a) .letter) (c .add-letter .ensures _)
 
 opens-with-requires : tie.Need-opens-with-requires
 opens-with-requires c κs = search needs
@@ -77,4 +77,4 @@ returns-4 : tie.Need-returns-4
 returns-4 c = c .add-any .ensures
 
 pub add-at-spec : {M : Type 1} → statement M
-add-at-spec = tie.close (tie.spec open-at-requires arc-letter-requires two-at-requires add-letter-requires returns opens-with-requires one-at-requires add-place-requires returns-2 alone-at-requires add-transition-requires returns-3 add-any-requires returns-4)
+add-at-spec = tie.close (tie.spec open-at-requires arc-letter-requires arc-line-at-requires add-letter-requires returns opens-with-requires one-at-requires add-place-requires returns-2 alone-at-requires add-transition-requires returns-3 add-any-requires returns-4)
