@@ -1,2 +1,3 @@
 pub mod Sets
+pub mod Weights
 pub mod Walk

@@ -81,3 +81,31 @@ module _ {word bits d i : ℕ} (L : Left word bits d) (t : i ≡ trailingZeros 6
 
 pub nothing-left : {word bits d : ℕ} → Left word bits d → bits ≡ 0 → (j : ℕ) → d ≤ j → bit word j ≡ 0
 nothing-left L z j h = sym (L .left j h) ∙ ap (λ (x : ℕ). bit x j) z ∙ bit-zero j
+
+-- ---- what a loop over the bits of a word knows at the lowest bit that is left
+
+-- a word without bit i
+abbrev pub without : ℕ → ℕ → ℕ
+without bits i = bitAnd bits (bitXor bits ((1 * 2 ^ i) % 2 ^ 64))
+
+pub record Lowest (word bits d i : ℕ) : Type 0 where
+  pub low : i < 64
+  pub within : d ≤ i
+  pub set : bit word i ≡ 1
+  pub left : bit bits i ≡ 1
+  pub passed : (j : ℕ) → d ≤ j → j < i → bit word j ≡ 0
+  pub less : without bits i < bits
+  pub next : Left word (without bits i) (i + 1)
+
+pub at-lowest : {word bits d i : ℕ} → Left word bits d → i ≡ trailingZeros 64 bits → (bits ≡ 0 → ⊥) → Lowest word bits d i
+at-lowest L t z =
+    let b = lowest L t z in
+    record {
+      low = b .0;
+      within = left-within L t (b .1);
+      set = lowest-word L t (b .1);
+      left = b .1;
+      passed = skipped L t (b .1);
+      less = rest-less L t (b .1) (b .0);
+      next = left-rest L t (b .1) (b .0);
+    }

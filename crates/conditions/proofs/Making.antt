@@ -4,13 +4,12 @@ use mathlib.Core.Path.{_≡_, refl, sym, ap, _∙_}
 use mathlib.Core.Option.{none}
 use mathlib.Core.List.{List, [], _∷_, _++_, map, map-append, append-nil, append-assoc}
 use native.Mathlib.Omega.{arith}
-use lib.ListN.{length, getD, take, set, replicate, length-set, length-append, replicate-append-replicate}
+use lib.ListN.{length, getD, take, set, replicate, length-set, length-append}
 use lib.Seq.{getD-set-same, getD-set-other}
 use Rattle.spec.specs.Record.{Condition}
 use Rattle.spec.specs.Building.{madeBy}
 use Rattle.lists.specs.Laws
-use Rattle.bit_sets.specs.Bits.{bit}
-use Rattle.arc_sets.specs.Sets.{arcAt}
+use Rattle.arc_sets.specs.Sets.{weightAt, arcAt}
 use Rattle.lists.specs.Tables.{table-more}
 use Rattle.runs.specs.Flows.{flow, flows}
 use Rattle.runs.specs.Consume.{made-of}
@@ -51,14 +50,6 @@ module _ {n : ℕ} {ps gs fs : List ℕ} where
     conditions = b .conditions ∙ ap (λ z. z ++ ys) (a .conditions) ∙ append-assoc (conditionsIn n ps gs fs) xs ys;
   }
 
-  pub made-as : {xs ys : List Condition} {r s : ℕ} {ps′ gs′ fs′ : List ℕ} → Made xs n ps gs fs r ps′ gs′ fs′ → xs ≡ ys → r ≡ s → Made ys n ps gs fs s ps′ gs′ fs′
-  made-as a e q = rw (← e, ← q) a
-
-  -- the same once more
-  pub made-again : {c : Condition} {r s : ℕ} {ps′ gs′ fs′ ps″ gs″ fs″ : List ℕ} (k : ℕ)
-      → Made (replicate k c) n ps gs fs r ps′ gs′ fs′ → Made (c ∷ []) r ps′ gs′ fs′ s ps″ gs″ fs″ → Made (replicate (k + 1) c) n ps gs fs s ps″ gs″ fs″
-  made-again {c} k a b = rw (← replicate-append-replicate k 1 c) (made-then a b)
-
 -- ---- the outputs of an event
 
 -- the code of an event is a producer
@@ -69,14 +60,14 @@ made-by e p k l = ap (replicate k) same ∙ sym (Laws.map-replicate made-of k (f
     same = unfold fresh made-of flow madeBy in (rw (event-coded e l))
 
 -- of the next place, and of the next event
-pub outputs-next : (set e p k : ℕ) → e < 128 → k ≡ bit set p
-    → map made-of (tokensOf set e p) ++ replicate k (fresh e p) ≡ map made-of (tokensOf set e (p + 1))
-outputs-next set e p k l q =
-    ap (λ z. map made-of (tokensOf set e p) ++ z) (made-by e p k l)
-    ∙ sym (map-append made-of (tokensOf set e p) (replicate k (flow e p)))
-    ∙ ap (map made-of) (tokens-next set e p k q)
+pub outputs-next : (sets : List ℕ) (row e p k : ℕ) → e < 128 → k ≡ weightAt sets row p
+    → map made-of (tokensOf sets row e p) ++ replicate k (fresh e p) ≡ map made-of (tokensOf sets row e (p + 1))
+outputs-next sets row e p k l q =
+    ap (λ z. map made-of (tokensOf sets row e p) ++ z) (made-by e p k l)
+    ∙ sym (map-append made-of (tokensOf sets row e p) (replicate k (flow e p)))
+    ∙ ap (map made-of) (tokens-next sets row e p k q)
 
 pub outputs-after : (sets : List ℕ) (at e : ℕ) (ts : List ℕ) (i t : ℕ) → i < length ts → t ≡ getD ts i 0
-    → map made-of (flows (arcAt sets at) 64 e (take i ts)) ++ map made-of (tokensOf (getD sets (at + t) 0) (e + i) 64) ≡ map made-of (flows (arcAt sets at) 64 e (take (i + 1) ts))
+    → map made-of (flows (arcAt sets at) 64 e (take i ts)) ++ map made-of (tokensOf sets (at + t) (e + i) 64) ≡ map made-of (flows (arcAt sets at) 64 e (take (i + 1) ts))
 outputs-after sets at e ts i t l q =
-    sym (map-append made-of (flows (arcAt sets at) 64 e (take i ts)) (tokensOf (getD sets (at + t) 0) (e + i) 64)) ∙ ap (map made-of) (flows-next sets at e ts i t l q)
+    sym (map-append made-of (flows (arcAt sets at) 64 e (take i ts)) (tokensOf sets (at + t) (e + i) 64)) ∙ ap (map made-of) (flows-next sets at e ts i t l q)

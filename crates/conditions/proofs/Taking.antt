@@ -7,7 +7,7 @@ use mathlib.Core.List.{List, [], _∷_, _++_}
 use native.Mathlib.Decide.{ℕ-discrete, decLe}
 use native.Mathlib.Omega.{arith}
 use lib.Dec.{eqb}
-use lib.ListN.{length, getD, set, replicate, length-set, replicate-append-replicate}
+use lib.ListN.{length, getD, set, length-set}
 use lib.Seq.{getD-set-same, getD-set-other}
 use borrow.Author.Tests.{ne-eqb}
 use Rattle.spec.specs.Record.{Condition, noCondition}
@@ -134,10 +134,3 @@ module _ {n : ℕ} {ps fs nx : List ℕ} where
 
   pub took-then : {xs ys : List Flow} {fs′ nx′ fs″ nx″ : List ℕ} → Took xs n ps fs nx fs′ nx′ → Took ys n ps fs′ nx′ fs″ nx″ → Took (xs ++ ys) n ps fs nx fs″ nx″
   took-then {xs} {ys} a b = record { ready = b .ready; conditions = λ gs. b .conditions gs ∙ ap (taking ys) (a .conditions gs) ∙ sym (taking-append xs ys (conditionsIn n ps gs fs)) }
-
-  pub took-as : {xs ys : List Flow} {fs′ nx′ : List ℕ} → Took xs n ps fs nx fs′ nx′ → xs ≡ ys → Took ys n ps fs nx fs′ nx′
-  took-as a e = rw (← e) a
-
-  -- the same token once more
-  pub took-again : {x : Flow} {fs′ nx′ fs″ nx″ : List ℕ} (k : ℕ) → Took (replicate k x) n ps fs nx fs′ nx′ → Took (x ∷ []) n ps fs′ nx′ fs″ nx″ → Took (replicate (k + 1) x) n ps fs nx fs″ nx″
-  took-again {x} k a b = rw (← replicate-append-replicate k 1 x) (took-then a b)

@@ -9,17 +9,16 @@ use lib.ListN.{length, getD, take}
 use Rattle.spec.specs.Lists.{upTo}
 use Rattle.spec.specs.Record.{Condition}
 use Rattle.columns.specs.Columns.{column}
-use Rattle.bit_sets.specs.Bits.{bit}
-use Rattle.arc_sets.specs.Sets.{madeAt, arcAt}
+use Rattle.arc_sets.specs.Sets.{madeAt, weightAt, arcAt}
 use Rattle.run_counts.specs.Tally.{countsLong, countsOfKind}
 use Rattle.runs.specs.Flows.{Flow, flow, flows, spread}
 use Rattle.runs.specs.Consume.{taking}
 use Rattle.conditions.specs.declared.Extent.{Extent}
 use Rattle.record_columns.specs.Layout.{recordBytes, placesAt, producersAt, consumersAt, conditionsMost}
 
--- the tokens that event e moves in the first n places, one in each place of a set
-unfoldable pub tokensOf : ℕ → ℕ → ℕ → List Flow
-tokensOf set e n = map (flow e) (spread (bit set) n)
+-- the tokens that event e moves in the first n places, as many in each as the arc of a row weighs there
+unfoldable pub tokensOf : List ℕ → ℕ → ℕ → ℕ → List Flow
+tokensOf sets row e n = map (flow e) (spread (weightAt sets row) n)
 
 -- the tokens that the next step of a run takes, and those that it makes: each with its event and its place
 abbrev pub takenNext : (sets step : List ℕ) → ℕ → Extent → List Flow

@@ -4,14 +4,16 @@ ghost use Prim.Native.Nat.{_+_, _≤_, _<_};
 ghost use lib.ListN.{length, replicate};
 ghost use Rattle.runs.specs.Flows.{flow};
 ghost use Rattle.runs.specs.Consume.{made-of};
-ghost use Rattle.arc_sets.specs.Sets.{Within};
-ghost use Rattle.steps.specs.StepArrays.{IsStep, Within32};
+ghost use Rattle.arc_sets.specs.Sets.{rowCount, Within};
+ghost use Rattle.steps.specs.StepArrays.{IsStep};
 ghost use Rattle.conditions.specs.Conditions.{tokensOf, takenNext, madeNext, placeColumn, consumerColumn};
 ghost use Rattle.conditions.specs.Conditions.{FirstFree, fresh, ReadyAt, TookAt, MadeAt};
 ghost use Rattle.record_columns.specs.Layout.{recordBytes};
 use arc_sets::MADE;
 use arc_sets::SETS;
 use arc_sets::lowest;
+use arc_sets::set_at;
+use arc_sets::weight;
 use machine_numbers::wide;
 use machine_numbers::wide_word;
 use record_columns::CONSUMERS;
@@ -66,16 +68,43 @@ fn take_one(e: usize, p: usize, n: usize, rec: &mut [u8], counts: &mut [u32; COU
     counts[NEXT + p] = (i + 1) as u32;
 }
 
-// It takes one of each place of a set, by place.
-fn take_event(e: usize, set: u64, n: usize, rec: &mut [u8], counts: &mut [u32; COUNTS])
-    requires { ⌜ (e < 128) × Within32 set × ReadyAt n (now rec) (now counts) ⌝ }
-    ensures { λ _. ⌜ TookAt (tokensOf set e 64) n (now (rec .entry)) (now (counts .entry))
+// It takes so many of them, one after the other.
+fn take_times(
+    e: usize,
+    p: usize,
+    count: usize,
+    n: usize,
+    rec: &mut [u8],
+    counts: &mut [u32; COUNTS],
+)
+    requires { ⌜ (e < 128) × (p < 32) × ReadyAt n (now rec) (now counts) ⌝ }
+    ensures { λ _. ⌜ TookAt (replicate count (flow e p)) n (now (rec .entry)) (now (counts .entry))
         (now (rec .exit)) (now (counts .exit)) ⌝ }
 {
-    let mut bits = set;
+    let mut taken: usize = 0;
+    while taken < count {
+        take_one(e, p, n, rec, counts);
+        taken += 1;
+    }
+}
+
+// It takes what the arcs of a row stand for, by place.
+fn take_event(
+    e: usize,
+    sets: &[u64; SETS],
+    row: usize,
+    n: usize,
+    rec: &mut [u8],
+    counts: &mut [u32; COUNTS],
+)
+    requires { ⌜ (e < 128) × (row < rowCount) × Within 32 (now sets) × ReadyAt n (now rec) (now counts) ⌝ }
+    ensures { λ _. ⌜ TookAt (tokensOf (now (sets .entry)) row e 64) n (now (rec .entry)) (now (counts .entry))
+        (now (rec .exit)) (now (counts .exit)) ⌝ }
+{
+    let mut bits = set_at(sets, row);
     while bits != 0 {
         let p = lowest(bits);
-        take_one(e, p, n, rec, counts);
+        take_times(e, p, weight(sets, row, p), n, rec, counts);
         bits = bits & (bits ^ (1 << p));
     }
 }
@@ -98,7 +127,7 @@ pub fn take_step(
     let n = x.conditions;
     let mut i: usize = 0;
     while i < count {
-        take_event(e + i, sets[wide(step[i])], n, rec, counts);
+        take_event(e + i, sets, wide(step[i]), n, rec, counts);
         i += 1;
     }
 }
@@ -120,17 +149,18 @@ pub fn make_times(v: u8, p: usize, count: usize, n: usize, rec: &mut [u8]) -> us
     n + count
 }
 
-// Event e makes one of each place of a set, by place.
-fn make_event(e: usize, set: u64, n: usize, rec: &mut [u8]) -> usize
-    requires { ⌜ (e < 128) × Within32 set × (n + length (tokensOf set e 64) ≤ 512)
-        × (recordBytes ≤ length (now rec)) ⌝ }
-    ensures { λ r. ⌜ MadeAt (map made-of (tokensOf set e 64)) n (now (rec .entry)) r (now (rec .exit)) ⌝ }
+// Event e makes what the arcs of a row stand for, by place.
+fn make_event(e: usize, sets: &[u64; SETS], row: usize, n: usize, rec: &mut [u8]) -> usize
+    requires { ⌜ (e < 128) × (row < rowCount) × Within 32 (now sets)
+        × (n + length (tokensOf (now sets) row e 64) ≤ 512) × (recordBytes ≤ length (now rec)) ⌝ }
+    ensures { λ r. ⌜ MadeAt (map made-of (tokensOf (now (sets .entry)) row e 64)) n
+        (now (rec .entry)) r (now (rec .exit)) ⌝ }
 {
     let mut r = n;
-    let mut bits = set;
+    let mut bits = set_at(sets, row);
     while bits != 0 {
         let p = lowest(bits);
-        r = make_times(e as u8, p, 1, r, rec);
+        r = make_times(e as u8, p, weight(sets, row, p), r, rec);
         bits = bits & (bits ^ (1 << p));
     }
     r
@@ -153,7 +183,7 @@ pub fn make_step(
     let mut r = x.conditions;
     let mut i: usize = 0;
     while i < count {
-        r = make_event(e + i, sets[MADE + wide(step[i])], r, rec);
+        r = make_event(e + i, sets, MADE + wide(step[i]), r, rec);
         i += 1;
     }
     r

@@ -12,8 +12,9 @@ use Rattle.lists.specs.Laws.{here, there}
 use Rattle.lists.specs.Tables.{length-table, table-same}
 use Rattle.lists.specs.Grouped.{length-by}
 use Rattle.arc_sets.specs.Sets.{arcAt, Says, HoldsArcs}
+use Rattle.arc_sets.specs.Weights.{arc-within}
 use Rattle.steps.specs.StepArrays.{HoldsStep}
-use Rattle.steps.proofs.Held.{arc-beyond}
+use Rattle.steps.proofs.Rows.{step-known}
 use Rattle.conditions.proofs.Tokens.{spread-more}
 use Rattle.runs.specs.Flows.{flow, spread, flows, in-flows, flows-sum}
 use Rattle.runs.specs.Consume.{taking, made-of, takeAll-taking, makeAll-makings}
@@ -40,17 +41,17 @@ spread-places f m (suc k) z =
     ∙ append-nil (spread f (m + k))
     ∙ spread-places f m k z
 
-flows-places : (f : ℕ → ℕ → ℕ) (m k e : ℕ) (ts : List ℕ) → ((t p : ℕ) → m ≤ p → f t p ≡ 0) → flows f (m + k) e ts ≡ flows f m e ts
+flows-places : (f : ℕ → ℕ → ℕ) (m k e : ℕ) (ts : List ℕ) → ((t p : ℕ) → In t ts → m ≤ p → f t p ≡ 0) → flows f (m + k) e ts ≡ flows f m e ts
 unfolding flows
 flows-places f m k e [] z = refl
-flows-places f m k e (t ∷ ts) z = ap₂ (λ xs ys. map (flow e) xs ++ ys) (spread-places (f t) m k (z t)) (flows-places f m k (suc e) ts z)
+flows-places f m k e (t ∷ ts) z = ap₂ (λ xs ys. map (flow e) xs ++ ys) (spread-places (f t) m k (λ p. z t p here)) (flows-places f m k (suc e) ts (λ u p i. z u p (there i)))
 
 module _ {N : Net} {sets xs ts : List ℕ} {m count : ℕ} (A : HoldsArcs N sets m) (S : HoldsStep xs count ts) (K : (t : ℕ) → In t ts → t < N .transitions) where
-  pub flows-held : (a e : ℕ) {f : ℕ → ℕ → ℕ} → Says N m sets a f → flows (arcAt sets a) 64 e (take count xs) ≡ flows f m e ts
-  flows-held a e {f} C =
+  pub flows-held : (a e : ℕ) {f : ℕ → ℕ → ℕ} → a ≤ 96 → Says N m sets a f → flows (arcAt sets a) 64 e (take count xs) ≡ flows f m e ts
+  flows-held a e {f} l C =
       ap (flows (arcAt sets a) 64 e) (S .events)
       ∙ ap (λ (z : ℕ). flows (arcAt sets a) z e ts) (omega (arith, A .few))
-      ∙ flows-places (arcAt sets a) m (64 - m) e ts (λ t p h. arc-beyond A a t p h)
+      ∙ flows-places (arcAt sets a) m (64 - m) e ts (λ t p i h. arc-within sets (A .within) a t p (omega (arith, step-known (S .step) t (rw (S .events) i))) h)
       ∙ flows-same (arcAt sets a) f m e ts (λ t p i h. C t p (K t i) h)
 
 -- how many there are, by place
@@ -63,11 +64,11 @@ flows-length f m e ts =
 
 module _ {sets xs ts : List ℕ} {size m : ℕ} (N : Net) (A : HoldsArcs N sets m) (S : HoldsStep xs size ts) (K : (t : ℕ) → In t ts → t < N .transitions)
     {k : ℕ} {h h′ : History} (r : Run) (es : eventsOf h ≡ r .events) (cs : conditionsOf h ≡ r .conditions) (G : Grown k (take size xs) sets h h′) where
-  step-flows : (a : ℕ) {f : ℕ → ℕ → ℕ} → Says N m sets a f → flows (arcAt sets a) 64 (h .events) (take size xs) ≡ flows f (places N) (length (r .events)) ts
+  step-flows : (a : ℕ) {f : ℕ → ℕ → ℕ} → a ≤ 96 → Says N m sets a f → flows (arcAt sets a) 64 (h .events) (take size xs) ≡ flows f (places N) (length (r .events)) ts
   unfolding eventsOf eventsIn
-  step-flows a {f} C =
+  step-flows a {f} l C =
       let e : h .events ≡ length (r .events) = sym (length-table (eventIn (h .transitions) (h .steps)) (h .events)) ∙ ap length es in
-      flows-held A S K a (h .events) C ∙ ap₂ (λ (a b : ℕ). flows f a b ts) (A .places) e
+      flows-held A S K a (h .events) l C ∙ ap₂ (λ (a b : ℕ). flows f a b ts) (A .places) e
 
   pub events-grown : eventsOf h′ ≡ playStep N k ts r .events
   unfolding playStep
@@ -78,5 +79,5 @@ module _ {sets xs ts : List ℕ} {size m : ℕ} (N : Net) (A : HoldsArcs N sets 
   conditions-grown =
       let n = length (r .events) in
       G .conditions
-      ∙ ap₂ (λ ds ys. ds ++ map made-of ys) (ap₂ taking (step-flows 0 (A .inputs)) cs ∙ sym (takeAll-taking N n ts (r .conditions))) (step-flows 32 (A .outputs))
+      ∙ ap₂ (λ ds ys. ds ++ map made-of ys) (ap₂ taking (step-flows 0 (omega arith) (A .inputs)) cs ∙ sym (takeAll-taking N n ts (r .conditions))) (step-flows 32 (omega arith) (A .outputs))
       ∙ ap (λ ds. takeAll N n ts (r .conditions) ++ ds) (sym (makeAll-makings N n ts))

@@ -46,7 +46,7 @@ module _ {sets xs : List ℕ} {size m k : ℕ} {x : Run} (N : Net) (ts : List �
         ap length (makeAll-makings N n ts),
         length-map (flows (makes N) (places N) n ts) made-of,
         ap (λ (z : ℕ). length (flows (makes N) z n ts)) (A .places),
-        ap length (flows-held A S K 32 n (A .outputs)),
+        ap length (flows-held A S K 32 n (omega arith) (A .outputs)),
         made-total sets n (take size xs),
       )
 

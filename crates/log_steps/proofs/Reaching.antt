@@ -57,7 +57,7 @@ tally-small R =
 -- a step that is built
 module _ {xs : List ℕ} {count : ℕ} {sets : List ℕ} {x : Extent} {rec steps counts : List ℕ} (P : Buildable xs count sets x rec steps counts) where
   pub sets-within : Within 32 sets
-  sets-within i p h = P .reached .arcs .within i p (omega (arith, P .reached .arcs .few))
+  sets-within i p l h = P .reached .arcs .within i p l (omega (arith, P .reached .arcs .few))
 
   -- a refusal says nothing of the arrays
   pub refuses-on : (w : LogRefusal) (n : ℕ) {steps′ counts′ : List ℕ} → logRefused {A = Unit {0}} w ≡ refuses n (x .line) → length counts′ ≡ length counts
@@ -99,17 +99,18 @@ module _ {xs : List ℕ} {count : ℕ} {sets : List ℕ} {x : Extent} {rec steps
     }
 
     module _ {new : List ℕ} (Y : Summed (arcAt sets 64) (take count xs) 32 mid new) where
-      step-most : (a p : ℕ) → over (arcAt sets a) (take count xs) p ≤ 128
+      -- 128 events, of arcs that weigh at most 16
+      step-most : (a p : ℕ) → over (arcAt sets a) (take count xs) p ≤ 2048
       step-most a p = omega (arith, over-most sets a (take count xs) p, length-take-le count xs (omega (arith, P .step .long, P .step .few)), P .step .few)
 
       pub tally-grows : {v w : ℕ} → v ≡ sumOf (bothOf sets) (take count xs) → w ≡ sumOf (sizeOf sets 96) (take count xs)
           → Tallies sets (x .places) (take count xs) (tallyAt (x .own) (x .reads) counts) (tallyAt (x .own + v) (x .reads + w) new)
       tally-grows e f = tally-after sets U Y (P .reached .arcs .few) (P .wide) (x .own) (x .reads) e f
 
-      pub held-most : AtMost 1000000 (x .places) (column 0 32 new)
+      pub held-most : AtMost 2560 (x .places) (column 0 32 new)
       held-most p h = omega (arith, tally-grows refl refl .held p h, tally-small (P .reached) .held p h, step-most 32 p)
 
-      pub watched-most : AtMost 1000000 (x .places) (column 32 32 new)
+      pub watched-most : AtMost 2560 (x .places) (column 32 32 new)
       watched-most p h = omega (arith, tally-grows refl refl .watched p h, tally-small (P .reached) .watched p h, step-most 64 p)
 
       pub grown-wide : length new ≡ length counts

@@ -105,7 +105,7 @@ module _ {log sets : List ℕ} {x : Extent} {rec steps counts marking step : Lis
   few-places = arcs-now .few
 
   pub within : Within 32 sets
-  within i p h = B .arcs .within i p (omega (arith, B .arcs .few))
+  within i p l h = B .arcs .within i p l (omega (arith, B .arcs .few))
 
   module _ {r : StepLine} {step′ : List ℕ} (S : LineAt log at sets (positionOf run) marking′ r step′) where
     line-on : (a : LogAnswer) {y : Run} {mk′ : List ℕ} → LinesOn sets (run .places) (run .transitions) (run .line) (S .found .line) (runAt run rec′ steps′ counts′) marking′ a y mk′

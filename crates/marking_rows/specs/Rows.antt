@@ -42,7 +42,8 @@ rowIn places tokens arcs ts p =
 
 -- ---- sums by place: at p what a place had and what was made there, at takenAt + p what was taken
 
--- so small are those of m events
+-- So small are those of m events, since an arc stands in a byte: 33,152 of 128 events, which 16 bits hold. An arc weighs 16 at
+-- most (02, 2026-06), so that no sum is more than 2,560; and what is left in a place is at most the 512 conditions of a record.
 abbrev pub Room : List ℕ → ℕ → Type 0
 Room sums m = (p : ℕ) → p < sumCount → getD sums p 0 ≤ 512 + 255 * m
 

@@ -4,21 +4,25 @@ use mathlib.Core.Path.{_≡_, refl, ap, ap₂, _∙_}
 use mathlib.Core.List.{List, map}
 use native.Mathlib.Nat.{mul-le-mul}
 use native.Mathlib.Omega.{arith}
-use lib.ListN.{length, take}
+use lib.ListN.{length, getD, take}
 use Rattle.spec.specs.Lists.{In, upTo, count, sumOf, asCount}
 use Rattle.spec.specs.Net.{Net, places, makes, inhibits, reads}
 use Rattle.spec.specs.Building.{Run, inStep, takeAll, madeBy, makeAll, playStep, consumedBy, marksDue}
 use Rattle.lists.specs.Laws
 use Rattle.lists.specs.Grouped.{sumOf-scaled}
+use Rattle.bit_sets.specs.Bits.{bit}
 use Rattle.arc_sets.specs.Sets.{arcAt, HoldsArcs}
+use Rattle.arc_sets.specs.Weights.{weight-test, arc-within}
 use Rattle.arc_sets.proofs.Making.{sum-places}
 use Rattle.steps.specs.StepArrays.{HoldsStep}
-use Rattle.steps.proofs.Held.{over-held, arc-beyond}
+use Rattle.steps.proofs.Rows.{step-known}
+use Rattle.steps.proofs.Held.{over-held}
 use Rattle.runs.specs.Flows.{flows, flows-sum}
 use Rattle.runs.specs.Consume.{made-of, makeAll-makings, count-blind}
 use Rattle.runs.specs.Built.{Good}
 use Rattle.runs.specs.MarkCounts.{readsOf}
 use Rattle.run_counts.specs.Tally.{inPlace, watchedFrom, ownOf, ownAll, readsAll, sizeOf, bothOf, timesAt, AtMost, Tally, Small, Tallies, Tallied}
+use Rattle.run_counts.proofs.Weights.{times-none}
 use Rattle.run_counts.proofs.Marks.{marks-counted}
 
 -- ---- the tally after a step
@@ -60,24 +64,29 @@ module _ {sets xs ts : List ℕ} {size m : ℕ} (N : Net) (A : HoldsArcs N sets 
   reads-more = events-more (readsOf N)
 
   -- what the sets say of the events and the places is what the definitions say
-  step-summed : (h f : ℕ → ℕ → ℕ) → ((u p : ℕ) → m ≤ p → h u p ≡ 0) → ((u p : ℕ) → u < N .transitions → p < m → h u p ≡ f u p)
+  step-summed : (h f : ℕ → ℕ → ℕ) → ((u p : ℕ) → u < 32 → m ≤ p → h u p ≡ 0) → ((u p : ℕ) → u < N .transitions → p < m → h u p ≡ f u p)
       → sumOf (λ u. sumOf (h u) (upTo 64)) (take size xs) ≡ sumOf (λ u. sumOf (f u) (upTo (places N))) ts
   step-summed h f z e =
       ap (sumOf (λ u. sumOf (h u) (upTo 64))) (S .events)
       ∙ Laws.sumOf-same _ _ ts (λ u i.
-      sum-places m (h u) (omega (arith, A .few)) (z u)
+      sum-places m (h u) (omega (arith, A .few)) (λ p. z u p (step-known (S .step) u (rw (S .events) i)))
       ∙ ap (λ (n : ℕ). sumOf (h u) (upTo n)) (A .places)
       ∙ Laws.sumOf-same _ _ (upTo (places N)) (λ p j. e u p (K u i) (omega (arith, A .places, Laws.in-upTo (places N) j))))
 
+  -- a set of inhibitors has a place, or has it not
+  inhibiting : (u p : ℕ) → u < N .transitions → p < m → bit (getD sets (64 + u) 0) p ≡ asCount (inhibits N p u)
+  unfolding arcAt
+  inhibiting u p k l = weight-test sets (64 + u) p (inhibits N p u) (A .inhibitors u p k l)
+
   own-summed : sumOf (bothOf sets) (take size xs) ≡ sumOf (ownOf N) ts
   unfolding bothOf ownOf
-  own-summed = step-summed (λ u p. arcAt sets 64 u p * arcAt sets 32 u p) (λ u p. asCount (inhibits N p u) * makes N u p)
-      (λ u p h. ap (λ (z : ℕ). z * arcAt sets 32 u p) (arc-beyond A 64 u p h) ∙ omega arith)
-      (λ u p k l. ap₂ (λ (a b : ℕ). a * b) (A .inhibitors u p k l) (A .outputs u p k l))
+  own-summed = step-summed (λ u p. bit (getD sets (64 + u) 0) p * arcAt sets 32 u p) (λ u p. asCount (inhibits N p u) * makes N u p)
+      (λ u p k h. times-none (arcAt sets 32 u p) (A .within (64 + u) p (omega arith) h))
+      (λ u p k l. ap₂ (λ (a b : ℕ). a * b) (inhibiting u p k l) (A .outputs u p k l))
 
   reads-summed : sumOf (sizeOf sets 96) (take size xs) ≡ sumOf (readsOf N) ts
   unfolding sizeOf readsOf
-  reads-summed = step-summed (arcAt sets 96) (λ u p. asCount (reads N p u)) (arc-beyond A 96) (A .reads)
+  reads-summed = step-summed (arcAt sets 96) (λ u p. asCount (reads N p u)) (λ u p k h. arc-within sets (A .within) 96 u p (omega arith) h) (A .reads)
 
   pub tally-grown : Tallied N (playStep N k ts r) t′
   tally-grown = record {
@@ -146,8 +155,8 @@ module _ {m k : ℕ} (N : Net) (r : Run) {t : Tally} (e : m ≡ places N) (G : G
       few = few;
       longHeld = T .longHeld;
       longWatched = T .longWatched;
-      held = λ p l. omega (arith, held-low p l);
-      watched = λ p l. omega (arith, watched-low p l);
-      own = omega (arith, own-low);
-      reads = omega (arith, reads-low);
+      held = held-low;
+      watched = watched-low;
+      own = own-low;
+      reads = reads-low;
     }

@@ -1,3 +1,4 @@
 pub mod Marks
+pub mod Weights
 pub mod Tallying
 pub mod Held

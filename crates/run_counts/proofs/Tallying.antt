@@ -1,10 +1,9 @@
 -- Sums and products that a loop adds up, and the tally after a step.
-use Prim.Native.Nat.{ℕ, zero, suc, _+_, _*_, _≤_, _<_, min}
+use Prim.Native.Nat.{ℕ, _+_, _*_, _≤_, _<_}
 use mathlib.Core.Path.{_≡_, refl, sym, ap, ap₂, _∙_}
 use mathlib.Core.List.{List, []}
 use native.Mathlib.Nat.{mul-le-mul, le-of-eq, le-trans}
 use native.Mathlib.Omega.{arith}
-use lib.Bits.{bitAnd}
 use lib.ListN.{length, getD, take}
 use lib.Seq.{ext-getD}
 use Rattle.spec.specs.Lists.{upTo, sumOf}
@@ -12,7 +11,6 @@ use Rattle.lists.specs.Laws
 use Rattle.lists.specs.Along.{sumOf-more}
 use Rattle.lists.specs.Grouped.{sumOf-next}
 use Rattle.columns.specs.Columns.{column, column-at, column-length}
-use Rattle.bit_sets.specs.Bits.{bit, bit-most, bit-and}
 use Rattle.arc_sets.specs.Sets.{arcAt}
 use Rattle.steps.specs.StepArrays.{over, Summed}
 use Rattle.run_counts.specs.Tally.{sizeOf, bothOf, timesAt, tallyAt, Tallies}
@@ -25,25 +23,6 @@ all-none f = refl
 
 pub all-next : {v t : ℕ} (f : ℕ → ℕ) (ts : List ℕ) (i r : ℕ) → i < length ts → r ≡ sumOf f (take i ts) → t ≡ getD ts i 0 → v ≡ f t → r + v ≡ sumOf f (take (i + 1) ts)
 all-next f ts i r l h e q = ap₂ (λ (x y : ℕ). x + y) h (q ∙ ap f e) ∙ sym (sumOf-more 0 f ts i l)
-
-pub size-of : (sets : List ℕ) (at t : ℕ) → sumOf (bit (getD sets (at + t) 0)) (upTo 64) ≡ sizeOf sets at t
-unfolding sizeOf arcAt
-size-of sets at t = refl
-
--- a place that both sets have
-both-bits : (a b p : ℕ) → bit (bitAnd a b) p ≡ bit b p * bit a p
-both-bits a b p = go (bit a p) (bit b p) (bit-and a b p) (bit-most a p) (bit-most b p)
-  where
-    go : {z : ℕ} (x y : ℕ) → z ≡ min x y → x < 2 → y < 2 → z ≡ y * x
-    go zero y e h k = omega (arith, e)
-    go (suc zero) zero e h k = omega (arith, e)
-    go (suc zero) (suc zero) e h k = omega (arith, e)
-    go (suc zero) (suc (suc y)) e h k = absurd (omega arith)
-    go (suc (suc x)) y e h k = absurd (omega arith)
-
-pub both-of : (sets : List ℕ) (t : ℕ) → sumOf (bit (bitAnd (getD sets (32 + t) 0) (getD sets (64 + t) 0))) (upTo 64) ≡ bothOf sets t
-unfolding bothOf arcAt
-both-of sets t = Laws.sumOf-same _ _ (upTo 64) (λ p i. both-bits (getD sets (32 + t) 0) (getD sets (64 + t) 0) p)
 
 -- ---- products
 

@@ -10,7 +10,8 @@ use Rattle.spec.specs.Net.{Net, places, makes, inhibits}
 use Rattle.spec.specs.Record.{Condition}
 use Rattle.spec.specs.Building.{Event, Run}
 use Rattle.columns.specs.Columns.{column}
-use Rattle.arc_sets.specs.Sets.{madeAt, guardsAt, readAt, arcAt}
+use Rattle.bit_sets.specs.Bits.{bit}
+use Rattle.arc_sets.specs.Sets.{madeAt, guardsAt, readAt, moreAt, arcAt}
 use Rattle.steps.specs.StepArrays.{over}
 use Rattle.runs.specs.MarkCounts.{readsOf}
 
@@ -52,13 +53,17 @@ heldColumn counts = column 0 countsOfKind counts
 abbrev pub watchedColumn : List ℕ → List ℕ
 watchedColumn counts = column watchedAt countsOfKind counts
 
--- how many places transition t has in the sets that start at `at`
+-- the weight of a row's arc at place p, where a set has p
+unfoldable pub weighed : List ℕ → ℕ → ℕ → ℕ → ℕ
+weighed sets row set p = bit set p * (1 + moreAt sets row p)
+
+-- how many tokens the arcs of transition t stand for, by the rows that start at `at`
 unfoldable pub sizeOf : List ℕ → ℕ → ℕ → ℕ
 sizeOf sets at t = sumOf (arcAt sets at t) (upTo 64)
 
--- how many places it makes a token in inhibit it
+-- how many tokens it makes in places that inhibit it
 unfoldable pub bothOf : List ℕ → ℕ → ℕ
-bothOf sets t = sumOf (λ p. arcAt sets guardsAt t p * arcAt sets madeAt t p) (upTo 64)
+bothOf sets t = sumOf (λ p. bit (getD sets (guardsAt + t) 0) p * arcAt sets madeAt t p) (upTo 64)
 
 -- what is counted of a run: of each place its conditions and the events that it inhibits; how often an event made a
 -- condition in a place that inhibits it, and how many places the events read
@@ -80,23 +85,27 @@ timesAt xs ys p = getD xs p 0 * getD ys p 0
 abbrev pub AtMost : ℕ → ℕ → List ℕ → Type 0
 AtMost b n xs = (p : ℕ) → p < n → getD xs p 0 ≤ b
 
--- of each of the first m places, the conditions and the events that it inhibits are few enough to be multiplied
+-- Of each of the first m places, the conditions and the events that it inhibits are few enough to be multiplied: at most 512
+-- of a run, and what a step adds to one place, 128 · 16, before it is refused for too many.
 abbrev pub Countable : ℕ → List ℕ → Type 0
-Countable m counts = (m ≤ 32) × AtMost 1000000 m (heldColumn counts) × AtMost 1000000 m (watchedColumn counts)
+Countable m counts = (m ≤ 32) × AtMost 2560 m (heldColumn counts) × AtMost 2560 m (watchedColumn counts)
 
 -- in the first m places, the conditions times the events that the place inhibits
 abbrev pub productsOf : List ℕ → ℕ → ℕ
 productsOf counts m = sumOf (timesAt (heldColumn counts) (watchedColumn counts)) (upTo m)
 
--- what adding to a tally relies on
+-- What adding to a tally relies on, so that its counts stay below 2 ^ 32. A run has at most 512 conditions and 128 events,
+-- each of which reads at most 32 places; and what its events made in places that inhibit them is part of what the places
+-- have of marks, 32 · 512 · 128, with the marks R. A step adds at most 128 · 16 to a place's conditions, and 128 · 32 · 16
+-- to a number of all places.
 pub record Small (m : ℕ) (t : Tally) : Type 0 where
   pub few : m ≤ 32
   pub longHeld : length (t .held) ≡ countsOfKind
   pub longWatched : length (t .watched) ≡ countsOfKind
-  pub held : AtMost 100000 m (t .held)
-  pub watched : AtMost 100000 m (t .watched)
-  pub own : t .own ≤ 1000000000000
-  pub reads : t .reads ≤ 1000000000000
+  pub held : AtMost 512 m (t .held)
+  pub watched : AtMost 128 m (t .watched)
+  pub own : t .own ≤ 2101248
+  pub reads : t .reads ≤ 4096
 
 -- the tally after a step whose transitions are ts
 pub record Tallies (sets : List ℕ) (m : ℕ) (ts : List ℕ) (t t′ : Tally) : Type 0 where

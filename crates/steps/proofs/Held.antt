@@ -26,6 +26,7 @@ use Rattle.bit_sets.specs.Bits.{bit, bit-most}
 use Rattle.arc_sets.specs.Sets.{arcAt, Says, HoldsArcs}
 use Rattle.steps.specs.StepArrays.{HoldsStep, over, Summed, Joined, HoldsMarking, falls, isFilled, SomePlace, Playable, MovedBy}
 use Rattle.steps.specs.Judged.{judgeStep}
+use Rattle.steps.proofs.Rows.{over-past}
 
 -- ---- a step
 
@@ -48,19 +49,14 @@ step-length {xs} {count = count} s = ap length (sym (s .events)) ∙ length-take
 
 -- ---- a net's sets, summed over a step
 
--- no set has a place beyond the net's
-pub arc-beyond : {N : NetD} {sets : List ℕ} {m : ℕ} → HoldsArcs N sets m → (a t p : ℕ) → m ≤ p → arcAt sets a t p ≡ 0
-unfolding arcAt
-arc-beyond A a t p h = A .within (a + t) p h
-
 module _ {N : NetD} {sets : List ℕ} {m : ℕ} (A : HoldsArcs N sets m) {xs ts : List ℕ} {count : ℕ} (S : HoldsStep xs count ts) (K : (t : ℕ) → In t ts → t < N .transitions) where
   -- what the sets say of a place is what the definitions say
   pub over-held : (a : ℕ) {f : ℕ → ℕ → ℕ} → Says N m sets a f → (p : ℕ) → p < m → over (arcAt sets a) (take count xs) p ≡ over f ts p
   over-held a C p h = ap (λ zs. over (arcAt sets a) zs p) (S .events) ∙ sumOf-same _ _ ts (λ t i. C t p (K t i) h)
 
   -- and nothing of a place beyond
-  pub over-beyond : (a p : ℕ) → m ≤ p → over (arcAt sets a) (take count xs) p ≡ 0
-  over-beyond a p h = Laws.sumOf-zero (λ t. arcAt sets a t p) (take count xs) (λ t i. arc-beyond A a t p h)
+  pub over-beyond : (a p : ℕ) → a ≤ 96 → m ≤ p → over (arcAt sets a) (take count xs) p ≡ 0
+  over-beyond a p l h = over-past (S .step) sets a l (A .within) p h
 
 -- ---- a marking
 
@@ -95,9 +91,9 @@ any-places {n} f g e h = any-agree f g (upTo n) (λ p m. h p (in-upTo n m)) ∙ 
 module _ {N : NetD} {sets : List ℕ} {m : ℕ} (A : HoldsArcs N sets m) {xs ts : List ℕ} {count : ℕ} (S : HoldsStep xs count ts) (K : (t : ℕ) → In t ts → t < N .transitions)
     {marking mk : List ℕ} (H : HoldsMarking m marking mk) where
   -- some place of the sets from a on is as asked
-  pub some-held : (a : ℕ) (w : ℕ → ℕ → Bool) (b : Bool) {set : ℕ} {r : Bool} → Says N m sets a (λ t p. asCount (w p t)) → Joined (arcAt sets a) (take count xs) set → SomePlace marking set b r
+  pub some-held : (a : ℕ) (w : ℕ → ℕ → Bool) (b : Bool) {set : ℕ} {r : Bool} → a ≤ 96 → Says N m sets a (λ t p. asCount (w p t)) → Joined (arcAt sets a) (take count xs) set → SomePlace marking set b r
       → r ≡ any (λ p. isFilled b (getD mk p 0) && any (w p) ts) (upTo (places N))
-  some-held a w b {set} {r} C G B = elim (Laws.true-or-false r) [
+  some-held a w b {set} {r} front C G B = elim (Laws.true-or-false r) [
     | inl e ↦ e ∙ sym (found (B .found e))
     | inr e ↦ e ∙ sym (Laws.none-any test (upTo (places N)) (λ p i. none (B .none e) p (Laws.in-upTo (places N) i)))
   ]
@@ -112,7 +108,7 @@ module _ {N : NetD} {sets : List ℕ} {m : ℕ} (A : HoldsArcs N sets m) {xs ts 
       found x = elim (decLt (x .0) m) [
         | yes l ↦ Laws.any-in test (x .0) (upTo (places N)) (Laws.upTo-in (places N) (omega (arith, A .places)))
             (rw (← H .tokens (x .0), x .2, ← by-sum (x .0) l) (lt-ltb 0 (over (arcAt sets a) (take count xs) (x .0)) (G .some (x .0) (x .1))))
-        | no l ↦ absurd (omega (arith, G .some (x .0) (x .1), over-beyond A S K a (x .0) (omega arith)))
+        | no l ↦ absurd (omega (arith, G .some (x .0) (x .1), over-beyond A S K a (x .0) front (omega arith)))
       ]
 
       none : ((p : ℕ) → bit set p ≡ 1 → isFilled b (getD marking p 0) ≡ false) → (p : ℕ) → p < places N → test p ≡ false
@@ -147,22 +143,22 @@ module _ {N : NetD} {sets : List ℕ} {m : ℕ} (A : HoldsArcs N sets m) {xs ts 
     short-taken e = short-parts ∙ rw (← falls-held U, e)
 
     pub short-read : {set : ℕ} {r : Bool} → falls marking tk m ≡ false → Joined (arcAt sets 96) (take count xs) set → SomePlace marking set false r → r ≡ short N mk ts
-    short-read e G B = some-held 96 (reads N) false (A .reads) G B ∙ sym (short-parts ∙ rw (← falls-held U, e))
+    short-read e G B = some-held 96 (reads N) false (omega arith) (A .reads) G B ∙ sym (short-parts ∙ rw (← falls-held U, e))
 
   -- 25
   pub inhibited-held : {set : ℕ} {r : Bool} → Joined (arcAt sets 64) (take count xs) set → SomePlace marking set true r → r ≡ inhibited N mk ts
   unfolding inhibited isFilled
-  inhibited-held G B = some-held 64 (inhibits N) true (A .inhibitors) G B
+  inhibited-held G B = some-held 64 (inhibits N) true (omega arith) (A .inhibitors) G B
 
   -- what is not short can be played
   pub playable : ((p : ℕ) → p < m → getD mk p 0 ≤ 512) → short N mk ts ≡ false → Playable sets (take count xs) marking
   unfolding short needed taken
   playable low e = record {
     long = H .long;
-    within = λ i p h. A .within i p (omega (arith, A .few));
+    within = λ i p k h. A .within i p k (omega (arith, A .few));
     enough = λ p. elim (decLt p m) [
       | yes l ↦ omega (arith, over-held A S K 0 (A .inputs) p l, H .tokens p, ltb-false (getD mk p 0) (needed N ts p) (Laws.any-none (λ p. ltb (getD mk p 0) (needed N ts p)) (upTo (places N)) e p (Laws.upTo-in (places N) (omega (arith, A .places)))))
-      | no l ↦ omega (arith, over-beyond A S K 0 p (omega arith))
+      | no l ↦ omega (arith, over-beyond A S K 0 p (omega arith) (omega arith))
     ];
     fits = λ p h. elim (decLt p m) [
       | yes l ↦ omega (arith, H .tokens p, low p l)
@@ -194,7 +190,7 @@ module _ {N : NetD} {sets : List ℕ} {m : ℕ} (A : HoldsArcs N sets m) {xs ts 
 
       beyond : (p : ℕ) → m ≤ p → getD new p 0 ≡ 0
       beyond p h = elim (decLt p 32) [
-        | yes l ↦ omega (arith, w .here p l, H .tokens p, none mk p (omega (arith, H .places)), over-beyond A S K 32 p h)
+        | yes l ↦ omega (arith, w .here p l, H .tokens p, none mk p (omega (arith, H .places)), over-beyond A S K 32 p (omega arith) h)
         | no l ↦ none new p (omega (arith, w .long, H .long))
       ]
 

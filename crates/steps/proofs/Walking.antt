@@ -1,43 +1,29 @@
--- The places of a set, added to an array or taken from it one after the other.
-use Prim.Native.Nat.{ℕ, _+_, _-_, _*_, _%_, _^_, _≤_, _<_}
-use mathlib.Core.Path.{_≡_, refl, _∙_}
+-- The places of a row, added to an array or taken from it one after the other by what they weigh, and looked at.
+use Prim.Native.Nat.{ℕ, _+_, _-_, _≤_, _<_}
+use mathlib.Core.Path.{_≡_, refl, sym, _∙_}
 use mathlib.Core.Bool.{Bool, true, false, Bool·beq}
 use mathlib.Core.List.{List}
 use native.Mathlib.Decide.{ℕ-discrete, decLt}
 use native.Mathlib.Omega.{arith}
-use lib.Bits.{bitAnd, bitXor}
 use lib.Dec.{ltb}
 use lib.Count.{trailingZeros}
 use lib.ListN.{length, getD, set, length-set}
 use lib.Seq.{getD-set-same, getD-set-other}
 use Rattle.bit_sets.specs.Bits.{bit}
-use Rattle.arc_sets.specs.Walk.{Left, lowest, left-within, lowest-word, skipped, left-rest, rest-less}
-use Rattle.steps.specs.StepArrays.{isFilled, Addable, AddedTo, AddedSet, Payable, TakenSet, Within32}
-
--- a word without bit i
-abbrev pub rest : ℕ → ℕ → ℕ
-rest bits i = bitAnd bits (bitXor bits ((1 * 2 ^ i) % 2 ^ 64))
-
--- ---- what a loop over the bits of a set knows at the lowest bit that is left
-
-pub record Lowest (word bits d i : ℕ) : Type 0 where
-  pub low : i < 64
-  pub within : d ≤ i
-  pub set : bit word i ≡ 1
-  pub left : bit bits i ≡ 1
-  pub passed : (j : ℕ) → d ≤ j → j < i → bit word j ≡ 0
-
-pub at-lowest : {word bits d i : ℕ} → Left word bits d → i ≡ trailingZeros 64 bits → (bits ≡ 0 → ⊥) → Lowest word bits d i
-at-lowest L t z = let b = lowest L t z in record { low = b .0; within = left-within L t (b .1); set = lowest-word L t (b .1); left = b .1; passed = skipped L t (b .1) }
+use Rattle.arc_sets.specs.Sets.{moreAt, weightAt}
+use Rattle.arc_sets.specs.Weights.{weight-none, weight-some}
+use Rattle.arc_sets.specs.Walk.{Left, without}
+pub use Rattle.arc_sets.specs.Walk.{Lowest, at-lowest}
+use Rattle.steps.specs.StepArrays.{isFilled, Addable, AddedTo, AddedRow, Payable, TakenRow, Within32}
 
 -- ---- adding
 
-module _ {from word : ℕ} where
-  pub added-none : (xs : List ℕ) → AddedTo from word 0 xs xs
+module _ {from : ℕ} {w : ℕ → ℕ} where
+  pub added-none : (xs : List ℕ) → AddedTo from w 0 xs xs
   added-none xs = record { long = refl; before = λ i h. refl; here = λ i h. absurd (omega arith); beyond = λ i h. refl }
 
-  -- places that the set has not add nothing
-  pub added-skip : {d : ℕ} {old new : List ℕ} (i : ℕ) → d ≤ i → ((j : ℕ) → d ≤ j → j < i → bit word j ≡ 0) → AddedTo from word d old new → AddedTo from word i old new
+  -- places that weigh nothing add nothing
+  added-skip : {d : ℕ} {old new : List ℕ} (i : ℕ) → d ≤ i → ((j : ℕ) → d ≤ j → j < i → w j ≡ 0) → AddedTo from w d old new → AddedTo from w i old new
   added-skip {d} i h z a = record {
     long = a .long;
     before = a .before;
@@ -45,94 +31,104 @@ module _ {from word : ℕ} where
     beyond = λ j l. a .beyond j (omega arith);
   }
 
-  pub added-one : {old new : List ℕ} {i : ℕ} → bit word i ≡ 1 → from + i < length old → AddedTo from word i old new → AddedTo from word (i + 1) old (set new (from + i) (getD new (from + i) 0 + 1))
-  added-one {old} {new} {i} b h a = record {
-    long = length-set new (from + i) v ∙ a .long;
-    before = λ j l. getD-set-other new (from + i) j v 0 (λ e. omega arith) ∙ a .before j l;
+  added-one : {old new : List ℕ} {i v : ℕ} → v ≡ w i → from + i < length old → AddedTo from w i old new → AddedTo from w (i + 1) old (set new (from + i) (getD new (from + i) 0 + v))
+  added-one {old} {new} {i} {v} e h a = record {
+    long = length-set new (from + i) _ ∙ a .long;
+    before = λ j l. getD-set-other new (from + i) j _ 0 (λ e. omega arith) ∙ a .before j l;
     here = λ j l. elim (ℕ-discrete j i) [
-      | yes e ↦ rw e (getD-set-same new (from + i) v 0 (omega (arith, a .long)) ∙ omega (arith, a .beyond i (omega arith)))
-      | no d ↦ getD-set-other new (from + i) (from + j) v 0 (λ e. omega arith) ∙ a .here j (omega arith)
+      | yes q ↦ rw q (getD-set-same new (from + i) _ 0 (omega (arith, a .long)) ∙ omega (arith, a .beyond i (omega arith)))
+      | no d ↦ getD-set-other new (from + i) (from + j) _ 0 (λ e. omega arith) ∙ a .here j (omega arith)
     ];
-    beyond = λ j l. getD-set-other new (from + i) (from + j) v 0 (λ e. omega arith) ∙ a .beyond j (omega arith);
+    beyond = λ j l. getD-set-other new (from + i) (from + j) _ 0 (λ e. omega arith) ∙ a .beyond j (omega arith);
   }
-    where
-      v : ℕ
-      v = getD new (from + i) 0 + 1
 
-  pub added-end : {d : ℕ} {old new : List ℕ} → ((j : ℕ) → d ≤ j → bit word j ≡ 0) → AddedTo from word d old new → AddedSet from word old new
+  added-end : {d : ℕ} {old new : List ℕ} → ((j : ℕ) → d ≤ j → w j ≡ 0) → AddedTo from w d old new → AddedRow from w old new
   added-end {d} z a = record { long = a .long; before = a .before; here = λ j. elim (decLt j d) [ yes k ↦ a .here j k | no k ↦ omega (arith, a .beyond j (omega arith), z j (omega arith)) ] }
 
--- what one turn of the loop needs and does
-pub record Adding (from word : ℕ) (old : List ℕ) (bits i : ℕ) (new : List ℕ) : Type 0 where
-  pub low : i < 64
-  pub index : from + i < length new
-  pub room : getD new (from + i) 0 < 4294967295
-  pub less : rest bits i < bits
-  pub next : (n : ℕ) × Left word (rest bits i) n × AddedTo from word n old (set new (from + i) (getD new (from + i) 0 + 1))
+module _ (sets : List ℕ) (row : ℕ) where
+  -- what one turn of the loop needs and does, where v is the weight that it reads
+  pub record Adding (from : ℕ) (old : List ℕ) (bits i : ℕ) (new : List ℕ) : Type 0 where
+    pub low : i < 32
+    pub index : from + i < length new
+    pub room : {v : ℕ} → v ≡ 1 + moreAt sets row i → getD new (from + i) 0 + v ≤ 4294967295
+    pub less : without bits i < bits
+    pub next : {v : ℕ} → v ≡ 1 + moreAt sets row i
+        → (n : ℕ) × Left (getD sets row 0) (without bits i) n × AddedTo from (weightAt sets row) n old (set new (from + i) (getD new (from + i) 0 + v))
 
-pub adding : {from word bits d i : ℕ} {old new : List ℕ} → Addable from word old → Left word bits d → AddedTo from word d old new → i ≡ trailingZeros 64 bits → (bits ≡ 0 → ⊥) → Adding from word old bits i new
-adding {from} {word} {bits} {d} {i} {old} {new} R L A t z = record {
-  low = w .low;
-  index = omega (arith, R i (w .set), A .long);
-  room = omega (arith, R i (w .set), A .beyond i (w .within));
-  less = rest-less L t (w .left) (w .low);
-  next = (i + 1, left-rest L t (w .left) (w .low), added-one (w .set) (R i (w .set) .0) (added-skip i (w .within) (w .passed) A));
-}
-  where
-    w : Lowest word bits d i
-    w = at-lowest L t z
+  pub adding : {from bits d i : ℕ} {old new : List ℕ} → Addable from (weightAt sets row) old → Left (getD sets row 0) bits d → AddedTo from (weightAt sets row) d old new → i ≡ trailingZeros 64 bits → (bits ≡ 0 → ⊥) → Adding from old bits i new
+  adding {from} {bits} {d} {i} {old} {new} R L A t z = record {
+    low = r .0;
+    index = omega (arith, r, A .long);
+    room = λ e. omega (arith, r, A .beyond i (w .within), weight-some sets row i (w .set));
+    less = w .less;
+    next = λ e. (i + 1, w .next, added-one (e ∙ sym (weight-some sets row i (w .set))) (r .1) (added-skip i (w .within) (λ j k l. weight-none sets row j (w .passed j k l)) A));
+  }
+    where
+      w : Lowest (getD sets row 0) bits d i
+      w = at-lowest L t z
+
+      r : (i < 32) × (from + i < length old) × (getD old (from + i) 0 + weightAt sets row i ≤ 4294967295)
+      r = R i (omega (arith, weight-some sets row i (w .set)))
+
+  -- all places of the set are passed
+  pub added-all : {from d : ℕ} {old new : List ℕ} → ((j : ℕ) → d ≤ j → bit (getD sets row 0) j ≡ 0) → AddedTo from (weightAt sets row) d old new → AddedRow from (weightAt sets row) old new
+  added-all z A = added-end (λ j h. weight-none sets row j (z j h)) A
 
 -- ---- taking
 
--- the first n places are taken
-pub record TakenTo (word n : ℕ) (old new : List ℕ) : Type 0 where
+-- what the first n places weigh is taken
+pub record TakenTo (w : ℕ → ℕ) (n : ℕ) (old new : List ℕ) : Type 0 where
   pub long : length new ≡ length old
-  pub here : (i : ℕ) → i < n → getD new i 0 ≡ getD old i 0 - bit word i
+  pub here : (i : ℕ) → i < n → getD new i 0 ≡ getD old i 0 - w i
   pub beyond : (i : ℕ) → n ≤ i → getD new i 0 ≡ getD old i 0
 
-module _ {word : ℕ} where
-  pub taken-none : (xs : List ℕ) → TakenTo word 0 xs xs
+module _ {w : ℕ → ℕ} where
+  pub taken-none : (xs : List ℕ) → TakenTo w 0 xs xs
   taken-none xs = record { long = refl; here = λ i h. absurd (omega arith); beyond = λ i h. refl }
 
-  pub taken-skip : {d : ℕ} {old new : List ℕ} (i : ℕ) → d ≤ i → ((j : ℕ) → d ≤ j → j < i → bit word j ≡ 0) → TakenTo word d old new → TakenTo word i old new
+  taken-skip : {d : ℕ} {old new : List ℕ} (i : ℕ) → d ≤ i → ((j : ℕ) → d ≤ j → j < i → w j ≡ 0) → TakenTo w d old new → TakenTo w i old new
   taken-skip {d} i h z a = record {
     long = a .long;
     here = λ j l. elim (decLt j d) [ yes k ↦ a .here j k | no k ↦ omega (arith, a .beyond j (omega arith), z j (omega arith) l) ];
     beyond = λ j l. a .beyond j (omega arith);
   }
 
-  pub taken-one : {old new : List ℕ} {i : ℕ} → bit word i ≡ 1 → i < length old → TakenTo word i old new → TakenTo word (i + 1) old (set new i (getD new i 0 - 1))
-  taken-one {old} {new} {i} b h a = record {
-    long = length-set new i v ∙ a .long;
+  taken-one : {old new : List ℕ} {i v : ℕ} → v ≡ w i → i < length old → TakenTo w i old new → TakenTo w (i + 1) old (set new i (getD new i 0 - v))
+  taken-one {old} {new} {i} {v} e h a = record {
+    long = length-set new i _ ∙ a .long;
     here = λ j l. elim (ℕ-discrete j i) [
-      | yes e ↦ rw e (getD-set-same new i v 0 (omega (arith, a .long)) ∙ omega (arith, a .beyond i (omega arith)))
-      | no d ↦ getD-set-other new i j v 0 d ∙ a .here j (omega arith)
+      | yes q ↦ rw q (getD-set-same new i _ 0 (omega (arith, a .long)) ∙ omega (arith, a .beyond i (omega arith)))
+      | no d ↦ getD-set-other new i j _ 0 d ∙ a .here j (omega arith)
     ];
-    beyond = λ j l. getD-set-other new i j v 0 (λ e. omega arith) ∙ a .beyond j (omega arith);
+    beyond = λ j l. getD-set-other new i j _ 0 (λ e. omega arith) ∙ a .beyond j (omega arith);
   }
-    where
-      v : ℕ
-      v = getD new i 0 - 1
 
-  pub taken-end : {d : ℕ} {old new : List ℕ} → ((j : ℕ) → d ≤ j → bit word j ≡ 0) → TakenTo word d old new → TakenSet word old new
+  taken-end : {d : ℕ} {old new : List ℕ} → ((j : ℕ) → d ≤ j → w j ≡ 0) → TakenTo w d old new → TakenRow w old new
   taken-end {d} z a = record { long = a .long; here = λ j. elim (decLt j d) [ yes k ↦ a .here j k | no k ↦ omega (arith, a .beyond j (omega arith), z j (omega arith)) ] }
 
-pub record Taking (word : ℕ) (old : List ℕ) (bits i : ℕ) (new : List ℕ) : Type 0 where
-  pub low : i < 32
-  pub some : 0 < getD new i 0
-  pub less : rest bits i < bits
-  pub next : (n : ℕ) × Left word (rest bits i) n × TakenTo word n old (set new i (getD new i 0 - 1))
+module _ (sets : List ℕ) (row : ℕ) where
+  pub record Taking (old : List ℕ) (bits i : ℕ) (new : List ℕ) : Type 0 where
+    pub low : i < 32
+    pub some : {v : ℕ} → v ≡ 1 + moreAt sets row i → v ≤ getD new i 0
+    pub less : without bits i < bits
+    pub next : {v : ℕ} → v ≡ 1 + moreAt sets row i → (n : ℕ) × Left (getD sets row 0) (without bits i) n × TakenTo (weightAt sets row) n old (set new i (getD new i 0 - v))
 
-pub taking : {word bits d i : ℕ} {old new : List ℕ} → length old ≡ 32 → Payable word old → Left word bits d → TakenTo word d old new → i ≡ trailingZeros 64 bits → (bits ≡ 0 → ⊥) → Taking word old bits i new
-taking {word} {bits} {d} {i} {old} {new} e R L A t z = record {
-  low = R i (w .set) .0;
-  some = omega (arith, R i (w .set), A .beyond i (w .within));
-  less = rest-less L t (w .left) (w .low);
-  next = (i + 1, left-rest L t (w .left) (w .low), taken-one (w .set) (omega (arith, R i (w .set))) (taken-skip i (w .within) (w .passed) A));
-}
-  where
-    w : Lowest word bits d i
-    w = at-lowest L t z
+  pub taking : {bits d i : ℕ} {old new : List ℕ} → length old ≡ 32 → Payable (weightAt sets row) old → Left (getD sets row 0) bits d → TakenTo (weightAt sets row) d old new → i ≡ trailingZeros 64 bits → (bits ≡ 0 → ⊥) → Taking old bits i new
+  taking {bits} {d} {i} {old} {new} e R L A t z = record {
+    low = r .0;
+    some = λ q. omega (arith, r, A .beyond i (w .within), weight-some sets row i (w .set));
+    less = w .less;
+    next = λ q. (i + 1, w .next, taken-one (q ∙ sym (weight-some sets row i (w .set))) (omega (arith, r)) (taken-skip i (w .within) (λ j k l. weight-none sets row j (w .passed j k l)) A));
+  }
+    where
+      w : Lowest (getD sets row 0) bits d i
+      w = at-lowest L t z
+
+      r : (i < 32) × (weightAt sets row i ≤ getD old i 0)
+      r = R i (omega (arith, weight-some sets row i (w .set)))
+
+  pub taken-all : {d : ℕ} {old new : List ℕ} → ((j : ℕ) → d ≤ j → bit (getD sets row 0) j ≡ 0) → TakenTo (weightAt sets row) d old new → TakenRow (weightAt sets row) old new
+  taken-all z A = taken-end (λ j h. weight-none sets row j (z j h)) A
 
 -- ---- looking
 
@@ -151,9 +147,9 @@ filled-is b v = go b (ltb 0 v) refl
 pub record NoneTo (q : ℕ → Bool) (word n : ℕ) (xs : List ℕ) : Type 0 where
   pub fails : (i : ℕ) → i < n → bit word i ≡ 1 → q (getD xs i 0) ≡ false
 
-pub none-next : {q : ℕ → Bool} {word bits d i : ℕ} {xs : List ℕ} → Left word bits d → NoneTo q word d xs → i ≡ trailingZeros 64 bits → (bits ≡ 0 → ⊥) → q (getD xs i 0) ≡ false → Left word (rest bits i) (i + 1) × NoneTo q word (i + 1) xs
+pub none-next : {q : ℕ → Bool} {word bits d i : ℕ} {xs : List ℕ} → Left word bits d → NoneTo q word d xs → i ≡ trailingZeros 64 bits → (bits ≡ 0 → ⊥) → q (getD xs i 0) ≡ false → Left word (without bits i) (i + 1) × NoneTo q word (i + 1) xs
 none-next {q} {word} {bits} {d} {i} {xs} L E t z h = (
-  left-rest L t (w .left) (w .low),
+  w .next,
   record {
     fails = λ j l b. elim (ℕ-discrete j i) [
       | yes e ↦ rw e h

@@ -33,33 +33,39 @@ pub record HoldsStep (xs : List ℕ) (count : ℕ) (ts : List ℕ) : Type 0 wher
 abbrev pub over : (ℕ → ℕ → ℕ) → List ℕ → ℕ → ℕ
 over f ts p = sumOf (λ t. f t p) ts
 
--- ---- by places of a set
+-- ---- by the places of a row of arcs, of which w says how many tokens each stands for
 
--- each place of the set is one of the array, and its entry can grow
-abbrev pub Addable : ℕ → ℕ → List ℕ → Type 0
-Addable from set xs = (p : ℕ) → bit set p ≡ 1 → (from + p < length xs) × (getD xs (from + p) 0 < 4294967295)
+-- what an entry is below before the events of a step are added to it: there are 128 of them at most, each adds 16 tokens at
+-- most, and an entry is below 2 ^ 32
+abbrev pub roomyCount : ℕ
+roomyCount = 4294965248
 
--- the first n places of a set are added to the entries from a position on
-pub record AddedTo (from set n : ℕ) (old new : List ℕ) : Type 0 where
+-- each place that weighs something is one of the array, and its entry can grow by as much
+abbrev pub Addable : ℕ → (ℕ → ℕ) → List ℕ → Type 0
+Addable from w xs =
+    (p : ℕ) → 0 < w p → (p < markingLong) × (from + p < length xs) × (getD xs (from + p) 0 + w p ≤ 4294967295)
+
+-- what the first n places weigh is added to the entries from a position on
+pub record AddedTo (from : ℕ) (w : ℕ → ℕ) (n : ℕ) (old new : List ℕ) : Type 0 where
   pub long : length new ≡ length old
   pub before : (i : ℕ) → i < from → getD new i 0 ≡ getD old i 0
-  pub here : (i : ℕ) → i < n → getD new (from + i) 0 ≡ getD old (from + i) 0 + bit set i
+  pub here : (i : ℕ) → i < n → getD new (from + i) 0 ≡ getD old (from + i) 0 + w i
   pub beyond : (i : ℕ) → n ≤ i → getD new (from + i) 0 ≡ getD old (from + i) 0
 
--- all are
-pub record AddedSet (from set : ℕ) (old new : List ℕ) : Type 0 where
+-- what all weigh is
+pub record AddedRow (from : ℕ) (w : ℕ → ℕ) (old new : List ℕ) : Type 0 where
   pub long : length new ≡ length old
   pub before : (i : ℕ) → i < from → getD new i 0 ≡ getD old i 0
-  pub here : (i : ℕ) → getD new (from + i) 0 ≡ getD old (from + i) 0 + bit set i
+  pub here : (i : ℕ) → getD new (from + i) 0 ≡ getD old (from + i) 0 + w i
 
--- what summing a step's sets relies on
+-- what summing the rows of a step's events relies on
 pub record Summable (at from : ℕ) (sets xs : List ℕ) : Type 0 where
   pub kind : at ≤ readAt
   pub places : ℕ
   pub few : places ≤ 32
   pub within : Within places sets
   pub long : from + markingLong ≤ length xs
-  pub low : (p : ℕ) → p < places → getD xs (from + p) 0 < 4294967040
+  pub low : (p : ℕ) → p < places → getD xs (from + p) 0 < roomyCount
 
 -- by place, what f says of the step's events is added to the entries from a position on
 pub record Summed (f : ℕ → ℕ → ℕ) (ts : List ℕ) (from : ℕ) (old new : List ℕ) : Type 0 where
@@ -68,14 +74,14 @@ pub record Summed (f : ℕ → ℕ → ℕ) (ts : List ℕ) (from : ℕ) (old ne
   pub here : (p : ℕ) → p < markingLong → getD new (from + p) 0 ≡ getD old (from + p) 0 + over f ts p
   pub beyond : (i : ℕ) → from + markingLong ≤ i → getD new i 0 ≡ getD old i 0
 
--- each place of the set has an entry that can be lessened
-abbrev pub Payable : ℕ → List ℕ → Type 0
-Payable set xs = (p : ℕ) → bit set p ≡ 1 → (p < markingLong) × (0 < getD xs p 0)
+-- each place that weighs something has an entry that can be lessened by as much
+abbrev pub Payable : (ℕ → ℕ) → List ℕ → Type 0
+Payable w xs = (p : ℕ) → 0 < w p → (p < markingLong) × (w p ≤ getD xs p 0)
 
--- the places of a set are taken
-pub record TakenSet (set : ℕ) (old new : List ℕ) : Type 0 where
+-- what the places weigh is taken
+pub record TakenRow (w : ℕ → ℕ) (old new : List ℕ) : Type 0 where
   pub long : length new ≡ length old
-  pub here : (i : ℕ) → getD new i 0 ≡ getD old i 0 - bit set i
+  pub here : (i : ℕ) → getD new i 0 ≡ getD old i 0 - w i
 
 -- the step's events are paid
 pub record Paid (f : ℕ → ℕ → ℕ) (ts old new : List ℕ) : Type 0 where
@@ -119,7 +125,7 @@ pub record Playable (sets ts xs : List ℕ) : Type 0 where
   pub long : length xs ≡ markingLong
   pub within : Within 32 sets
   pub enough : (p : ℕ) → over (arcAt sets 0) ts p ≤ getD xs p 0
-  pub fits : (p : ℕ) → p < markingLong → getD xs p 0 < 4294967040
+  pub fits : (p : ℕ) → p < markingLong → getD xs p 0 < roomyCount
 
 -- the tokens of each place, once those taken are gone and those made are there
 pub record MovedBy (sets ts old new : List ℕ) : Type 0 where

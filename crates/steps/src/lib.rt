@@ -1,10 +1,10 @@
 // One step at a marking: summed, judged and played.
 ghost use mathlib.Core.Path.{_≡_};
-ghost use Prim.Native.Nat.{_+_, _≤_};
+ghost use Prim.Native.Nat.{_+_, _≤_, _<_};
 ghost use lib.ListN.{length, getD, take};
 ghost use Rattle.lists.specs.Stretch.{MappedFrom};
-ghost use Rattle.arc_sets.specs.Sets.{readAt, Within, arcAt};
-ghost use Rattle.steps.specs.StepArrays.{markingLong, IsStep, Addable, AddedSet, TakenSet, Summable, Summed};
+ghost use Rattle.arc_sets.specs.Sets.{rowCount, readAt, weightAt, arcAt, Within};
+ghost use Rattle.steps.specs.StepArrays.{markingLong, IsStep, Addable, AddedRow, TakenRow, Summable, Summed};
 ghost use Rattle.steps.specs.StepArrays.{Payable, Paid, Within32, falls, Joined, SomePlace, Playable, MovedBy};
 ghost use Rattle.steps.specs.Judged.{IsShort, Judges};
 use arc_sets::GUARDS;
@@ -12,6 +12,8 @@ use arc_sets::MADE;
 use arc_sets::READ;
 use arc_sets::SETS;
 use arc_sets::lowest;
+use arc_sets::set_at;
+use arc_sets::weight;
 use machine_numbers::wide;
 use net::TOKENS;
 
@@ -45,20 +47,20 @@ pub struct Position {
 
 // ---- a step
 
-// One more at each place of a set, in an array from a position on.
-fn add_set(xs: &mut [u32], from: usize, set: u64)
-    requires { ⌜ Addable from set (now xs) ⌝ }
-    ensures { λ _. ⌜ AddedSet from set (now (xs .entry)) (now (xs .exit)) ⌝ }
+// What the arcs of a row weigh is added to an array, by place, from a position on.
+fn add_row(xs: &mut [u32], from: usize, sets: &[u64; SETS], row: usize)
+    requires { ⌜ (row < rowCount) × Addable from (weightAt (now sets) row) (now xs) ⌝ }
+    ensures { λ _. ⌜ AddedRow from (weightAt (now (sets .entry)) row) (now (xs .entry)) (now (xs .exit)) ⌝ }
 {
-    let mut bits = set;
+    let mut bits = set_at(sets, row);
     while bits != 0 {
         let p = lowest(bits);
-        xs[from + p] += 1;
+        xs[from + p] += weight(sets, row, p) as u32;
         bits = bits & (bits ^ (1 << p));
     }
 }
 
-// The same for each event of a step, by the sets that start at `at`.
+// The same for each event of a step, by the rows that start at `at`.
 pub fn add_all(
     step: &[u8; STEP],
     count: usize,
@@ -73,20 +75,20 @@ pub fn add_all(
 {
     let mut i: usize = 0;
     while i < count {
-        add_set(xs, from, sets[at + wide(step[i])]);
+        add_row(xs, from, sets, at + wide(step[i]));
         i += 1;
     }
 }
 
-// One less at each place of a set.
-fn take_set(xs: &mut [u32; MARKING], set: u64)
-    requires { ⌜ (length (now xs) ≡ markingLong) × Payable set (now xs) ⌝ }
-    ensures { λ _. ⌜ TakenSet set (now (xs .entry)) (now (xs .exit)) ⌝ }
+// What the arcs of a row weigh is taken from a marking.
+fn take_row(xs: &mut [u32; MARKING], sets: &[u64; SETS], row: usize)
+    requires { ⌜ (row < rowCount) × (length (now xs) ≡ markingLong) × Payable (weightAt (now sets) row) (now xs) ⌝ }
+    ensures { λ _. ⌜ TakenRow (weightAt (now (sets .entry)) row) (now (xs .entry)) (now (xs .exit)) ⌝ }
 {
-    let mut bits = set;
+    let mut bits = set_at(sets, row);
     while bits != 0 {
         let p = lowest(bits);
-        xs[p] -= 1;
+        xs[p] -= weight(sets, row, p) as u32;
         bits = bits & (bits ^ (1 << p));
     }
 }
@@ -99,7 +101,7 @@ fn take_all(step: &[u8; STEP], count: usize, sets: &[u64; SETS], marking: &mut [
 {
     let mut i: usize = 0;
     while i < count {
-        take_set(marking, sets[wide(step[i])]);
+        take_row(marking, sets, wide(step[i]));
         i += 1;
     }
 }

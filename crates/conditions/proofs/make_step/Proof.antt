@@ -35,15 +35,9 @@ wide-requires c κs = tt
 add-make-event-2 : tie.Need-add-make-event-2 Inv-loop μ-loop
 add-make-event-2 c = let l = c .before .before .before in let s = l .before .before in omega (arith, s .pre .1 .known (l .loop .i) (omega arith))
 
-mul-make-event : tie.Need-mul-make-event Inv-loop μ-loop
-mul-make-event c = let l = c .before .before .before in let s = l .before .before in omega (arith, s .pre .1 .known (l .loop .i) (omega arith))
-
-element-copy-out-make-event : tie.Need-element-copy-out-make-event Inv-loop μ-loop
-element-copy-out-make-event c = let l = c .before .before .before in let s = l .before .before in omega (arith, s .pre .1 .known (l .loop .i) (omega arith))
-
 make-event-requires : tie.Need-make-event-requires Inv-loop μ-loop
-make-event-requires c κs = let w = c .before .before in let l = w .before .before .before in let s = l .before .before in let a = s .args in let x = a .x in let M = l .loop .inv .1 in
-    (omega arith, s .pre .2 _, omega (arith, M .made .next, length-map (flows (arcAt (a .sets .now) 32) 64 (x .events) (take (l .loop .i) (a .step .now))) made-of, event-fits (a .sets .now) 32 (x .events) (a .step .now) (l .loop .i) (a .count) _ (omega arith) (omega arith) (w .wide .ensures .0)), omega (arith, M .long))
+make-event-requires c κs = let w = c .before in let l = w .before .before .before in let s = l .before .before in let a = s .args in let x = a .x in let M = l .loop .inv .1 in
+    (omega arith, omega (arith, s .pre .1 .known (l .loop .i) (omega arith)), s .pre .2, omega (arith, M .made .next, length-map (flows (arcAt (a .sets .now) 32) 64 (x .events) (take (l .loop .i) (a .step .now))) made-of, event-fits (a .sets .now) 32 (x .events) (a .step .now) (l .loop .i) (a .count) _ (omega arith) (omega arith) (w .wide .ensures .0)), omega (arith, M .long))
 
 add-i : tie.Need-add-i Inv-loop μ-loop
 add-i c = omega arith
@@ -52,7 +46,7 @@ loop-less : tie.Need-loop-less Inv-loop μ-loop
 loop-less c = omega arith
 
 loop-again : tie.Need-loop-again Inv-loop μ-loop
-loop-again c = let w = c .before .before .before .before .before in let l = w .before .before .before in let s = l .before .before in
+loop-again c = let w = c .before .before .before .before in let l = w .before .before .before in let s = l .before .before in
     (omega arith, makes-as (makes-then (l .loop .inv .1) (c .before .before .make-event .ensures)) (outputs-after (s .args .sets .now) 32 _ (s .args .step .now) (l .loop .i) _ (omega arith) (w .wide .ensures .0)) refl)
 
 same-length : tie.Need-same-length Inv-loop μ-loop
@@ -62,4 +56,4 @@ returns : tie.Need-returns Inv-loop μ-loop
 returns c = let l = c .before in let e : l .loop .i ≡ l .before .before .args .count = omega arith in makes-as (l .loop .inv .1) (rw e) refl
 
 pub make-step-spec : {M : Type 1} → statement M
-make-step-spec = tie.close (tie.spec Inv-loop μ-loop loop-holds add-make-event element-copy-out-wide wide-requires add-make-event-2 mul-make-event element-copy-out-make-event make-event-requires add-i loop-less loop-again same-length returns)
+make-step-spec = tie.close (tie.spec Inv-loop μ-loop loop-holds add-make-event element-copy-out-wide wide-requires add-make-event-2 make-event-requires add-i loop-less loop-again same-length returns)

@@ -29,14 +29,9 @@ element-copy-out-wide c = omega arith
 wide-requires : tie.Need-wide-requires Inv-loop μ-loop
 wide-requires c κs = tt
 
-mul-take-event : tie.Need-mul-take-event Inv-loop μ-loop
-mul-take-event c = let l = c .before .before .before in let s = l .before .before in omega (arith, s .pre .1 .known (l .loop .i) (omega arith))
-
-element-copy-out-take-event : tie.Need-element-copy-out-take-event Inv-loop μ-loop
-element-copy-out-take-event c = let l = c .before .before .before in let s = l .before .before in omega (arith, s .pre .1 .known (l .loop .i) (omega arith))
-
 take-event-requires : tie.Need-take-event-requires Inv-loop μ-loop
-take-event-requires c κs = let l = c .before .before .before .before .before .before in let s = l .before .before in (omega arith, s .pre .2 _, ready-after (s .pre .3) (l .loop .inv .1))
+take-event-requires c κs = let l = c .before .before .before .before .before in let s = l .before .before in
+    (omega arith, omega (arith, s .pre .1 .known (l .loop .i) (omega arith)), s .pre .2, ready-after (s .pre .3) (l .loop .inv .1))
 
 add-i : tie.Need-add-i Inv-loop μ-loop
 add-i c = omega arith
@@ -45,7 +40,7 @@ loop-less : tie.Need-loop-less Inv-loop μ-loop
 loop-less c = omega arith
 
 loop-again : tie.Need-loop-again Inv-loop μ-loop
-loop-again c = let w = c .before .before .before .before .before .before in let l = w .before .before .before in let s = l .before .before in
+loop-again c = let w = c .before .before .before .before .before in let l = w .before .before .before in let s = l .before .before in
     (omega arith, takes-as (takes-then (l .loop .inv .1) (c .before .before .take-event .ensures)) (inputs-next (s .args .sets .now) _ (s .args .step .now) (l .loop .i) _ (omega arith) (w .wide .ensures .0)))
 
 same-length : tie.Need-same-length Inv-loop μ-loop
@@ -55,4 +50,4 @@ returns : tie.Need-returns Inv-loop μ-loop
 returns c = let l = c .before in let e : l .loop .i ≡ l .before .before .args .count = omega arith in takes-as (l .loop .inv .1) (rw e)
 
 pub take-step-spec : {M : Type 1} → statement M
-take-step-spec = tie.close (tie.spec Inv-loop μ-loop loop-holds add-take-event element-copy-out-wide wide-requires mul-take-event element-copy-out-take-event take-event-requires add-i loop-less loop-again same-length returns)
+take-step-spec = tie.close (tie.spec Inv-loop μ-loop loop-holds add-take-event element-copy-out-wide wide-requires take-event-requires add-i loop-less loop-again same-length returns)

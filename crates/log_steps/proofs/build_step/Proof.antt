@@ -9,7 +9,7 @@ use Rattle.log_steps.proofs.build_step.Statement.{statement}
 use Rattle.log_steps.proofs.build_step.Tie as tie
 
 sizes-all-requires : tie.Need-sizes-all-requires
-sizes-all-requires c κs = (c .before .pre .step, omega arith)
+sizes-all-requires c κs = (c .before .pre .step, omega arith, sets-within (c .before .pre))
 
 add-if1 : tie.Need-add-if1
 add-if1 c = let m = c .before in let s = m .before .before in omega (arith, m .sizes-all .ensures .1, s .pre .step .few, s .pre .reached .holds .whole .conditions)
@@ -28,13 +28,13 @@ add-all-requires-2 : tie.Need-add-all-requires-2
 add-all-requires-2 c κs = let a = c .before in let s = a .before .before .before .before .before .before in (s .pre .step, watched-summable (s .pre) (a .add-all .ensures))
 
 own-all-requires : tie.Need-own-all-requires
-own-all-requires c κs = let s = c .before .before .before .before .before .before .before .before in s .pre .step
+own-all-requires c κs = let s = c .before .before .before .before .before .before .before .before in (s .pre .step, sets-within (s .pre))
 
 add-own : tie.Need-add-own
 add-own c = let o = c .before in let s = o .before .before .before .before .before .before .before .before .before in omega (arith, o .own-all .ensures .1, s .pre .step .few, tally-small (s .pre .reached) .own)
 
 sizes-all-requires-2 : tie.Need-sizes-all-requires-2
-sizes-all-requires-2 c κs = let s = c .before .before .before .before .before .before .before .before .before .before in (s .pre .step, omega arith)
+sizes-all-requires-2 c κs = let s = c .before .before .before .before .before .before .before .before .before .before in (s .pre .step, omega arith, sets-within (s .pre))
 
 add-reads : tie.Need-add-reads
 add-reads c = let d = c .before in let o = d .before .before in let s = o .before .before .before .before .before .before .before .before .before in omega (arith, d .sizes-all2 .ensures .1, s .pre .step .few, tally-small (s .pre .reached) .reads)

@@ -8,7 +8,9 @@ use lib.ListN.{getD, length-replicate}
 use borrow.Author.Needs.{needs}
 use Rattle.lists.specs.Arrays.{blank}
 use Rattle.writing.proofs.Laws.{wrote-length}
-use Rattle.condition_sets.specs.Sets.{Ready}
+use mathlib.Core.List.{List}
+use Rattle.arc_sets.specs.Sets.{Within}
+use Rattle.condition_sets.specs.Sets.{InPlaces, Ready}
 use Rattle.condition_sets.proofs.Words.{ready-none, low-place}
 use Rattle.held_conditions.specs.Held.{Passed}
 use Rattle.held_conditions.proofs.Reading.{passed-none, passed-later}
@@ -54,10 +56,14 @@ shared-slice-read-t c = let i = c .before in let s = start (i .before .before) i
 cast-t : tie.Need-cast-t Inv-loop μ-loop
 cast-t c = omega (arith, low-row (c .before))
 
+-- the set of a row has no place that is none
+in-places : (sets : List ℕ) → Within 32 sets → (i : ℕ) → i < 128 → InPlaces (getD sets i 0)
+in-places sets W i h p = W i p h
+
 ready-requires : tie.Need-ready-requires Inv-loop μ-loop
 ready-requires c κs =
     let i = c .before .before .before .before in
-    (low-row i, start (i .before .before) .pre .1 _, i .before .before .loop .inv .1)
+    (low-row i, in-places (start (i .before .before) .args .arcs .now) (start (i .before .before) .pre .1) _ (omega (arith, low-row i)), i .before .before .loop .inv .1)
 
 add-reads-of : tie.Need-add-reads-of Inv-loop μ-loop
 add-reads-of c = omega (arith, low-row (c .before .before .before .before .before .before))
@@ -74,7 +80,7 @@ reads-of-requires c κs =
     let l = c .before .before .before .before .before .before .before .before .before in
     let s = l .before .before .before .before .before .before in
     let a = s .args in (
-      s .pre .1 _,
+      in-places (a .arcs .now) (s .pre .1) _ (omega (arith, low-row i)),
       record { event = omega (arith, s .pre .0 .events, i .if1 .taken); few = s .pre .0 .conditions; long = s .pre .0 .long; coded = s .pre .0 .coded },
       l .loop .inv .2 (i .if1 .taken),
     )
@@ -90,8 +96,8 @@ put-row-requires c κs =
       omega (arith, s .pre .0 .events, i .if1 .taken),
       s .pre .0 .long,
       low-row i,
-      λ d h b. s .pre .0 .coded .consumer d (watched-low (a .arcs .now) (l .loop .e) (l .before .enter-places .ensures) (s .pre .0 .conditions) (s .pre .0 .place) (y .ready .ensures .1) (r .reads-of .ensures .0) (λ p. low-place _ p (s .pre .1 _)) d h b),
-      marks-room (a .arcs .now) (a .rec .now) (a .steps .now) (a .s .conditions) (l .loop .e) (i .if1 .taken) (row-notes (a .arcs .now) (l .loop .e) (l .before .enter-places .ensures) (s .pre .0 .conditions) (s .pre .0 .place) (y .ready .ensures .1) (r .reads-of .ensures .0) (λ p. low-place _ p (s .pre .1 _))) (l .loop .inv .3) (s .pre .2),
+      λ d h b. s .pre .0 .coded .consumer d (watched-low (a .arcs .now) (l .loop .e) (l .before .enter-places .ensures) (s .pre .0 .conditions) (s .pre .0 .place) (y .ready .ensures .1) (r .reads-of .ensures .0) (λ p. low-place _ p (in-places (a .arcs .now) (s .pre .1) _ (omega (arith, low-row i)))) d h b),
+      marks-room (a .arcs .now) (a .rec .now) (a .steps .now) (a .s .conditions) (l .loop .e) (i .if1 .taken) (row-notes (a .arcs .now) (l .loop .e) (l .before .enter-places .ensures) (s .pre .0 .conditions) (s .pre .0 .place) (y .ready .ensures .1) (r .reads-of .ensures .0) (λ p. low-place _ p (in-places (a .arcs .now) (s .pre .1) _ (omega (arith, low-row i))))) (l .loop .inv .3) (s .pre .2),
     )
 
 add-e : tie.Need-add-e Inv-loop μ-loop
@@ -112,7 +118,7 @@ loop-again c =
       omega (arith, i .if1 .taken),
       y .ready .ensures .0,
       λ h. passed-later (s .pre .0 .ascend (l .loop .e) _ (omega arith) h) (r .reads-of .ensures .1),
-      marks-next (a .arcs .now) (a .rec .now) (a .steps .now) (a .s .conditions) (l .loop .e) (row-notes (a .arcs .now) (l .loop .e) (l .before .enter-places .ensures) (s .pre .0 .conditions) (s .pre .0 .place) (y .ready .ensures .1) (r .reads-of .ensures .0) (λ p. low-place _ p (s .pre .1 _))) (l .loop .inv .3) (o .put-row .ensures),
+      marks-next (a .arcs .now) (a .rec .now) (a .steps .now) (a .s .conditions) (l .loop .e) (row-notes (a .arcs .now) (l .loop .e) (l .before .enter-places .ensures) (s .pre .0 .conditions) (s .pre .0 .place) (y .ready .ensures .1) (r .reads-of .ensures .0) (λ p. low-place _ p (in-places (a .arcs .now) (s .pre .1) _ (omega (arith, low-row i))))) (l .loop .inv .3) (o .put-row .ensures),
     )
 
 same-length : tie.Need-same-length Inv-loop μ-loop

@@ -11,7 +11,7 @@ use Rattle.run_counts.proofs.products.Statement.{statement}
 use Rattle.run_counts.proofs.products.Tie as tie
 
 abbrev Inv-loop : tie.InvT-loop
-Inv-loop counts m r₀ p₀ r p = (p ≤ m) × (r ≤ 1000000000000 * p) × (r ≡ sumOf (timesAt (column 0 32 counts) (column 32 32 counts)) (upTo p))
+Inv-loop counts m r₀ p₀ r p = (p ≤ m) × (r ≤ 6553600 * p) × (r ≡ sumOf (timesAt (column 0 32 counts) (column 32 32 counts)) (upTo p))
 
 abbrev μ-loop : tie.MeasureT-loop
 μ-loop counts m r₀ p₀ r p = m - p
@@ -42,11 +42,11 @@ wide-word-requires-2 c κs = tt
 
 mul-r : tie.Need-mul-r Inv-loop μ-loop
 mul-r c = let w = c .before .before in let l = w .before .before .before in let s = l .before in let n = s .args .counts .now in
-    let F = product-fits 1000000 1000000 (w .wide-word .ensures .0) (c .wide-word2 .ensures .0) (omega (arith, s .pre .1 (l .loop .p) (omega arith), held-read n (l .loop .p) (omega arith))) (omega (arith, s .pre .2 (l .loop .p) (omega arith), watched-read n (l .loop .p) (omega arith))) in omega (arith, F)
+    let F = product-fits 2560 2560 (w .wide-word .ensures .0) (c .wide-word2 .ensures .0) (omega (arith, s .pre .1 (l .loop .p) (omega arith), held-read n (l .loop .p) (omega arith))) (omega (arith, s .pre .2 (l .loop .p) (omega arith), watched-read n (l .loop .p) (omega arith))) in omega (arith, F)
 
 add-r : tie.Need-add-r Inv-loop μ-loop
 add-r c = let w = c .before .before in let l = w .before .before .before in let s = l .before in let n = s .args .counts .now in
-    let F = product-fits 1000000 1000000 (w .wide-word .ensures .0) (c .wide-word2 .ensures .0) (omega (arith, s .pre .1 (l .loop .p) (omega arith), held-read n (l .loop .p) (omega arith))) (omega (arith, s .pre .2 (l .loop .p) (omega arith), watched-read n (l .loop .p) (omega arith))) in omega (arith, F)
+    let F = product-fits 2560 2560 (w .wide-word .ensures .0) (c .wide-word2 .ensures .0) (omega (arith, s .pre .1 (l .loop .p) (omega arith), held-read n (l .loop .p) (omega arith))) (omega (arith, s .pre .2 (l .loop .p) (omega arith), watched-read n (l .loop .p) (omega arith))) in omega (arith, F)
 
 add-p : tie.Need-add-p Inv-loop μ-loop
 add-p c = omega arith
@@ -56,7 +56,7 @@ loop-less c = omega arith
 
 loop-again : tie.Need-loop-again Inv-loop μ-loop
 loop-again c = let w = c .before .before in let l = w .before .before .before in let s = l .before in let n = s .args .counts .now in
-    let F = product-fits 1000000 1000000 (w .wide-word .ensures .0) (c .wide-word2 .ensures .0) (omega (arith, s .pre .1 (l .loop .p) (omega arith), held-read n (l .loop .p) (omega arith))) (omega (arith, s .pre .2 (l .loop .p) (omega arith), watched-read n (l .loop .p) (omega arith))) in
+    let F = product-fits 2560 2560 (w .wide-word .ensures .0) (c .wide-word2 .ensures .0) (omega (arith, s .pre .1 (l .loop .p) (omega arith), held-read n (l .loop .p) (omega arith))) (omega (arith, s .pre .2 (l .loop .p) (omega arith), watched-read n (l .loop .p) (omega arith))) in
     (omega arith, omega (arith, F), product-next n (l .loop .p) _ (omega arith) (l .loop .inv .2) (w .wide-word .ensures .0) (c .wide-word2 .ensures .0))
 
 returns : tie.Need-returns Inv-loop μ-loop

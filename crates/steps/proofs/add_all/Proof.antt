@@ -1,4 +1,4 @@
--- The sets of the events up to the next are added.
+-- The rows of the events up to the next are added.
 use Prim.Native.Nat.{_-_, _≤_}
 use mathlib.Core.Path.{_≡_}
 use native.Mathlib.Omega.{arith}
@@ -24,17 +24,11 @@ element-copy-out-wide c = let l = c .before .before in omega (arith, l .before .
 wide-requires : tie.Need-wide-requires Inv-loop μ-loop
 wide-requires c κs = tt
 
-add-add-set : tie.Need-add-add-set Inv-loop μ-loop
-add-add-set c = let l = c .before .before .before .before in let s = l .before .before in omega (arith, s .pre .0 .known (l .loop .i) (omega arith), s .pre .1 .kind)
+add-add-row : tie.Need-add-add-row Inv-loop μ-loop
+add-add-row c = let l = c .before .before .before .before in let s = l .before .before in omega (arith, s .pre .0 .known (l .loop .i) (omega arith), s .pre .1 .kind)
 
-mul-add-set : tie.Need-mul-add-set Inv-loop μ-loop
-mul-add-set c = let l = c .before .before .before .before in let s = l .before .before in omega (arith, s .pre .0 .known (l .loop .i) (omega arith), s .pre .1 .kind)
-
-element-copy-out-add-set : tie.Need-element-copy-out-add-set Inv-loop μ-loop
-element-copy-out-add-set c = let l = c .before .before .before .before in let s = l .before .before in omega (arith, s .pre .0 .known (l .loop .i) (omega arith), s .pre .1 .kind)
-
-add-set-requires : tie.Need-add-set-requires Inv-loop μ-loop
-add-set-requires c κs = let w = c .before in let l = w .before .before .before .before in let s = l .before .before in summed-room (s .pre .0) (s .pre .1) (omega arith) (l .loop .inv .1) (w .wide .ensures .0)
+add-row-requires : tie.Need-add-row-requires Inv-loop μ-loop
+add-row-requires c κs = let l = c .before .before .before .before in let s = l .before .before in summed-room (s .pre .0) (s .pre .1) (omega arith) (l .loop .inv .1) (c .wide .ensures .0)
 
 add-i : tie.Need-add-i Inv-loop μ-loop
 add-i c = omega arith
@@ -43,7 +37,7 @@ loop-less : tie.Need-loop-less Inv-loop μ-loop
 loop-less c = omega arith
 
 loop-again : tie.Need-loop-again Inv-loop μ-loop
-loop-again c = let a = c .before .before in let w = a .before .before in let l = w .before .before .before .before in let s = l .before .before in (omega arith, summed-next (s .pre .0) (s .pre .1) (omega arith) (l .loop .inv .1) (w .wide .ensures .0) (a .add-set .ensures))
+loop-again c = let a = c .before .before in let w = a .before in let l = w .before .before .before .before in let s = l .before .before in (omega arith, summed-next (s .pre .0) (s .pre .1) (omega arith) (l .loop .inv .1) (w .wide .ensures .0) (a .add-row .ensures))
 
 same-length : tie.Need-same-length Inv-loop μ-loop
 same-length c = c .before .loop .inv .1 .long
@@ -52,4 +46,4 @@ returns : tie.Need-returns Inv-loop μ-loop
 returns c = let l = c .before in let e : l .loop .i ≡ l .before .before .args .count = omega arith in rw (← e) (l .loop .inv .1)
 
 pub add-all-spec : {M : Type 1} → statement M
-add-all-spec = tie.close (tie.spec Inv-loop μ-loop loop-holds element-copy-out-wide wide-requires add-add-set mul-add-set element-copy-out-add-set add-set-requires add-i loop-less loop-again same-length returns)
+add-all-spec = tie.close (tie.spec Inv-loop μ-loop loop-holds element-copy-out-wide wide-requires add-add-row add-row-requires add-i loop-less loop-again same-length returns)

@@ -17,7 +17,7 @@ joined-requires : tie.Need-joined-requires
 joined-requires c κs = let s = c .before .before in (s .pre .0, omega arith)
 
 some-place-requires : tie.Need-some-place-requires
-some-place-requires c κs = let s = c .before .before .before in joined-within (s .args .sets .now) 64 (s .pre .2) (c .joined .ensures)
+some-place-requires c κs = let s = c .before .before .before in joined-within (s .args .sets .now) 64 (omega arith) (s .pre .0) (s .pre .2) (c .joined .ensures)
 
 returns-2 : tie.Need-returns-2
 returns-2 c = let p = c .before in let g = p .before in let i = g .before in let sh = i .before in λ N ts mk A S K H.

@@ -23,7 +23,7 @@ joined-requires : tie.Need-joined-requires
 joined-requires c κs = let s = c .before .before .before .before .before .before in (s .pre .0, omega arith)
 
 some-place-requires : tie.Need-some-place-requires
-some-place-requires c κs = let s = c .before .before .before .before .before .before .before in joined-within (s .args .sets .now) 96 (s .pre .2) (c .joined .ensures)
+some-place-requires c κs = let s = c .before .before .before .before .before .before .before in joined-within (s .args .sets .now) 96 (omega arith) (s .pre .0) (s .pre .2) (c .joined .ensures)
 
 returns-2 : tie.Need-returns-2
 returns-2 c = let g = c .before in let i = g .before in let f = i .before in let ad = f .before .before .before in λ N ts mk A S K H.

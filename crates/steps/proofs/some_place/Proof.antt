@@ -5,9 +5,9 @@ use mathlib.Core.Path.{_∙_}
 use mathlib.Core.Bool.{true≢false, false≢true}
 use native.Mathlib.Omega.{arith}
 use lib.ListN.{getD}
-use Rattle.arc_sets.specs.Walk.{Left, left-all, rest-less, nothing-left}
+use Rattle.arc_sets.specs.Walk.{Left, left-all, at-lowest, nothing-left}
 use Rattle.steps.specs.StepArrays.{isFilled}
-use Rattle.steps.proofs.Walking.{filled-is, at-lowest, NoneTo, none-next, looks, none-all}
+use Rattle.steps.proofs.Walking.{filled-is, NoneTo, none-next, looks, none-all}
 use Rattle.steps.proofs.some_place.Statement.{statement}
 use Rattle.steps.proofs.some_place.Tie as tie
 
@@ -36,7 +36,7 @@ shl-bits : tie.Need-shl-bits Inv-loop μ-loop
 shl-bits c = let o = c .before .before in let l = o .before .before in let L = at-lowest (l .loop .inv .1) (o .lowest .ensures) (o .before .loop-test .taken) in L .low
 
 loop-less : tie.Need-loop-less Inv-loop μ-loop
-loop-less c = let o = c .before .before in let l = o .before .before in let L = at-lowest (l .loop .inv .1) (o .lowest .ensures) (o .before .loop-test .taken) in rest-less (l .loop .inv .1) (o .lowest .ensures) (L .left) (L .low)
+loop-less c = let o = c .before .before in let l = o .before .before in let L = at-lowest (l .loop .inv .1) (o .lowest .ensures) (o .before .loop-test .taken) in L .less
 
 loop-again : tie.Need-loop-again Inv-loop μ-loop
 loop-again c = let o = c .before .before in let l = o .before .before in let L = at-lowest (l .loop .inv .1) (o .lowest .ensures) (o .before .loop-test .taken) in let E = none-next (l .loop .inv .1) (l .loop .inv .2) (o .lowest .ensures) (o .before .loop-test .taken) (filled-is (l .before .args .filled) (getD (l .before .args .marking .now) (o .lowest .result) 0) ∙ c .if1 .left) in (_, E .0, E .1)

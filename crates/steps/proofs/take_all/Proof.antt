@@ -24,14 +24,8 @@ element-copy-out-wide c = omega arith
 wide-requires : tie.Need-wide-requires Inv-loop μ-loop
 wide-requires c κs = tt
 
-mul-take-set : tie.Need-mul-take-set Inv-loop μ-loop
-mul-take-set c = let l = c .before .before .before .before in omega (arith, l .before .pre .0 .known (l .loop .i) (omega arith))
-
-element-copy-out-take-set : tie.Need-element-copy-out-take-set Inv-loop μ-loop
-element-copy-out-take-set c = let l = c .before .before .before .before in omega (arith, l .before .pre .0 .known (l .loop .i) (omega arith))
-
-take-set-requires : tie.Need-take-set-requires Inv-loop μ-loop
-take-set-requires c κs = let w = c .before in let l = w .before .before .before .before in let s = l .before in let P = l .loop .inv .1 in (P .long ∙ s .pre .1 .long, paid-room (s .pre .0) (s .pre .1) (omega arith) P (w .wide .ensures .0))
+take-row-requires : tie.Need-take-row-requires Inv-loop μ-loop
+take-row-requires c κs = let l = c .before .before .before .before in let s = l .before in let P = l .loop .inv .1 in let r = paid-room (s .pre .0) (s .pre .1) (omega arith) P (c .wide .ensures .0) in (r .0, P .long ∙ s .pre .1 .long, r .1)
 
 add-i : tie.Need-add-i Inv-loop μ-loop
 add-i c = omega arith
@@ -40,10 +34,10 @@ loop-less : tie.Need-loop-less Inv-loop μ-loop
 loop-less c = omega arith
 
 loop-again : tie.Need-loop-again Inv-loop μ-loop
-loop-again c = let w = c .before .before in let l = w .before .before .before .before in let s = l .before in (omega arith, paid-next (s .pre .0) (s .pre .1) (omega arith) (l .loop .inv .1) (w .wide .ensures .0) (c .take-set .ensures))
+loop-again c = let w = c .before in let l = w .before .before .before .before in let s = l .before in (omega arith, paid-next (s .pre .0) (s .pre .1) (omega arith) (l .loop .inv .1) (w .wide .ensures .0) (c .take-row .ensures))
 
 returns : tie.Need-returns Inv-loop μ-loop
 returns c = let l = c .before in let e : l .loop .i ≡ l .before .args .count = omega arith in rw (← e) (l .loop .inv .1)
 
 pub take-all-spec : {M : Type 1} → statement M
-take-all-spec = tie.close (tie.spec Inv-loop μ-loop loop-holds element-copy-out-wide wide-requires mul-take-set element-copy-out-take-set take-set-requires add-i loop-less loop-again returns)
+take-all-spec = tie.close (tie.spec Inv-loop μ-loop loop-holds element-copy-out-wide wide-requires take-row-requires add-i loop-less loop-again returns)
