@@ -4,12 +4,13 @@
 #   unit tests    the simulator against written-out cases and literal renderings; the tests against faults put into it
 #   c             include/pti.h and the library from C; it needs no other library and has no variables, so calls may overlap
 #   comparison    library and simulator on written-out, fixed and generated cases, every lent byte included; on cases of before
-#                 each request, with the simulator as it was then; and the library with itself under other line ends
+#                 each request, with the simulator as it was then; and the library with itself under other line ends, and with
+#                 the weight 1 written out
 #   brute force   demand 3 on every run of small nets, all arrangements of each
 #   byte table    the table that the source keeps is, byte for byte, what its program prints
 #   guarded       the comparison again with pages around every lent part that may not be touched, and the stack of each call
 #   peer          the unverified program that the library is measured against, held to the same comparison by document 01 with
-#                 2026-04 and 2026-05, on texts without the other requests
+#                 2026-04, 2026-05 and 2026-06, on texts without the other requests
 #
 #   tests/run.sh           400,000 generated cases, 200 nets, in about a minute
 #   tests/run.sh --long    ten times as many of each, from another seed

@@ -38,12 +38,13 @@ pub enum Clause {
     Accepted,
     Own,
     Process,
+    Counted,
     Built,
     Rest,
 }
 
 impl Clause {
-    pub const ALL: [(Clause, &'static str); 15] = [
+    pub const ALL: [(Clause, &'static str); 16] = [
         (Clause::Placed, "the arrangement written puts each event into one of its steps, none of them empty"),
         (Clause::Keeps, "the arrangement written keeps the order"),
         (Clause::Least, "the returned count is that of its steps, and no arrangement that keeps the order has fewer"),
@@ -57,6 +58,7 @@ impl Clause {
         (Clause::Accepted, "the record built from an enabled step sequence is accepted"),
         (Clause::Own, "an enabled step sequence is among the arrangements that keep its record's order"),
         (Clause::Process, "39 exactly where no arrangement keeps the pairs"),
+        (Clause::Counted, "36 at the lowest event that has other than its arcs' weights of conditions at a place, and nowhere else"),
         (Clause::Built, "exactly the enabled step sequences are built, and 24 or 25 says why not"),
         (Clause::Rest, "the rest of the table is 0, and the counts of events and conditions"),
     ];
@@ -68,6 +70,8 @@ pub struct Counts {
     records: usize,
     /// Records accepted that have R marks.
     reading: usize,
+    /// Records accepted with events that have two conditions of a place or more.
+    weighted: usize,
     /// Records accepted that have two events which no arrangement parts.
     looped: usize,
     cyclic: usize,
@@ -92,20 +96,21 @@ pub fn brute(subject: &dyn Subject, plan: &Plan) -> bool {
         println!("{:>9} times: {words}", counts.judged.get(&clause).unwrap_or(&0));
     }
     println!(
-        "brute ({}): every run of {} nets and one of {}: {} runs, {} records accepted ({} with readers, {} with loops) and {} cyclic, {} arrangements of which {} keep the order, {} failed",
+        "brute ({}): every run of {} nets and one of {}: {} runs, {} records accepted ({} with readers, {} with weights, {} with loops) and {} cyclic, {} arrangements of which {} keep the order, {} failed",
         subject.name(),
         plan.nets,
         plan.runs,
         counts.runs,
         counts.records,
         counts.reading,
+        counts.weighted,
         counts.looped,
         counts.cyclic,
         counts.arrangements,
         counts.keeping,
         failures.len()
     );
-    failures.is_empty() && counts.judged.len() == Clause::ALL.len()
+    failures.is_empty() && counts.judged.len() == Clause::ALL.len() && counts.weighted > 0
 }
 
 /// The failures, each with where it comes from.
@@ -127,7 +132,7 @@ fn judge(subject: &dyn Subject, plan: &Plan, counts: &mut Counts) -> Vec<(String
 
 type Judge = fn(&dyn Subject, &mut Rng, &mut Counts) -> Result<(), Failure>;
 
-const SIZE: Size = Size { places: 6, transitions: 5, tokens: 2, events: 5, step: 3, reads: true };
+const SIZE: Size = Size { places: 6, transitions: 5, tokens: 2, events: 5, step: 3, reads: true, weights: true };
 
 /// Every run of up to five events of a net, each with the record built from it, and the steps that are not enabled.
 fn every_run(subject: &dyn Subject, rng: &mut Rng, counts: &mut Counts) -> Result<(), Failure> {
@@ -141,6 +146,7 @@ fn every_run(subject: &dyn Subject, rng: &mut Rng, counts: &mut Counts) -> Resul
             let record = RecordPlan::read(&built);
             trial.record(&built, &record, true)?;
             other_reads(&mut trial, &record)?;
+            other_counts(&mut trial, &record)?;
             seen.insert(built.clone(), record);
         }
         trial.own_sequence(&built, &seen[&built], steps)?;
@@ -163,8 +169,20 @@ fn one_run(subject: &dyn Subject, rng: &mut Rng, counts: &mut Counts) -> Result<
         gen::change(trial.rng, &mut changed);
         trial.record(&changed.text(), &changed, false)?;
     }
+    other_counts(&mut trial, &record)?;
     let more: Vec<Vec<usize>> = (0..5).map(|_| any_step(trial.rng, &net)).collect();
     trial.steps_after(&steps, &more)
+}
+
+/// The record with a condition at another event, or at none, a few times: an event has one more or fewer of a place, or two events
+/// have exchanged theirs.
+fn other_counts(trial: &mut Trial, record: &RecordPlan) -> Result<(), Failure> {
+    for _ in 0..3 {
+        let mut changed = record.clone();
+        gen::weights::break_count(trial.rng, &mut changed);
+        trial.record(&changed.text(), &changed, false)?;
+    }
+    Ok(())
 }
 
 /// The record with one R mark on each other condition of its place, up to a few: a process of the same events that may have

@@ -78,7 +78,7 @@ impl Operation {
 
     /// Every refusal that documents 01 and 02 list for it.
     pub fn refusals(self) -> Vec<u64> {
-        let net = (11..=15).chain([51]);
+        let net = (11..=15).chain([51, 54]);
         let record = 31..=39;
         match self {
             Operation::ReadNet => net.collect(),
@@ -111,7 +111,14 @@ impl Case {
     pub fn within(&self, requests: Requests) -> bool {
         let reads = |text: &[u8]| text.split(|byte| *byte == 10).any(|line| line.starts_with(b"R"));
         let returns = |text: &[u8]| text.windows(2).any(|two| two == b"\r\n");
-        self.texts.iter().all(|text| (requests.read_arcs || !reads(text)) && (requests.carriage_returns || !returns(text)))
+        self.texts.iter().all(|text| {
+            (requests.read_arcs || !reads(text)) && (requests.carriage_returns || !returns(text)) && (requests.weights || !text.split(|byte| *byte == 10).any(weighted))
+        })
+    }
+
+    /// Has the net a line with a weight? Of the program's input every line is looked at: no line of a log begins like that.
+    pub fn has_weights(&self) -> bool {
+        self.texts[0].split(|byte| *byte == 10).any(weighted)
     }
 
     /// With a buffer of the stated size.
@@ -131,6 +138,11 @@ impl Case {
         self.line = line;
         self
     }
+}
+
+/// Is the line one of an input or an output arc, with more behind its ends?
+fn weighted(line: &[u8]) -> bool {
+    (line.starts_with(b"I,") || line.starts_with(b"O,")) && line.iter().filter(|byte| **byte == b',').count() > 2
 }
 
 /// The answer and all lent memory after the call, with the guards around it.

@@ -15,17 +15,19 @@ pub enum Source {
     Generated,
     /// By the generators as they were before each request of document 02 that adds to the texts, by turns.
     Base,
-    /// By the generators as they were before 2026-02, each case with two choices of line ends.
+    /// Without byte 13, each case with two choices of line ends.
     Endings,
+    /// Each case with the weight 1 left out and written on some arcs of its net.
+    Ones,
 }
 
 impl Source {
-    pub const ALL: [Source; 5] = [Source::Vectors, Source::Fixed, Source::Generated, Source::Base, Source::Endings];
-    /// For a subject that has document 01 with 2026-04 and 2026-05, which is all that there is without lines `R` and byte 13.
-    pub const OF_DOCUMENT_01: [Source; 3] = [Source::Vectors, Source::Fixed, Source::Base];
+    pub const ALL: [Source; 6] = [Source::Vectors, Source::Fixed, Source::Generated, Source::Base, Source::Endings, Source::Ones];
+    /// For the peer, which has document 01 with 2026-04, 2026-05 and 2026-06: all that there is without lines `R` and byte 13.
+    pub const OF_PEER: [Source; 3] = [Source::Vectors, Source::Fixed, Source::Base];
 
     pub fn name(self) -> &'static str {
-        ["vectors", "fixed", "generated", "base", "endings"][self as usize]
+        ["vectors", "fixed", "generated", "base", "endings", "ones"][self as usize]
     }
 }
 
@@ -39,8 +41,8 @@ pub struct Reference<'a> {
 
 pub struct Plan {
     pub sources: Vec<Source>,
-    /// Generated cases, besides the others. By earlier generators there are a quarter as many, or as many for a subject that
-    /// has no later texts; with two choices of line ends, a tenth.
+    /// Generated cases, besides the others. By earlier generators there are a quarter as many, or as many for the peer, which has
+    /// no others; with two choices of line ends a tenth, and as many with the weight 1 left out and written.
     pub cases: usize,
     pub seed: u64,
     /// After so many differences nothing more is run.
@@ -67,11 +69,13 @@ struct Comparison<'a> {
     differences: usize,
     /// The subject's answers by operation and number; 0 is accepted.
     met: BTreeMap<(Operation, u64), Met>,
+    /// How often an operation accepted what has a net with weights.
+    weighted: BTreeMap<Operation, usize>,
 }
 
 /// Did all cases agree, and, where there were cases of every source, was every refusal met?
 pub fn compare(subject: &dyn Subject, reference: Reference, plan: &Plan) -> bool {
-    let mut comparison = Comparison { subject, reference, plan, cases: 0, differences: 0, met: BTreeMap::new() };
+    let mut comparison = Comparison::new(subject, reference, plan);
     for source in &plan.sources {
         let before = comparison.cases;
         match source {
@@ -80,21 +84,26 @@ pub fn compare(subject: &dyn Subject, reference: Reference, plan: &Plan) -> bool
             Source::Generated => comparison.rounds(),
             Source::Base => comparison.base_rounds(),
             Source::Endings => comparison.endings(),
+            Source::Ones => comparison.ones(),
         }
         println!("{}: {} cases", source.name(), comparison.cases - before);
     }
     comparison.report()
 }
 
-impl Comparison<'_> {
-    /// Has the subject the texts of document 01 alone, and energy texts? Then cases that make use of another request are left out.
-    fn of_document_01(&self) -> bool {
-        self.plan.sources == Source::OF_DOCUMENT_01
+impl<'a> Comparison<'a> {
+    fn new(subject: &'a dyn Subject, reference: Reference<'a>, plan: &'a Plan) -> Comparison<'a> {
+        Comparison { subject, reference, plan, cases: 0, differences: 0, met: BTreeMap::new(), weighted: BTreeMap::new() }
+    }
+
+    /// Is the subject the peer? Then cases that make use of a request that it has not are left out.
+    fn of_peer(&self) -> bool {
+        self.plan.sources == Source::OF_PEER
     }
 
     /// Is the case one that the subject knows of?
     fn takes(&self, case: &Case) -> bool {
-        !self.of_document_01() || case.within(Requests::BEFORE[0])
+        !self.of_peer() || case.within(Requests::OF_PEER)
     }
 
     fn done(&self) -> bool {
@@ -138,16 +147,18 @@ impl Comparison<'_> {
         }
     }
 
-    /// What damage has made a line of a request is left out.
+    /// What damage has made a line of a request is left out. The peer's cases have what it has; on them the reference of now gives
+    /// what it would without the rest.
     fn base_rounds(&mut self) {
         let before = self.cases;
         let mut round = 0;
-        let (most, turns) = if self.of_document_01() { (self.plan.cases, 1) } else { (self.plan.cases / 4, Requests::BEFORE.len()) };
+        let most = if self.of_peer() { self.plan.cases } else { self.plan.cases / 4 };
         while self.cases < before + most && !self.done() {
             let mut rng = self.next_round(round);
-            let turn = round as usize % turns;
-            for case in gen::round_with(&mut rng, Requests::BEFORE[turn]).iter().filter(|case| case.within(Requests::BEFORE[turn])) {
-                self.one(&format!("seed {}, base round {round}", self.plan.seed), case, self.reference.before[turn]);
+            let turn = round as usize % Requests::BEFORE.len();
+            let (requests, reference) = if self.of_peer() { (Requests::OF_PEER, self.reference.now) } else { (Requests::BEFORE[turn], self.reference.before[turn]) };
+            for case in gen::round_with(&mut rng, requests).iter().filter(|case| case.within(requests)) {
+                self.one(&format!("seed {}, base round {round}", self.plan.seed), case, reference);
             }
             round += 1;
         }
@@ -155,15 +166,25 @@ impl Comparison<'_> {
 
     /// The subject alone: with other line ends it gives the same answer.
     fn endings(&mut self) {
+        self.twice("other line ends", gen::two_endings, |one, other| one == other);
+    }
+
+    /// The subject alone: with the weight 1 written it gives the same answer as without.
+    fn ones(&mut self) {
+        self.twice("weights of 1", gen::two_spellings, |one, other| one == other || [one, b",1"].concat() == other);
+    }
+
+    /// The subject alone on cases made two ways; a refused line is shown alike in both.
+    fn twice(&mut self, ways: &str, pairs: fn(&mut Rng) -> Vec<(Case, Case)>, alike: fn(&[u8], &[u8]) -> bool) {
         let before = self.cases;
         let mut round = 0;
         while self.cases < before + self.plan.cases / 10 && !self.done() {
             let mut rng = self.next_round(round);
-            for (plain, other) in gen::two_endings(&mut rng) {
+            for (plain, other) in pairs(&mut rng) {
                 let found = run(self.subject, &plain);
-                self.count(plain.operation, &found);
-                if let Some(what) = other_answer((&plain, &found), (&other, &run(self.subject, &other))) {
-                    self.tell(&format!("seed {}, endings {round}, {} with other line ends", self.plan.seed, self.subject.name()), &what, &other);
+                self.count(&plain, &found);
+                if let Some(what) = other_answer((&plain, &found), (&other, &run(self.subject, &other)), alike) {
+                    self.tell(&format!("seed {}, round {round}, {} with {ways}", self.plan.seed, self.subject.name()), &what, &other);
                 }
             }
             round += 1;
@@ -182,7 +203,7 @@ impl Comparison<'_> {
             return;
         }
         let found = run(self.subject, case);
-        self.count(case.operation, &found);
+        self.count(case, &found);
         if difference(&found, &run(reference, case)).is_some() {
             let small = shrink(self.subject, reference, case);
             let what = differs(self.subject, reference, &small).unwrap_or_default();
@@ -190,9 +211,12 @@ impl Comparison<'_> {
         }
     }
 
-    fn count(&mut self, operation: Operation, outcome: &Outcome) {
+    fn count(&mut self, case: &Case, outcome: &Outcome) {
         let (number, spot) = outcome.refusal();
-        let met = self.met.entry((operation, number)).or_default();
+        if number == 0 && case.has_weights() {
+            *self.weighted.entry(case.operation).or_default() += 1;
+        }
+        let met = self.met.entry((case.operation, number)).or_default();
         self.cases += 1;
         met.count += 1;
         if met.spots.len() < 2 {
@@ -210,11 +234,13 @@ impl Comparison<'_> {
         for operation in Operation::ALL {
             let count = |number: u64| self.met.get(&(operation, number)).map_or(0, |met| met.count);
             let words = operation.refusals().iter().map(|number| format!(" {number}:{}", count(*number))).collect::<String>();
-            println!("{:12} accepted {}; refused{words}", operation.name(), count(0));
-            let wanted = operation.refusals().into_iter().chain([0]).filter(|number| !self.of_document_01() || *number != OF_READ_ARCS);
+            let weighted = self.weighted.get(&operation).copied().unwrap_or(0);
+            println!("{:12} accepted {} ({weighted} with weights); refused{words}", operation.name(), count(0));
+            let wanted = operation.refusals().into_iter().chain([0]).filter(|number| !self.of_peer() || *number != OF_READ_ARCS);
             unmet.extend(wanted.filter(|number| !self.is_met(operation, *number)).map(|number| format!("{} {number}", operation.name())));
+            unmet.extend((weighted == 0).then(|| format!("{} with weights", operation.name())));
         }
-        if self.plan.sources != Source::ALL && !self.of_document_01() {
+        if self.plan.sources != Source::ALL && !self.of_peer() {
             unmet.clear();
         }
         if !unmet.is_empty() {
@@ -231,17 +257,20 @@ impl Comparison<'_> {
     }
 }
 
-/// What differs between the outcomes of a case and of the same with other line ends. A refused line starts elsewhere where there
-/// are other endings above it; its bytes are the same.
-fn other_answer((plain, found): (&Case, &Outcome), (other, again): (&Case, &Outcome)) -> Option<String> {
+/// What differs between the outcomes of a case and of the same made another way. A refused line starts elsewhere where what stands
+/// above it is longer; its bytes are alike.
+fn other_answer((plain, found): (&Case, &Outcome), (other, again): (&Case, &Outcome), alike: fn(&[u8], &[u8]) -> bool) -> Option<String> {
     if plain.operation != Operation::RefusedLine || !found.answer.accepted() {
         return difference(found, again);
     }
     let part = |case: &Case, answer: Answer| case.texts[usize::from(case.choice)].get(answer.a as usize..)?.get(..answer.b as usize).map(<[u8]>::to_vec);
-    if part(plain, found.answer).is_none() || part(plain, found.answer) != part(other, again.answer) {
+    let (Some(one), Some(two)) = (part(plain, found.answer), part(other, again.answer)) else {
+        return Some(format!("no parts {:?} and {:?}", found.answer, again.answer));
+    };
+    if !alike(&one, &two) {
         return Some(format!("parts {:?} and {:?}", found.answer, again.answer));
     }
-    let moved = Outcome { answer: Answer { a: found.answer.a, ..again.answer }, ..again.clone() };
+    let moved = Outcome { answer: Answer { a: found.answer.a, b: found.answer.b, ..again.answer }, ..again.clone() };
     difference(found, &moved)
 }
 
@@ -296,15 +325,16 @@ impl Shrinking<'_> {
 mod tests {
     use super::*;
     use crate::case::lent;
-    use crate::sim::{BEFORE, EVENTS, SIMULATOR};
+    use crate::sim::{BEFORE, EVENTS, SIMULATOR, WITHOUT_RETURNS};
 
-    const REFERENCE: Reference = Reference { now: &SIMULATOR, before: [&BEFORE[0], &BEFORE[1]] };
+    const REFERENCE: Reference = Reference { now: &SIMULATOR, before: [&BEFORE[0], &BEFORE[1], &BEFORE[2]] };
 
-    /// The simulator against itself: no difference, and the generator alone meets every refusal of every operation.
+    /// The simulator against itself: no difference, and the generator alone meets every refusal of every operation, and has each
+    /// accept nets with weights.
     #[test]
     fn generator_meets_every_refusal() {
         let plan = Plan { sources: vec![Source::Generated], cases: 60_000, seed: 7, enough: 1, trace: false };
-        let mut comparison = Comparison { subject: &SIMULATOR, reference: REFERENCE, plan: &plan, cases: 0, differences: 0, met: BTreeMap::new() };
+        let mut comparison = Comparison::new(&SIMULATOR, REFERENCE, &plan);
         comparison.rounds();
         comparison.base_rounds();
         assert_eq!(comparison.differences, 0);
@@ -312,6 +342,7 @@ mod tests {
             for number in operation.refusals().into_iter().chain([0]) {
                 assert!(comparison.is_met(operation, number), "{} {number}", operation.name());
             }
+            assert!(comparison.weighted[&operation] > 500, "{} with weights {}", operation.name(), comparison.weighted[&operation]);
         }
     }
 
@@ -320,11 +351,24 @@ mod tests {
     fn other_line_ends_tell_subjects_apart() {
         let seen = |subject: &dyn Subject| -> BTreeSet<Operation> {
             let pairs = (0..400).flat_map(|round| gen::two_endings(&mut Rng::for_round(9, round)));
-            let differs = |(plain, other): &(Case, Case)| other_answer((plain, &run(subject, plain)), (other, &run(subject, other))).is_some();
+            let differs = |(plain, other): &(Case, Case)| other_answer((plain, &run(subject, plain)), (other, &run(subject, other)), |one, two| one == two).is_some();
             pairs.filter(differs).map(|(plain, _)| plain.operation).collect()
         };
         assert_eq!(seen(&SIMULATOR), BTreeSet::new());
-        assert_eq!(seen(&BEFORE[1]), BTreeSet::from(Operation::ALL));
+        assert_eq!(seen(&WITHOUT_RETURNS), BTreeSet::from(Operation::ALL));
+    }
+
+    /// A subject without weights is seen by written weights of 1 in every operation that reads a net, the simulator in none.
+    #[test]
+    fn weights_of_1_tell_subjects_apart() {
+        let seen = |subject: &dyn Subject| -> BTreeSet<Operation> {
+            let pairs = (0..400).flat_map(|round| gen::two_spellings(&mut Rng::for_round(10, round)));
+            let alike = |one: &[u8], two: &[u8]| one == two || [one, b",1"].concat() == two;
+            let differs = |(plain, other): &(Case, Case)| other_answer((plain, &run(subject, plain)), (other, &run(subject, other)), alike).is_some();
+            pairs.filter(differs).map(|(plain, _)| plain.operation).collect()
+        };
+        assert_eq!(seen(&SIMULATOR), BTreeSet::new());
+        assert_eq!(seen(&BEFORE[2]), Operation::ALL.into_iter().filter(|operation| *operation != Operation::RefusedLine).collect());
     }
 
     /// Orders of every kind are met: with weak pairs only one way, both ways, strict pairs, and with none.

@@ -3,6 +3,7 @@
 mod energy;
 mod loops;
 mod returns;
+mod weights;
 
 use crate::case::{lent, run, Case, Operation};
 use crate::gen::{build, BYTES, NUMBERS};
@@ -32,6 +33,7 @@ pub fn all() -> Vec<Case> {
     returns::add(&mut cases);
     loops::add(&mut cases);
     energy::add(&mut cases);
+    weights::add(&mut cases);
     cases
 }
 
@@ -47,7 +49,7 @@ const READING_RECORD: &str = "E,0 E,1 E,2 C,0,-,0 C,3,-,1 C,1,0,2 C,4,1,- C,2,2,
 /// A case of each operation in which nothing is wrong.
 fn sound() -> Vec<Case> {
     let (drive, input) = (text(DRIVE), text(&format!("{DRIVE} = S,0 S,1,0 S,2")));
-    vec![
+    let mut sound = vec![
         Case::new(Operation::ReadNet, &[&drive]),
         Case::new(Operation::Build, &[&drive, &text("S,0 S,1 S,2")]),
         Case::new(Operation::Check, &[&drive, &text(CASE_A)]),
@@ -62,7 +64,9 @@ fn sound() -> Vec<Case> {
         Case::new(Operation::Program, &[&text(&format!("{READING} = S,0 S,1,2"))]),
         Case::new(Operation::RefusedLine, &[&drive, &text(CASE_A)]).asking(1, 4),
         energy::sound(),
-    ]
+    ];
+    sound.extend(weights::sound());
+    sound
 }
 
 fn with_text(case: &Case, which: usize, text: Vec<u8>) -> Case {

@@ -10,6 +10,7 @@ mod nets;
 mod readers;
 mod records;
 mod returns;
+pub mod weights;
 
 use crate::case::{run, Case, Operation};
 use crate::model::{log_text, NetPlan};
@@ -21,6 +22,7 @@ pub use logs::play;
 pub use nets::net;
 pub use records::change;
 pub use returns::{every_end, two_endings};
+pub use weights::two_spellings;
 
 /// How large the nets and runs of a round are at most.
 #[derive(Clone, Copy)]
@@ -32,27 +34,34 @@ pub struct Size {
     pub events: usize,
     /// Events of a step.
     pub step: usize,
-    /// Whether there are read arcs. Without them the same draws give the same cases as before there were any.
+    /// Whether there are read arcs, and weights. Without them the same draws give the same cases as before there were any.
     pub reads: bool,
+    pub weights: bool,
 }
 
-pub const SMALL: Size = Size { places: 6, transitions: 5, tokens: 3, events: 8, step: 3, reads: true };
-const MEDIUM: Size = Size { places: 12, transitions: 10, tokens: 9, events: 40, step: 6, reads: true };
-const LARGE: Size = Size { places: 32, transitions: 32, tokens: 60, events: 135, step: 40, reads: true };
+pub const SMALL: Size = Size { places: 6, transitions: 5, tokens: 3, events: 8, step: 3, reads: true, weights: true };
+const MEDIUM: Size = Size { places: 12, transitions: 10, tokens: 9, events: 40, step: 6, reads: true, weights: true };
+const LARGE: Size = Size { places: 32, transitions: 32, tokens: 60, events: 135, step: 40, reads: true, weights: true };
 /// For `nets::store`, whose runs pass the limits only with long steps.
-const STORE: Size = Size { places: 4, transitions: 4, tokens: 512, events: 132, step: 70, reads: true };
+const STORE: Size = Size { places: 4, transitions: 4, tokens: 512, events: 132, step: 70, reads: true, weights: true };
 
 /// Mostly small, since the many kinds of mistakes show there and a small case costs little.
-fn net_and_log(rng: &mut Rng, reads: bool) -> (NetPlan, Size, Vec<Vec<usize>>) {
+fn net_and_log(rng: &mut Rng, requests: Requests) -> (NetPlan, Size, Vec<Vec<usize>>) {
+    let Requests { read_arcs: reads, weights, .. } = requests;
     let kind = rng.below(400);
     let size = match kind {
         0 => LARGE,
         1..=3 => STORE,
         4..=11 => MEDIUM,
         12..=13 if reads => STORE,
+        14..=16 if weights => STORE,
         _ => SMALL,
     };
-    let size = Size { reads, ..size };
+    let size = Size { reads, weights, ..size };
+    if size.weights && (14..=16).contains(&kind) {
+        let (plan, steps) = weights::at_the_limit(rng);
+        return (plan, size, steps);
+    }
     let plan = match kind {
         1..=3 => nets::store(rng),
         12..=13 if reads => readers::store(rng),
@@ -75,7 +84,7 @@ pub fn round(rng: &mut Rng) -> Vec<Case> {
 /// in last, so that the draws before them stay. Energies are an operation of their own, which nothing older makes use of; so there
 /// are cases of it in every round.
 pub fn round_with(rng: &mut Rng, requests: Requests) -> Vec<Case> {
-    let mut cases = cases(rng, requests.read_arcs);
+    let mut cases = cases(rng, requests);
     if requests.free_to_swap && rng.chance(15) {
         cases.extend(loops::cases(rng));
     }
@@ -87,15 +96,15 @@ pub fn round_with(rng: &mut Rng, requests: Requests) -> Vec<Case> {
     cases
 }
 
-fn cases(rng: &mut Rng, reads: bool) -> Vec<Case> {
-    let (plan, size, steps) = net_and_log(rng, reads);
+fn cases(rng: &mut Rng, requests: Requests) -> Vec<Case> {
+    let (plan, size, steps) = net_and_log(rng, requests);
     let sound = nets::text(rng, &plan);
-    let net = maybe_net(rng, 4, &sound, reads);
+    let net = maybe_net(rng, 4, &sound, requests);
     let log = maybe(rng, 8, &log_text(&steps));
     let proposed = proposal(rng, &plan, &sound, size);
     let record = maybe(rng, 6, &proposed);
     let mut cases = vec![
-        Case::new(Operation::ReadNet, &[&maybe_net(rng, 50, &sound, reads)]),
+        Case::new(Operation::ReadNet, &[&maybe_net(rng, 50, &sound, requests)]),
         Case::new(Operation::Build, &[&net, &log]),
         Case::new(Operation::Check, &[&net, &record]),
         Case::new(Operation::Arrange, &[&net, &record]),
@@ -107,7 +116,7 @@ fn cases(rng: &mut Rng, reads: bool) -> Vec<Case> {
         let arrangement = maybe(rng, 6, &arrangement);
         cases.push(Case::new(Operation::Replay, &[&net, &record, &arrangement]));
     }
-    if reads && rng.chance(20) {
+    if requests.read_arcs && rng.chance(20) {
         cases.extend(readers::read_and_inhibited(rng, &plan, &proposed));
     }
     cases.iter_mut().for_each(|case| case.room = room(rng, case.operation));
@@ -123,9 +132,10 @@ fn maybe(rng: &mut Rng, percent: usize, text: &[u8]) -> Vec<u8> {
 }
 
 /// The net text, with the given chance damaged or with lines put in that are refused.
-fn maybe_net(rng: &mut Rng, percent: usize, text: &[u8], reads: bool) -> Vec<u8> {
+fn maybe_net(rng: &mut Rng, percent: usize, text: &[u8], requests: Requests) -> Vec<u8> {
     match rng.chance(percent) {
-        true if reads && rng.chance(25) => readers::refused_text(rng, text),
+        true if requests.weights && rng.chance(30) => weights::refused_text(rng, text),
+        true if requests.read_arcs && rng.chance(25) => readers::refused_text(rng, text),
         true if rng.chance(50) => nets::refused_text(rng, text),
         true => damage(rng, text),
         false => text.to_vec(),
@@ -136,7 +146,7 @@ fn maybe_net(rng: &mut Rng, percent: usize, text: &[u8], reads: bool) -> Vec<u8>
 fn proposal(rng: &mut Rng, plan: &NetPlan, net: &[u8], size: Size) -> Vec<u8> {
     let steps = logs::play(rng, plan, size);
     let record = build(net, &log_text(&steps)).unwrap_or_default();
-    records::propose(rng, plan, &record, size.reads)
+    records::propose(rng, plan, &record, size)
 }
 
 /// The record of the log, if the simulator builds one.

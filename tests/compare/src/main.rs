@@ -20,20 +20,20 @@ use case::Subject;
 use std::io::{Read, Write};
 use std::process::ExitCode;
 
-const USAGE: &str = "usage: compare compare [--cases N] [--seed S] [--only vectors|fixed|generated|base|endings] [--first] [--trace]
+const USAGE: &str = "usage: compare compare [--cases N] [--seed S] [--only vectors|fixed|generated|base|endings|ones] [--first] [--trace]
        compare guarded [--cases N] [--seed S]
        compare brute [--nets N] [--runs N] [--seed S]
        compare bench
        compare repeat OPERATION [--events N] [--times N]
        compare print < INPUT      what the program prints for that input, by the simulator
 Options of compare, guarded and brute: --subject FILE.so judges that library in place of the one linked;
-of compare: --peer judges the peer, by document 01 with 2026-04 and 2026-05, and --reference FILE.so holds the subject to it in place of the simulator.
+of compare: --peer judges the peer, by document 01 with 2026-04, 2026-05 and 2026-06, and --reference FILE.so holds the subject to it in place of the simulator.
 Built without the feature lib and without --subject, brute and bench judge the simulator and compare refuses.";
 
 const NO_LIBRARY: &str = "there is no library in this build to compare with the simulator: \
 build with --features lib and PTI_LIB_DIR set to the folder of libpti.a (tests/run.sh does), or name one by --subject";
 
-const SIMULATOR: compare::Reference = compare::Reference { now: &sim::SIMULATOR, before: [&sim::BEFORE[0], &sim::BEFORE[1]] };
+const SIMULATOR: compare::Reference = compare::Reference { now: &sim::SIMULATOR, before: [&sim::BEFORE[0], &sim::BEFORE[1], &sim::BEFORE[2]] };
 
 fn library() -> Option<&'static dyn Subject> {
     #[cfg(feature = "lib")]
@@ -64,7 +64,7 @@ fn run(words: &[String]) -> Result<bool, String> {
             let subject = peer.or(options.library("--subject")?);
             let reference = options.library("--reference")?;
             let plan = compare::Plan {
-                sources: if peer.is_some() { compare::Source::OF_DOCUMENT_01.to_vec() } else { options.sources()? },
+                sources: if peer.is_some() { compare::Source::OF_PEER.to_vec() } else { options.sources()? },
                 cases: options.number("--cases", 100_000)? as usize,
                 seed: options.number("--seed", 1)?,
                 enough: if options.flag("--first") { 1 } else { 5 },

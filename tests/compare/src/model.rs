@@ -2,6 +2,7 @@
 //! Nothing of the simulator is used here.
 
 use crate::rng::Rng;
+use std::collections::BTreeMap;
 use std::fmt::Write;
 
 /// Sets of places are bits: bit p is place p.
@@ -18,6 +19,8 @@ pub struct NetPlan {
     pub inhibitors: Vec<Places>,
     /// Places that a transition reads; none of them one of its inputs in a net that is accepted.
     pub reads: Vec<Places>,
+    /// The weights that are written, by the letter of the arc (I or O), its transition and its place; every other is 1.
+    pub weights: BTreeMap<(char, usize, usize), usize>,
 }
 
 impl NetPlan {
@@ -35,9 +38,10 @@ impl NetPlan {
         for t in 0..self.transitions() {
             for p in 0..self.places() {
                 let has = |places: Places| places >> p & 1 == 1;
+                let weight = |letter: char| self.weights.get(&(letter, t, p)).map_or(String::new(), |weight| format!(",{weight}"));
                 let lines = [
-                    (self.inputs[t], format!("I,{p},{t}")),
-                    (self.outputs[t], format!("O,{t},{p}")),
+                    (self.inputs[t], format!("I,{p},{t}{}", weight('I'))),
+                    (self.outputs[t], format!("O,{t},{p}{}", weight('O'))),
                     (self.inhibitors[t], format!("H,{p},{t}")),
                     (self.reads[t], format!("R,{p},{t}")),
                 ];
@@ -66,9 +70,23 @@ impl NetPlan {
         places.chain(transitions).chain(arcs).collect::<String>().into_bytes()
     }
 
-    /// How many of the step's events take from (make at, are inhibited by, read) the place.
+    /// How many of the step's events are inhibited by (read) the place.
     fn count(arcs: &[Places], step: &[usize], place: usize) -> usize {
         step.iter().filter(|t| arcs[**t] >> place & 1 == 1).count()
+    }
+
+    /// What one event takes from the place (I) or makes there (O).
+    pub fn weight(&self, letter: char, transition: usize, place: usize) -> usize {
+        let arcs = if letter == 'I' { &self.inputs } else { &self.outputs };
+        match arcs[transition] >> place & 1 {
+            0 => 0,
+            _ => self.weights.get(&(letter, transition, place)).copied().unwrap_or(1),
+        }
+    }
+
+    /// What the step's events take from the place (I) or make there (O), one after the other.
+    fn moved(&self, letter: char, step: &[usize], place: usize) -> usize {
+        step.iter().fold(0, |tokens, t| tokens + self.weight(letter, *t, place))
     }
 
     pub fn enabled(&self, marking: &Marking, step: &[usize]) -> bool {
@@ -78,7 +96,7 @@ impl NetPlan {
     /// 24 if there are too few tokens, else 25 if the step is inhibited, else 0.
     pub fn refusal(&self, marking: &Marking, step: &[usize]) -> u64 {
         let unread = |p: usize| marking[p] == 0 && Self::count(&self.reads, step, p) > 0;
-        let short = |p: usize| marking[p] < Self::count(&self.inputs, step, p) || unread(p);
+        let short = |p: usize| marking[p] < self.moved('I', step, p) || unread(p);
         let inhibited = |p: usize| marking[p] > 0 && Self::count(&self.inhibitors, step, p) > 0;
         match (0..self.places()).any(short) {
             true => 24,
@@ -94,7 +112,7 @@ impl NetPlan {
 
     /// The marking that an enabled step leaves.
     pub fn fire(&self, marking: &Marking, step: &[usize]) -> Marking {
-        let after = |p: usize| marking[p] - Self::count(&self.inputs, step, p) + Self::count(&self.outputs, step, p);
+        let after = |p: usize| marking[p] - self.moved('I', step, p) + self.moved('O', step, p);
         (0..self.places()).map(after).collect()
     }
 }

@@ -3,6 +3,8 @@
 //! - numbers are looked up in a dictionary of all ten thousand of them (`text`);
 //! - the condition an event takes is found by rank, not by playing: the k-th taker at a place takes its k-th condition (`run`);
 //! - so is the condition it reads: the one that comes after as many as earlier steps took from the place (`run`);
+//! - weights are no numbers: an arc's place stands in a list as often as its weight says, and what counts by weight is the length
+//!   of such lists, or that two are the same (`net`, `run`, `process`);
 //! - the process rules compare sorted lists and sets (`process`);
 //! - the closed order is a search over pairs (event, strict pair met yet?) (`order`);
 //! - rows are counts of the conditions that lie between the played and the unplayed events (`replaying`);
@@ -44,6 +46,8 @@ pub const MARKS: usize = 4_096;
 pub const PLACES: usize = 32;
 pub const TRANSITIONS: usize = 32;
 pub const TOKENS: usize = 512;
+/// The greatest weight of an arc.
+pub const WEIGHT: usize = 16;
 /// Bytes of the program's input.
 pub const LONGEST_INPUT: usize = 65_536;
 
@@ -78,16 +82,26 @@ pub struct Requests {
     pub carriage_returns: bool,
     /// 2026-04: two events are no longer independent where one is not later than the other.
     pub free_to_swap: bool,
+    /// 2026-06: a third field of lines `I` and `O` in nets.
+    pub weights: bool,
 }
 
 impl Requests {
-    pub const ALL: Requests = Requests { read_arcs: true, carriage_returns: true, free_to_swap: true };
-    /// What was taken in before each request that adds to the texts. 2026-04 is in both: it adds nothing to them, and changes the
+    pub const ALL: Requests = Requests { read_arcs: true, carriage_returns: true, free_to_swap: true, weights: true };
+    /// What was taken in before each request that adds to the texts. 2026-04 is in all: it adds nothing to them, and changes the
     /// answers to old ones too.
-    pub const BEFORE: [Requests; 2] = [Requests { read_arcs: false, carriage_returns: false, ..Self::ALL }, Requests { carriage_returns: false, ..Self::ALL }];
+    pub const BEFORE: [Requests; 3] = [
+        Requests { read_arcs: false, carriage_returns: false, weights: false, ..Self::ALL },
+        Requests { carriage_returns: false, weights: false, ..Self::ALL },
+        Requests { weights: false, ..Self::ALL },
+    ];
+    /// All but 2026-02.
+    pub const WITHOUT_RETURNS: Requests = Requests { carriage_returns: false, ..Self::ALL };
+    /// What the peer has.
+    pub const OF_PEER: Requests = Requests { read_arcs: false, carriage_returns: false, ..Self::ALL };
 }
 
-/// The net, the record and its order, when none of 11 to 15, 51 and 31 to 39 is met.
+/// The net, the record and its order, when none of 11 to 15, 51, 54 and 31 to 39 is met.
 fn accepted(requests: Requests, net: &[u8], record: &[u8]) -> Result<(net::Net, Record, Order), Refusal> {
     let net = net::read(requests, net)?;
     let record = record::read(&net, record)?;
@@ -154,15 +168,21 @@ pub const SIMULATOR: Simulator = Simulator { requests: Requests::ALL };
 
 /// As it was before each request that adds to the texts: what the library is held to where no text makes use of that one or a
 /// later one. Before the first it is document 01 with 2026-04, which changes the answers to old inputs too.
-pub const BEFORE: [Simulator; 2] = [Simulator { requests: Requests::BEFORE[0] }, Simulator { requests: Requests::BEFORE[1] }];
+pub const BEFORE: [Simulator; 3] = [Simulator { requests: Requests::BEFORE[0] }, Simulator { requests: Requests::BEFORE[1] }, Simulator { requests: Requests::BEFORE[2] }];
+
+/// As it is now but for one of the line ends.
+#[cfg(test)]
+pub const WITHOUT_RETURNS: Simulator = Simulator { requests: Requests::WITHOUT_RETURNS };
 
 impl Subject for Simulator {
     fn name(&self) -> &'static str {
         match self.requests {
             Requests::ALL => "simulator",
             Requests { free_to_swap: false, .. } => "simulator with the pairs of document 01",
-            Requests { read_arcs: true, .. } => "simulator without carriage returns",
-            _ => "simulator without read arcs and carriage returns",
+            Requests { weights: true, .. } => "simulator without carriage returns",
+            Requests { carriage_returns: true, .. } => "simulator without weights",
+            Requests { read_arcs: true, .. } => "simulator without carriage returns and weights",
+            _ => "simulator without read arcs, carriage returns and weights",
         }
     }
 

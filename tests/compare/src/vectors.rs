@@ -13,6 +13,7 @@ mod readers;
 mod records;
 mod returns;
 mod swaps;
+mod weights;
 
 use crate::answer::Answer;
 use crate::case::{fresh, lent, Case, Operation, Outcome};
@@ -234,5 +235,6 @@ pub fn all() -> Vec<Vector> {
     returns::add(&mut book);
     swaps::add(&mut book);
     energy::add(&mut book);
+    weights::add(&mut book);
     book.vectors
 }

@@ -3,6 +3,7 @@
 use super::{judge, Clause, Counts, Plan};
 use crate::answer::Answer;
 use crate::case::Subject;
+use crate::gen::weights::ends;
 use crate::sim::{SIMULATOR, PROGRAM_ROOM};
 
 #[derive(Clone, Copy, Debug, PartialEq)]
@@ -17,6 +18,11 @@ enum Fault {
     CountOneMore,
     InhibitorsForgotten,
     ReadsForgotten,
+    WeightsForgotten,
+    WeightsForgottenInBuilding,
+    TokensOfOneAsked,
+    CountsUnjudged,
+    CountsAtTheHighest,
     KeepingRefused,
     BreakingAccepted,
     FirstRowCopied,
@@ -43,7 +49,7 @@ enum Fault {
 
 use Fault::*;
 
-const SEEN: [(Fault, Clause); 32] = [
+const SEEN: [(Fault, Clause); 37] = [
     (EventLeftOut, Clause::Placed),
     (EventTwice, Clause::Placed),
     (EmptyLine, Clause::Placed),
@@ -54,6 +60,11 @@ const SEEN: [(Fault, Clause); 32] = [
     (CountOneMore, Clause::Least),
     (InhibitorsForgotten, Clause::Enabled),
     (ReadsForgotten, Clause::Enabled),
+    (WeightsForgotten, Clause::Accepted),
+    (WeightsForgottenInBuilding, Clause::Accepted),
+    (TokensOfOneAsked, Clause::Built),
+    (CountsUnjudged, Clause::Counted),
+    (CountsAtTheHighest, Clause::Counted),
     (KeepingRefused, Clause::Replayed),
     (BreakingAccepted, Clause::Replayed),
     (FirstRowCopied, Clause::Markings),
@@ -89,6 +100,12 @@ fn without(letters: &[u8], text: &[u8]) -> Vec<u8> {
     lines_of(text).into_iter().filter(|line| !letters.contains(&line[0])).collect::<Vec<_>>().concat()
 }
 
+/// The net with every weight 1.
+fn without_weights(net: &[u8]) -> Vec<u8> {
+    let text = String::from_utf8_lossy(net);
+    text.lines().map(|line| format!("{}\n", ends(line))).collect::<String>().into_bytes()
+}
+
 /// Whether the first condition is one that an event made, as in no built record of a net with tokens.
 fn made_first(record: &[u8]) -> bool {
     let lines = lines_of(record);
@@ -107,6 +124,7 @@ impl Faulty {
         match self.0 {
             InhibitorsForgotten => without(b"H", net),
             ReadsForgotten => without(b"R", net),
+            WeightsForgotten => without_weights(net),
             _ => net.to_vec(),
         }
     }
@@ -193,6 +211,9 @@ impl Subject for Faulty {
 
     fn build(&self, net: &[u8], log: &[u8], out: &mut [u8]) -> Answer {
         let answer = SIMULATOR.build(net, log, out);
+        if self.0 == TokensOfOneAsked && answer.number == 24 || self.0 == WeightsForgottenInBuilding && answer.accepted() {
+            return SIMULATOR.build(&without_weights(net), log, out);
+        }
         if self.0 == StepRefused && answer.accepted() && log.ends_with(b",0,0\n") {
             return Answer::refuses(24, 1);
         }
@@ -218,6 +239,8 @@ impl Subject for Faulty {
             MarkedRecordRefused if answer.accepted() && any_line(|line| line[0] == b'A') => Answer::refuses(37, 0),
             RenamedRecordRefused if answer.accepted() && made_first(record) => Answer::refuses(39, 0),
             CycleAccepted if answer.number == 39 => Answer::gives(0, 0, 0),
+            CountsUnjudged if answer.number == 36 => Answer::gives(0, 0, 0),
+            CountsAtTheHighest if answer.number == 36 => Answer::refuses(36, lines_of(record).iter().filter(|line| line[0] == b'E').count() as u64 - 1),
             _ => answer,
         }
     }

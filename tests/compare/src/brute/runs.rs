@@ -109,17 +109,41 @@ mod tests {
     /// Three transitions that each can fire once, in any order and together: subsets of the three, each arranged.
     #[test]
     fn runs_are_the_step_sequences() {
-        let net = NetPlan { tokens: vec![1, 1, 1, 0], inputs: vec![1, 2, 4], outputs: vec![8, 8, 8], inhibitors: vec![0, 0, 0], reads: vec![0, 0, 0] };
+        let net = NetPlan { tokens: vec![1, 1, 1, 0], inputs: vec![1, 2, 4], outputs: vec![8, 8, 8], inhibitors: vec![0, 0, 0], reads: vec![0, 0, 0], ..NetPlan::default() };
         let mut runs = vec![Vec::new()];
         extend(&net, &mut Vec::new(), &net.tokens, 5, &mut runs);
         assert_eq!(runs.len(), 1 + 3 + 3 * 3 + 13);
         assert_eq!(steps_of(&net, 2).len(), 3 + 6);
     }
 
+    /// Two events of a transition that takes two of a place: with three tokens one of them, with four both, apart or together; and
+    /// what two make is enough for one more that takes three.
+    #[test]
+    fn weights_are_taken_and_made() {
+        let net = |tokens: usize, input: usize| NetPlan {
+            tokens: vec![tokens, 0],
+            inputs: vec![1, 2],
+            outputs: vec![2, 1],
+            inhibitors: vec![0, 0],
+            reads: vec![0, 0],
+            weights: [(('I', 0, 0), 2), (('O', 0, 1), 2), (('I', 1, 1), input), (('O', 1, 0), 1)].into(),
+        };
+        let count = |net: NetPlan, events: usize| {
+            let mut runs = vec![Vec::new()];
+            extend(&net, &mut Vec::new(), &net.tokens, events, &mut runs);
+            runs.len()
+        };
+        assert_eq!(count(net(3, 16), 5), 1 + 1);
+        assert_eq!(count(net(4, 16), 5), 1 + 1 + 2);
+        assert_eq!(count(net(4, 3), 3), 1 + 1 + 2 + 2);
+        assert_eq!(net(4, 3).fire(&vec![4, 0], &[0, 0]), [0, 4]);
+        assert_eq!(net(4, 3).refusal(&vec![0, 2], &[1]), 24);
+    }
+
     /// The same with transition 0 reading what transition 1 takes: of the runs above those in which it does not come later.
     #[test]
     fn readers_do_not_come_after_the_taker() {
-        let net = NetPlan { tokens: vec![1, 1, 1, 0], inputs: vec![1, 2, 4], outputs: vec![8, 8, 8], inhibitors: vec![0, 0, 0], reads: vec![2, 0, 0] };
+        let net = NetPlan { tokens: vec![1, 1, 1, 0], inputs: vec![1, 2, 4], outputs: vec![8, 8, 8], inhibitors: vec![0, 0, 0], reads: vec![2, 0, 0], ..NetPlan::default() };
         let mut runs = vec![Vec::new()];
         extend(&net, &mut Vec::new(), &net.tokens, 5, &mut runs);
         assert_eq!(runs.len(), 1 + 3 + (2 + 3 + 3) + 8);

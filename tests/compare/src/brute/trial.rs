@@ -4,7 +4,7 @@ use super::runs::{arrangements, by_line, line_count, LineOf};
 use super::{Clause, Counts};
 use crate::answer::Answer;
 use crate::case::Subject;
-use crate::model::{arrangement_text, log_text, Marking, NetPlan, RecordPlan};
+use crate::model::{arrangement_text, log_text, ConditionPlan, Marking, NetPlan, RecordPlan};
 use crate::rng::Rng;
 
 const WIDTH: usize = 128;
@@ -110,6 +110,9 @@ impl Trial<'_> {
         if built {
             self.hold(Clause::Accepted, answer.accepted(), &answer, &[text])?;
         }
+        if !(31..=35).contains(&answer.number) {
+            self.counted(text, record, &answer)?;
+        }
         if answer.number != 0 && answer.number != 39 {
             return Ok(());
         }
@@ -121,9 +124,22 @@ impl Trial<'_> {
         }
         self.counts.records += 1;
         self.counts.reading += record.marks.iter().any(|mark| mark.letter == 'R') as usize;
+        self.counts.weighted += self.net.weights.iter().any(|((_, t, _), weight)| *weight > 1 && record.events.contains(t)) as usize;
         let kept = self.arrangements(text, record, &pairs)?;
         self.table(text, record, &answer, &table, &kept)?;
         self.arranged(text, record, &pairs, &kept)
+    }
+
+    /// Which event is the lowest that does not consume or make, at some place, what the weights say.
+    fn counted(&mut self, text: &[u8], record: &RecordPlan, answer: &Answer) -> Result<(), Failure> {
+        let of = |place: usize, event: usize, end: fn(&ConditionPlan) -> Option<usize>| record.conditions.iter().filter(|c| c.place == place && end(c) == Some(event)).count();
+        let right = |event: usize, place: usize| {
+            let t = record.events[event];
+            of(place, event, |c| c.consumer) == self.net.weight('I', t, place) && of(place, event, |c| c.producer) == self.net.weight('O', t, place)
+        };
+        let wrong = (0..record.events.len()).find(|event| !(0..self.net.places()).all(|place| right(*event, place)));
+        let refused = (answer.number == 36).then_some(answer.spot as usize);
+        self.hold(Clause::Counted, wrong == refused, answer, &[text])
     }
 
     /// Every arrangement of the events is replayed.

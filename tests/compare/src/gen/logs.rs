@@ -1,6 +1,6 @@
 //! Random logs: found by playing the net, so that most steps are enabled; some get a wrong step.
 
-use super::Size;
+use super::{weights, Size};
 use crate::model::{Marking, NetPlan};
 use crate::rng::Rng;
 use crate::sim::{CONDITIONS, EVENTS};
@@ -43,12 +43,14 @@ pub fn play(rng: &mut Rng, plan: &NetPlan, size: Size) -> Vec<Vec<usize>> {
     let mut marking = plan.tokens.clone();
     let mut steps = Vec::new();
     let mut events = 0;
+    let mut conditions = plan.tokens.iter().sum();
     while events < wanted {
         let most = rng.between(1, size.step).min(wanted - events);
         let step = enabled_step(rng, plan, &marking, most);
-        if step.is_empty() {
+        if step.is_empty() || weights::passes(plan, conditions, &step) {
             break;
         }
+        conditions += weights::outputs(plan, &step);
         marking = plan.fire(&marking, &step);
         events += step.len();
         steps.push(step);

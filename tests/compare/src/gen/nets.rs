@@ -1,27 +1,31 @@
 //! Random nets.
 
-use super::{readers, Size};
+use super::{readers, weights, Size};
 use crate::model::{NetPlan, Places};
 use crate::rng::Rng;
 
 /// A net that meets no refusal, and in most cases one that can take a step.
 pub fn net(rng: &mut Rng, size: Size) -> NetPlan {
     let family = if rng.chance(50) { any_net } else { chains };
-    let mut plan = with_reads(rng, size, family);
+    let mut plan = with_requests(rng, size, family);
     for _ in 0..rng.below(6) {
         if plan.can_step() {
             break;
         }
-        plan = with_reads(rng, size, family);
+        plan = with_requests(rng, size, family);
     }
     plan
 }
 
-fn with_reads(rng: &mut Rng, size: Size, family: fn(&mut Rng, Size) -> NetPlan) -> NetPlan {
+/// With read arcs and weights, where the size has them.
+fn with_requests(rng: &mut Rng, size: Size, family: fn(&mut Rng, Size) -> NetPlan) -> NetPlan {
     let mut plan = family(rng, size);
     plan.reads = vec![0; plan.transitions()];
     if size.reads {
         readers::add_arcs(rng, &mut plan);
+    }
+    if size.weights {
+        weights::add(rng, &mut plan);
     }
     plan
 }
@@ -37,6 +41,7 @@ pub fn store(rng: &mut Rng) -> NetPlan {
         outputs: vec![0b0010, first | second, 0b0010, rng.pick(&[first, second, 0b0010])],
         inhibitors: vec![first | second, 0, rng.pick(&[0, 0b0010]), rng.pick(&[0, first, second, first | second])],
         reads: vec![0; 4],
+        ..NetPlan::default()
     }
 }
 

@@ -2,6 +2,7 @@
 //! that 51 refuses.
 
 use super::nets::some;
+use super::weights;
 use crate::case::{Case, Operation};
 use crate::model::{MarkPlan, NetPlan, Places, RecordPlan};
 use crate::rng::Rng;
@@ -38,6 +39,7 @@ pub fn store(rng: &mut Rng) -> NetPlan {
         outputs: vec![0b0010, watched, 1 << 4],
         inhibitors: vec![watched, 0, 0],
         reads: vec![read, rng.pick(&[0, 1 << 4, 0b11 << 30]), rng.pick(&[0, 1 << 5])],
+        ..NetPlan::default()
     }
 }
 
@@ -60,7 +62,7 @@ pub fn refused_text(rng: &mut Rng, text: &[u8]) -> Vec<u8> {
     let (inputs, reads) = (of('I'), of('R'));
     let (letter, from) = if rng.chance(70) || reads.is_empty() { ('R', inputs) } else { (rng.pick(&['R', 'I', 'H']), reads) };
     if let Some(at) = from.get(rng.below(from.len().max(1))) {
-        let line = format!("{letter}{}", &lines[*at][1..]);
+        let line = format!("{letter}{}", &weights::ends(&lines[*at])[1..]);
         let place = if rng.chance(40) { *at } else { rng.between(at + 1, lines.len()) };
         lines.insert(place, line);
     } else {

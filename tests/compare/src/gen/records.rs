@@ -1,13 +1,13 @@
 //! Proposed records: a built one, changed. Some changes leave it a process (other names, another token, another kind of
 //! mark, another condition read), most do not.
 
-use super::readers;
+use super::{readers, weights, Size};
 use crate::model::{ConditionPlan, MarkPlan, NetPlan, RecordPlan};
 use crate::rng::Rng;
 use crate::sim::{CONDITIONS, EVENTS, MARKS};
 
-/// With marks of every kind broken, or of B and A alone.
-pub fn propose(rng: &mut Rng, net: &NetPlan, built: &[u8], reads: bool) -> Vec<u8> {
+/// With marks of every kind broken, or of B and A alone; and counts by weight.
+pub fn propose(rng: &mut Rng, net: &NetPlan, built: &[u8], size: Size) -> Vec<u8> {
     let mut plan = RecordPlan::read(built);
     if rng.chance(40) {
         change(rng, &mut plan);
@@ -15,11 +15,14 @@ pub fn propose(rng: &mut Rng, net: &NetPlan, built: &[u8], reads: bool) -> Vec<u
     if rng.chance(35) {
         (0..rng.between(1, 2)).for_each(|_| break_rule(rng, net, &mut plan));
     }
-    if reads && rng.chance(20) {
+    if size.reads && rng.chance(20) {
         readers::break_mark(rng, &mut plan);
     }
+    if size.weights && rng.chance(10) {
+        weights::break_count(rng, &mut plan);
+    }
     if rng.below(300) == 0 {
-        fill(rng, net, &mut plan, reads);
+        fill(rng, net, &mut plan, size.reads);
     }
     plan.text()
 }

@@ -77,7 +77,7 @@ fn fit(rng: &mut Rng, input: &mut Vec<u8>) {
 /// Cases without byte 13, each with the same case under other line ends; the program's where it reads both forms.
 pub fn two_endings(rng: &mut Rng) -> Vec<(Case, Case)> {
     let without = |case: &Case| case.texts.iter().all(|text| !text.contains(&13));
-    let plain: Vec<Case> = round_with(rng, Requests::BEFORE[1]).into_iter().filter(without).collect();
+    let plain: Vec<Case> = round_with(rng, Requests::WITHOUT_RETURNS).into_iter().filter(without).collect();
     let mut pairs = Vec::new();
     for case in plain {
         let mut other = case.clone();

@@ -1,16 +1,17 @@
-//! The net reader: refusals 11 to 15, and 51.
+//! The net reader: refusals 11 to 15, 51 and 54.
 
 use super::text::{lines, words, Field, Words};
-use super::{refuse, Refusal, Requests, PLACES, TOKENS, TRANSITIONS};
-use std::collections::BTreeSet;
+use super::{refuse, Refusal, Requests, PLACES, TOKENS, TRANSITIONS, WEIGHT};
 
+/// The places at the ends of its arcs, ascending. A weight is no number here: the place of an arc stands in the list as many
+/// times as the arc's weight says, once for each condition that an event consumes or makes.
 #[derive(Clone, Debug, Default)]
 pub struct Transition {
-    pub inputs: BTreeSet<usize>,
-    pub outputs: BTreeSet<usize>,
-    pub inhibitors: BTreeSet<usize>,
+    pub inputs: Vec<usize>,
+    pub outputs: Vec<usize>,
+    pub inhibitors: Vec<usize>,
     /// Places that must have a token before the step, which is not taken.
-    pub reads: BTreeSet<usize>,
+    pub reads: Vec<usize>,
 }
 
 #[derive(Clone, Debug, Default)]
@@ -46,9 +47,19 @@ impl Net {
         match (words.letter, words.fields.as_slice()) {
             ('P', [Field::Number(tokens)]) => self.place(*tokens),
             ('T', []) => self.transition(),
-            ('O', [Field::Number(transition), Field::Number(place)]) => self.arc('O', *place, *transition),
-            (letter @ ('I' | 'H'), [Field::Number(place), Field::Number(transition)]) => self.arc(letter, *place, *transition),
-            ('R', [Field::Number(place), Field::Number(transition)]) if self.requests.read_arcs => self.arc('R', *place, *transition),
+            ('O', [Field::Number(transition), Field::Number(place), weight @ ..]) => self.weighted('O', *place, *transition, weight),
+            ('I', [Field::Number(place), Field::Number(transition), weight @ ..]) => self.weighted('I', *place, *transition, weight),
+            ('H', [Field::Number(place), Field::Number(transition)]) => self.arc('H', *place, *transition, 1),
+            ('R', [Field::Number(place), Field::Number(transition)]) if self.requests.read_arcs => self.arc('R', *place, *transition, 1),
+            _ => 11,
+        }
+    }
+
+    /// An arc that may have a weight: what stands behind its ends.
+    fn weighted(&mut self, letter: char, place: usize, transition: usize, fields: &[Field]) -> u64 {
+        match fields {
+            [] => self.arc(letter, place, transition, 1),
+            [Field::Number(weight)] if self.requests.weights => self.arc(letter, place, transition, *weight),
             _ => 11,
         }
     }
@@ -64,9 +75,12 @@ impl Net {
         if self.transitions.len() > TRANSITIONS { 12 } else { 0 }
     }
 
-    fn arc(&mut self, letter: char, place: usize, transition: usize) -> u64 {
+    fn arc(&mut self, letter: char, place: usize, transition: usize, weight: usize) -> u64 {
         if place >= self.tokens.len() || transition >= self.transitions.len() {
             return 13;
+        }
+        if !(1..=WEIGHT).contains(&weight) {
+            return 54;
         }
         let arcs = &mut self.transitions[transition];
         let ends = match letter {
@@ -75,10 +89,12 @@ impl Net {
             'R' => &mut arcs.reads,
             _ => &mut arcs.inhibitors,
         };
-        if !ends.insert(place) {
+        if ends.contains(&place) {
             return 14;
         }
-        // None was there before this line, so it is this line's place.
-        if arcs.inputs.is_disjoint(&arcs.reads) { 0 } else { 51 }
+        ends.extend(vec![place; weight]);
+        ends.sort_unstable();
+        // Of no other place is it so: the line above would have been refused.
+        if arcs.inputs.contains(&place) && arcs.reads.contains(&place) { 51 } else { 0 }
     }
 }

@@ -40,7 +40,7 @@ pub fn read(net: &Net, log: &[u8]) -> Result<Run, Refusal> {
     Ok(Run { steps })
 }
 
-/// The arcs' ends of a step's events, one entry for each event and place.
+/// The arcs' ends of a step's events: a place stands there once for each condition that an event consumes or makes.
 fn ends<'a>(net: &'a Net, step: &'a [usize], arcs: impl Fn(&'a Transition) -> Vec<usize>) -> Vec<usize> {
     step.iter().flat_map(|transition| arcs(&net.transitions[*transition])).collect()
 }
@@ -111,7 +111,12 @@ impl Tally {
 }
 
 fn own_outputs(transition: &Transition) -> usize {
-    transition.outputs.intersection(&transition.inhibitors).count()
+    transition.outputs.iter().filter(|place| transition.inhibitors.contains(place)).count()
+}
+
+/// How often the place stands in the list: the weight of the arc, or 0 without one.
+fn tokens(places: &[usize], place: usize) -> usize {
+    places.iter().filter(|other| **other == place).count()
 }
 
 impl Run {
@@ -139,14 +144,14 @@ impl Run {
     }
 
     /// By rank: the conditions of a place that are gone when a step begins are its first ones, as many as the events of the
-    /// steps before took from it; the one behind them is the lowest that holds.
+    /// steps before took from it, by weight; the one behind them is the lowest that holds, and one is read, whatever the weights.
     fn reads(&self, net: &Net, events: &[usize], conditions: &[Condition]) -> Vec<Mark> {
         let step_of = self.step_of();
         let mut marks = Vec::new();
         for (event, transition) in events.iter().enumerate() {
             for place in &net.transitions[*transition].reads {
                 let took = |other: &usize| step_of[*other] < step_of[event] && net.transitions[events[*other]].inputs.contains(place);
-                let gone = (0..events.len()).filter(took).count();
+                let gone: usize = (0..events.len()).filter(took).map(|other| tokens(&net.transitions[events[other]].inputs, *place)).sum();
                 let condition = (0..conditions.len()).filter(|condition| conditions[*condition].place == *place).nth(gone);
                 marks.push(Mark { kind: Kind::Read, condition: condition.expect("24 has been judged"), event });
             }
@@ -182,11 +187,12 @@ fn made(net: &Net, events: &[usize]) -> Vec<Condition> {
 }
 
 /// By rank: what was taken from a place is always the first part of its conditions, since new ones have higher numbers
-/// and the lowest is taken; so the k-th event that takes from a place, in event order, takes its k-th condition.
+/// and the lowest are taken; so in event order the k-th taker of a place takes its k-th condition, where an event is so many
+/// takers as the weight of its arc says.
 fn consume(net: &Net, events: &[usize], conditions: &mut [Condition]) {
     for place in 0..net.tokens.len() {
-        let takes = |event: &usize| net.transitions[events[*event]].inputs.contains(&place);
-        let takers = (0..events.len()).filter(takes);
+        let takes = |event: usize| vec![event; tokens(&net.transitions[events[event]].inputs, place)];
+        let takers = (0..events.len()).flat_map(takes);
         let held = conditions.iter_mut().filter(|condition| condition.place == place);
         for (condition, event) in held.zip(takers) {
             condition.consumer = Some(event);

@@ -5,7 +5,7 @@ use crate::case::{difference, lent, run, Case, Operation, Outcome, Subject};
 use crate::gen::{self, Size, SMALL};
 use crate::model::{log_text, ConditionPlan, MarkPlan, NetPlan, RecordPlan};
 use crate::rng::Rng;
-use crate::sim::{Requests, Simulator, BEFORE, EVENTS, SIMULATOR};
+use crate::sim::{Requests, Simulator, BEFORE, EVENTS, SIMULATOR, WITHOUT_RETURNS};
 use crate::{corpus, vectors};
 
 #[test]
@@ -71,15 +71,20 @@ impl Literal {
                 let lowest = held.iter().find(|c| self.record.conditions[**c].place == place);
                 self.read.push((event, *lowest.expect("the step is enabled")));
             }
-            for place in (0..net.places()).filter(|p| net.inputs[*transition] >> p & 1 == 1) {
-                let conditions = &mut self.record.conditions;
-                let lowest = held.iter().find(|c| conditions[**c].place == place && conditions[**c].consumer.is_none());
-                conditions[*lowest.expect("the step is enabled")].consumer = Some(event);
+            for place in 0..net.places() {
+                (0..net.weight('I', *transition, place)).for_each(|_| self.take(&held, place, event));
             }
-            for place in (0..net.places()).filter(|p| net.outputs[*transition] >> p & 1 == 1) {
-                self.make(place, Some(event));
+            for place in 0..net.places() {
+                (0..net.weight('O', *transition, place)).for_each(|_| self.make(place, Some(event)));
             }
         }
+    }
+
+    /// The lowest of the place that held when the step began and that nobody took.
+    fn take(&mut self, held: &[usize], place: usize, event: usize) {
+        let conditions = &mut self.record.conditions;
+        let lowest = held.iter().find(|c| conditions[**c].place == place && conditions[**c].consumer.is_none());
+        conditions[*lowest.expect("the step is enabled")].consumer = Some(event);
     }
 
     fn marks(&mut self, net: &NetPlan) {
@@ -142,7 +147,7 @@ fn levels_text(levels: &[usize]) -> String {
 #[test]
 fn requests_turned_off_change_nothing_else() {
     let vectors = vectors::all().into_iter().map(|vector| vector.case);
-    let generated = (0..6_000).flat_map(|round| gen::round_with(&mut Rng::for_round(15, round), Requests::BEFORE[round as usize % 2]));
+    let generated = (0..6_000).flat_map(|round| gen::round_with(&mut Rng::for_round(15, round), Requests::BEFORE[round as usize % BEFORE.len()]));
     let mut same = [0; BEFORE.len()];
     // Of the fixed cases those of document 01 are enough, and of each case the first request that it has no use of: the comparison
     // tries more.
@@ -155,7 +160,7 @@ fn requests_turned_off_change_nothing_else() {
         assert!(found.is_none(), "{}\n{case}", found.unwrap_or_default());
         same[first] += 1;
     }
-    assert!(same[0] > 100_000 && same[1] > 5_000, "{same:?} cases");
+    assert!(same[0] > 100_000 && same[1] > 5_000 && same[2] > 5_000, "{same:?} cases");
 }
 
 /// The generators without a request make nothing of it but by damage.
@@ -227,7 +232,7 @@ fn requests_turned_off_know_no_reads() {
 #[test]
 fn requests_turned_off_know_no_returns() {
     let net = b"P,1\nT\nI,0,0\nO,0,0\n";
-    for before in &BEFORE {
+    for before in [&BEFORE[0], &BEFORE[1], &WITHOUT_RETURNS] {
         assert_eq!(refusal(before, Operation::ReadNet, &[b"P,1\nP,1\r\n"]), (11, 2));
         assert_eq!(refusal(before, Operation::Build, &[net, b"S,0\r\n"]), (21, 1));
         assert_eq!(refusal(before, Operation::Check, &[b"P,1\n", b"C,0,-,-\r\n"]), (31, 1));
@@ -244,10 +249,35 @@ fn either_ending_is_read_as_one() {
     for round in 0..2_000 {
         for (plain, other) in gen::two_endings(&mut Rng::for_round(16, round)) {
             if plain.operation != Operation::RefusedLine {
-                assert_eq!(difference(&run(&SIMULATOR, &other), &run(&BEFORE[1], &plain)), None, "{other}");
+                assert_eq!(difference(&run(&SIMULATOR, &other), &run(&WITHOUT_RETURNS, &plain)), None, "{other}");
             }
         }
     }
+}
+
+/// Turned off, a third field is malformed, whatever stands in it and before anything else is judged.
+#[test]
+fn requests_turned_off_know_no_weights() {
+    for (arc, now) in [("I,0,0,1", 15), ("O,0,0,16", 15), ("I,0,0,17", 54), ("O,0,0,0", 54), ("I,9,0,1", 13), ("O,9,0,17", 13)] {
+        let net = vectors::Text::from(&format!("P,1 T {arc}")).0;
+        assert_eq!(refusal(&SIMULATOR, Operation::ReadNet, &[&net]).0, now, "{arc}");
+        for before in &BEFORE {
+            assert_eq!(refusal(before, Operation::ReadNet, &[&net]), (11, 3), "{arc}");
+        }
+    }
+}
+
+/// Where the weight 1 is written on some arcs of a net, the outcome is what it was before there were weights.
+#[test]
+fn weight_1_is_none() {
+    let mut same = 0;
+    for (plain, other) in (0..3_000).flat_map(|round| gen::two_spellings(&mut Rng::for_round(26, round))) {
+        if plain.operation != Operation::RefusedLine && plain.within(Requests::BEFORE[2]) {
+            assert_eq!(difference(&run(&SIMULATOR, &other), &run(&BEFORE[2], &plain)), None, "{other}");
+            same += 1;
+        }
+    }
+    assert!(same > 3_000, "{same} cases");
 }
 
 /// Energies as the document says them, in the machine's floats: halved, then divided; summed event by event; subtracted.

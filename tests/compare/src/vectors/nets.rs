@@ -36,7 +36,7 @@ fn lines(book: &mut Book) {
         let case = Case::new(Operation::ReadNet, &[wrong]);
         book.add("8: foreign byte", case, Answer::refuses(11, 1), Written::Nothing);
     }
-    for wrong in ["P", "P,", "P,1,", "P,1,1", "P,,1", "T,", "T,0", ",P", ",", "PP,1", "I,0", "I,0,0,0", "O,0", "H,0,0,", "I", "1,P", "TT"] {
+    for wrong in ["P", "P,", "P,1,", "P,1,1", "P,,1", "T,", "T,0", ",P", ",", "PP,1", "I,0", "H,0,0,0", "O,0", "H,0,0,", "I", "1,P", "TT"] {
         book.no_net("fields", &format!("P,1 T {wrong}"), 11, 3);
     }
     for wrong in ["S,0", "E,0", "C,0,-,-", "B,0,0", "A,0,0", "G,0", "Z,0,0,0,0", "X,11,1", "K,0"] {
