@@ -35,7 +35,7 @@ pub enum Op {
     Program,
 }
 
-/// One implementation of document 01 with 2026-04 and 2026-05.
+/// One implementation of document 01 with 2026-04, 2026-05 and 2026-06.
 pub trait Ops {
     fn name(&self) -> &'static str;
     /// Whether the implementation has the operation.
@@ -262,6 +262,38 @@ fn long_net(shuffled: bool) -> Vec<u8> {
     text.into_bytes()
 }
 
+/// A cache that writes blocks one by one, flushes four together, and parks when
+/// none is dirty: so many rounds of that.
+fn flushing(rounds: usize) -> (Vec<u8>, Vec<u8>) {
+    let net = "P,8 P,0 P,0 P,1 P,0 T T T I,0,0 O,0,1 I,1,1,4 O,1,0,4 O,1,2,4 I,3,2 O,2,3 O,2,4 H,1,2";
+    (lines(net), lines("S,0,0,0,0 S,1 S,2").repeat(rounds))
+}
+
+/// The arcs of `long_net` between 32 places and 32 transitions, with a weight on
+/// every input and output.
+fn heavy_net() -> Vec<u8> {
+    let mut text = "P,16\n".repeat(32) + &"T\n".repeat(32);
+    for t in 0..32 {
+        for p in 0..32 {
+            let (input, output) = ((p + t) % 16 + 1, (p + 3 * t) % 16 + 1);
+            text += &format!("I,{p},{t},{input}\nO,{t},{p},{output}\nH,{p},{t}\n");
+        }
+    }
+    text.into_bytes()
+}
+
+/// 32 places in a ring: each transition takes all of one, as many as its number
+/// says, and fills the next, which the place behind inhibits.
+fn heavy_ring(events: usize) -> (Vec<u8>, Vec<u8>) {
+    let weight = |p: usize| p % 32 % 16 + 1;
+    let mut text = "P,1\n".to_string() + &"P,0\n".repeat(31) + &"T\n".repeat(32);
+    for t in 0..32 {
+        let (next, behind) = ((t + 1) % 32, (t + 31) % 32);
+        text += &format!("I,{t},{t},{}\nO,{t},{next},{}\nH,{behind},{t}\n", weight(t), weight(next));
+    }
+    (text.into_bytes(), log_text(&(0..events).map(|e| vec![e % 32]).collect::<Vec<_>>()))
+}
+
 /// Transitions that take from place 0 and fill a place each, the place behind
 /// their number, and are inhibited by the place that the next one fills.
 fn crossed_ring(transitions: usize) -> Vec<u8> {
@@ -401,11 +433,19 @@ fn cases() -> Vec<Case> {
     let crossed_log = log_text(&[(0..128).map(|e| e % 31).collect()]);
     let crossed = built(&crossed_net, &crossed_log);
 
+    let (flush_net, flush_log) = flushing(21);
+    let flush = built(&flush_net, &flush_log);
+    let flush_arr = arranged(&flush_net, &flush);
+    let heavy = heavy_net();
+    let (heavy_ring_net, heavy_log) = heavy_ring(58);
+    let heavy_rec = built(&heavy_ring_net, &heavy_log);
+    let heavy_arr = arranged(&heavy_ring_net, &heavy_rec);
+
     eprintln!(
-        "drive a: {}\nmiddling: {}\nfull: {}\nchain: {}\ndense: {}\nwide: {}\ncrossed: {}\nlong net: {} bytes, {} lines",
+        "drive a: {}\nmiddling: {}\nfull: {}\nchain: {}\ndense: {}\nwide: {}\ncrossed: {}\nflush four: {}\nheavy ring: {}\nlong net: {} bytes, {} lines",
         counts(&drive, &rec_a), counts(&mid_net, &mid_rec), counts(&full_net, &full_rec),
         counts(&ring, &chain), counts(&dense_net, &dense), counts(&wide_net, &wide),
-        counts(&crossed_net, &crossed),
+        counts(&crossed_net, &crossed), counts(&flush_net, &flush), counts(&heavy_ring_net, &heavy_rec),
         long.len(), long.iter().filter(|&&b| b == b'\n').count(),
     );
 
@@ -466,6 +506,17 @@ fn cases() -> Vec<Case> {
     add(Program, "full", &[&input(&full_net, &full_log)], none);
     add(Program, "chain", &[&input(&ring, &chain_log)], none);
     add(Program, "long net, empty log", &[&input(&long, b"")], none);
+
+    add(ReadNet, "flush four", &[&flush_net], none);
+    add(ReadNet, "heavy", &[&heavy], none);
+    add(Build, "flush four", &[&flush_net, &flush_log], none);
+    add(Build, "heavy ring", &[&heavy_ring_net, &heavy_log], none);
+    add(Check, "flush four", &[&flush_net, &flush], none);
+    add(Check, "heavy ring", &[&heavy_ring_net, &heavy_rec], none);
+    add(Replay, "flush four", &[&flush_net, &flush, &flush_arr], none);
+    add(Replay, "heavy ring", &[&heavy_ring_net, &heavy_rec, &heavy_arr], none);
+    add(Arrange, "flush four", &[&flush_net, &flush], none);
+    add(Program, "flush four", &[&input(&flush_net, &flush_log)], none);
     list
 }
 
