@@ -26,7 +26,7 @@ typedef struct { uint64_t number, spot; double usable, draw, left; } pti_energy_
 #define PTI_ARRANGEMENT_BYTES 768
 #define PTI_PROGRAM_BYTES 48275
 
-/* Reads a net. a: places, b: transitions. Refusals 11 to 15 and 51, which are the net's in what follows. */
+/* Reads a net. a: places, b: transitions. Refusals 11 to 15, 51 and 54, which are the net's in what follows. */
 pti_answer pti_read_net(const uint8_t *net, size_t net_len);
 
 /* Builds the record of a step log. a: bytes written. Refusals 20, the net's, 21 to 27. */

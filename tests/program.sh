@@ -162,6 +162,41 @@ readers() {
   lines P,1 P,0 T I,0,0 O,0,0 R,1,0 = S,0 > "$input"; gives "R at an empty place" X,24,1
 }
 
+# Arcs with weights.
+weights() {
+  tail -n 1 examples/flush/four.out > "$work/last"; has "four flushed together" "$work/last" Z,7,22,17,2
+  has "three dirty blocks" examples/flush/three.out X,24,2
+  has "a weight of 40" examples/flush/four.wrong.out X,54,16
+  tail -n 1 examples/flush/three.single.out > "$work/last"; has "a weight that got lost" "$work/last" Z,4,19,5,2
+  lines P,2 T I,0,0,2 O,0,0,3 = S,0 S,0 > "$input"; gives "two become three" Z,2,8,0,2
+  lines P,2 T I,0,0,2 O,0,0,3 = S,0,0 > "$input"; gives "two tokens for four" X,24,1
+  lines P,1 T I,0,0,1 O,0,0,1 = S,0 > "$input"; gives "weights of 1" Z,1,2,0,1
+  lines P,1 T I,0,0,16 O,0,0,16 = > "$input"; gives "weights of 16" Z,0,1,0,0
+  lines P,1 T I,0,0,17 O,0,0 = > "$input"; gives "a weight of 17" X,54,3
+  lines P,1 T I,0,0,0 O,0,0 = > "$input"; gives "a weight of 0" X,54,3
+  lines P,1 T I,0,0,017 O,0,0 = > "$input"; gives "a weight with a needless zero" X,11,3
+  lines P,1 T I,9,0,17 O,0,0 = > "$input"; gives "a weight of 17 at an undeclared place" X,13,3
+  lines P,1 T I,0,0 I,0,0,17 O,0,0 = > "$input"; gives "I again with a weight of 17" X,54,4
+  lines P,1 T I,0,0 I,0,0,2 O,0,0 = > "$input"; gives "I again with a weight" X,14,4
+  lines P,1 T R,0,0 I,0,0,2 O,0,0 = > "$input"; gives "a weighted I behind R" X,51,4
+  lines P,1 T I,0,0 O,0,0 H,0,0,1 = > "$input"; gives "a weight of H" X,11,5
+  lines P,1 T I,0,0 O,0,0 R,0,0,1 = > "$input"; gives "a weight of R" X,11,5
+}
+
+# One that fills a place by 16, one that the same place inhibits, and one that fills all 32.
+full_sixteen() { lines "P,$1" P,0 T I,0,0 O,0,1,16 =; }
+own_sixteen() { lines P,18 P,0 T T I,0,0 O,0,1,16 H,1,0 I,0,1 O,1,1,16 =; }
+flood() { local p; lines P,512; repeat 31 P,0; lines T I,0,0; for p in {0..31}; do lines "O,0,$p,16"; done; lines =; }
+
+weight_limits() {
+  { full_sixteen 496; lines S,0; } > "$input"; gives "512 conditions by a weight" Z,1,512,0,1
+  { full_sixteen 497; lines S,0; } > "$input"; gives "513 conditions by a weight" X,26,1
+  { own_sixteen; step 16 0 | tr -d '\n'; lines ,1; } > "$input"; gives "4,096 marks by weights" Z,17,290,0,1
+  { own_sixteen; step 17 0; } > "$input"; gives "4,352 marks by weights" X,27,1
+  { flood; step 128 0; } > "$input"; gives "65,536 made in a step" X,26,1
+  { flood; step 129 0; } > "$input"; gives "129 events that would" X,23,1
+}
+
 input_limits() {
   { repeat 16383 P,0; lines T =; } > "$input"; gives "65,536 bytes, the last of them the line =" X,12,33
   holds "65,536 bytes" test "$(size "$input")" -eq 65536
@@ -324,7 +359,7 @@ script_answers() {
   runs 1 ./record examples/drive/net - < examples/drive/cut.log
   prints X,21,3; says "$malformed" "line 3 of the log (standard input): S, (cut off: no line end)"
   runs 1 ./record examples/temperature/net examples/temperature/warm.log; prints X,24,3
-  says "refused, 24: too few tokens: a place has fewer than the step's events take from it, or none where one of them reads it" \
+  says "refused, 24: too few tokens: a place has fewer than the step's events take from it, by weight, or none where one of them reads it" \
     "line 3 of the log (examples/temperature/warm.log): S,1"
   runs 1 ./record examples/temperature/taken.net examples/temperature/flush.log; prints X,51,15
   says "refused, 51: read and consumed: one place is both read and consumed by one transition" \
@@ -473,10 +508,10 @@ script_builds() {
 # Every number of documents 01 and 02 has its line in the table that the script reads.
 table() {
   local number
-  for number in 10 {11..15} {20..27} {30..39} {40..45} 46 {50..53}; do
+  for number in 10 {11..15} {20..27} {30..39} {40..45} 46 {50..54}; do
     holds "docs/REFUSALS.txt has $number once" test "$(grep -cE "^$number (none|net|log|record|arrangement|energy|transition|place|event|asked) +[^ ]" docs/REFUSALS.txt)" -eq 1
   done
-  holds "docs/REFUSALS.txt has no other" test "$(grep -cE '^[^#]' docs/REFUSALS.txt)" -eq 35
+  holds "docs/REFUSALS.txt has no other" test "$(grep -cE '^[^#]' docs/REFUSALS.txt)" -eq 36
 }
 
 each_example
@@ -484,11 +519,14 @@ cases
 each_cut examples/drive/net examples/drive/a.log
 each_cut examples/cache/net examples/cache/shifts.log
 each_cut examples/temperature/net examples/temperature/flush.log
+each_cut examples/flush/net examples/flush/four.log
 each_cut examples/drive/net examples/drive/a.log returned
 each_byte
 net_limits
 run_limits
 readers
+weights
+weight_limits
 input_limits
 partings
 returns

@@ -76,6 +76,30 @@ static void readers(void)
     expect("51", pti_read_net(TEXT("P,1\nT\nO,0,0\nR,0,0\nI,0,0\n")), 51, 5, 0, 0, 0);
 }
 
+/* Weights: two blocks are flushed together. */
+static void weights(void)
+{
+    static const char pair[] = "P,2\nP,0\nP,0\nT\nT\nI,0,0\nO,0,1\nI,1,1,2\nO,1,2,3\n";
+    static const char built[] = "E,0\nE,0\nE,1\nC,0,-,0\nC,0,-,1\nC,1,0,2\nC,1,1,2\nC,2,2,-\nC,2,2,-\nC,2,2,-\n";
+    static const char one[] = "E,0\nE,0\nE,1\nC,0,-,0\nC,0,-,1\nC,1,0,2\nC,1,1,-\nC,2,2,-\nC,2,2,-\nC,2,2,-\n";
+    static const uint16_t last[] = {0, 0, 3};
+    expect("a net with weights", pti_read_net(TEXT(pair)), 0, 0, 3, 2, 0);
+    expect("two flushed together", pti_build(TEXT(pair), TEXT("S,0\nS,0\nS,1\n"), out, PTI_RECORD_BYTES), 0, 0, sizeof(built) - 1, 0, 0);
+    holds("two taken and three made", memcmp(out, built, sizeof(built) - 1) == 0);
+    expect("one dirty", pti_build(TEXT(pair), TEXT("S,0\nS,1\n"), out, PTI_RECORD_BYTES), 24, 2, 0, 0, 0);
+    expect("weights checked", pti_check(TEXT(pair), TEXT(built), out, PTI_TABLE_BYTES), 0, 0, 3, 7, 1);
+    holds("both writes before the flush", out[2] == 2 && out[130] == 2 && out[1] == 0 && out[128] == 0);
+    expect("one flushed", pti_check(TEXT(pair), TEXT(one), out, PTI_TABLE_BYTES), 36, 2, 0, 0, 0);
+    expect("weights replayed", pti_replay(TEXT(pair), TEXT(built), TEXT("G,1\nG,0\nG,2\n"), rows, PTI_ROW_COUNTS), 0, 0, 3, 0, 0);
+    holds("the last row", memcmp(rows + 96, last, sizeof last) == 0);
+    expect("weights arranged", pti_arrange(TEXT(pair), TEXT(built), out, PTI_ARRANGEMENT_BYTES), 0, 0, 10, 2, 0);
+    expect("54", pti_read_net(TEXT("P,1\nT\nO,0,0,16\nI,0,0,17\n")), 54, 4, 0, 0, 0);
+    expect("54's line", pti_refused_line(TEXT("P,1\nT\nI,0,0,17\n"), TEXT(""), 0, 3), 0, 0, 6, 8, 0);
+    expect("13 before 54", pti_read_net(TEXT("P,1\nT\nI,0,9,0\n")), 13, 3, 0, 0, 0);
+    expect("54 before 14", pti_read_net(TEXT("P,1\nT\nI,0,0\nI,0,0,0\n")), 54, 4, 0, 0, 0);
+    expect("14 with another weight", pti_read_net(TEXT("P,1\nT\nI,0,0\nI,0,0,2\n")), 14, 4, 0, 0, 0);
+}
+
 /* Lines that end in 13 and 10, or in 10; what is written has 10 alone. */
 static void returns(void)
 {
@@ -130,6 +154,7 @@ int main(void)
     replay_and_arrange();
     lines_and_program();
     readers();
+    weights();
     returns();
     energies();
     if (!wrong)

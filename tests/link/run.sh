@@ -48,11 +48,20 @@ try() { # NAME COMMAND...
 
 each_log() { # PROGRAM
   local log
-  for log in drive/{a,b,c,d,e,cut} crossed/{together,after} temperature/{flush,together,warm} bench/{a,mixed,cut}; do
+  for log in drive/{a,b,c,d,e,cut} crossed/{together,after} temperature/{flush,together,warm} flush/{four,three,warning} bench/{a,mixed,cut}; do
     try "${log/\//.}" "$1" "examples/${log%/*}/net" "examples/$log.log"
   done
   try net "$1" "$work/net" examples/drive/a.log
   try temperature.taken "$1" examples/temperature/taken.net examples/temperature/flush.log
+  try flush.wrong "$1" examples/flush/wrong.net examples/flush/four.log
+}
+
+# Proposed records, which no log has to build.
+each_record() { # PROGRAM
+  try flush.record "$1" examples/flush/net examples/flush/four.record
+  try flush.record.three "$1" examples/flush/net examples/flush/three.record
+  try flush.record.single "$1" examples/flush/single.net examples/flush/four.record
+  try flush.record.wrong "$1" examples/flush/wrong.net examples/flush/four.record
 }
 
 each_arrangement() { # PROGRAM
@@ -104,6 +113,8 @@ compile_simulator "$work/simulator"
 compile_c tour "$PTI_LIB_DIR" "$work/tour_c"
 compile_c tour "$work/simulator" "$work/tour_simulator"
 compile_c print "$PTI_LIB_DIR" "$work/print_c"
+compile_c check "$PTI_LIB_DIR" "$work/check_c"
+compile_c check "$work/simulator" "$work/check_simulator"
 
 for program in "$work/tour_simulator" "$work/tour_c" target/link/release/tour; do
   each_log "$program"
@@ -111,6 +122,7 @@ for program in "$work/tour_simulator" "$work/tour_c" target/link/release/tour; d
   misuse "$program"
 done
 for program in "$work/tour_simulator" "$work/tour_c"; do each_arrangement "$program"; done
+for program in "$work/check_simulator" "$work/check_c"; do each_record "$program"; done
 each_print "$work/print_c"
 
 # A caller's stack may be small.

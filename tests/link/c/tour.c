@@ -61,7 +61,7 @@ static void show_text(text t)
  * neither. Lines of the record, 31 to 34, are never refused here: it was built. */
 static uint8_t choice_of(uint64_t number)
 {
-    if ((number >= 11 && number <= 14) || number == 51)
+    if ((number >= 11 && number <= 14) || number == 51 || number == 54)
         return 0;
     return (number >= 21 && number <= 27) || (number >= 41 && number <= 44) || number == 52 ? 1 : 2;
 }

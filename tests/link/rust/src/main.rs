@@ -80,7 +80,7 @@ fn show_refused(net: &[u8], log: &[u8], energy: &[u8], refusal: &Refusal) {
     let Refusal { number, spot } = *refusal;
     println!("refused: {number}, spot {spot}");
     let (choice, second, name) = match number {
-        11..=14 | 51 => (0, log, "net"),
+        11..=14 | 51 | 54 => (0, log, "net"),
         21..=27 => (1, log, "log"),
         52 => (1, energy, "energy text"),
         _ => return,
