@@ -6,16 +6,23 @@ use Prim.Native.Nat.{ℕ, _≤_, zero-le}
 use native.Mathlib.Omega.{arith}
 use mathlib.Core.Bool.{true, false}
 use mathlib.Core.Option.{Option, none, some}
+use mathlib.Core.List.{List·Memᴰ·head, List·Memᴰ·tail}
 use lib.Dec.{ltb}
 use borrow.Author.Tests.{lt-ltb, le-ltb}
 use Rattle.spec.specs.Lists.{In, first, asCount}
-use Rattle.spec.specs.Net.{Net, Arc, isArc, joined, weightIn, weightOf}
+use Rattle.spec.specs.Net.{Net, Arc, isArc, joined, weightIn, weightOf, withArc}
 use Rattle.spec.specs.declared.ArcKind.{ArcKind}
 use Rattle.lists.specs.Laws.{clash, true-or-false, any-none, any-found, first-none, first-some, none-first}
 
 -- every arc of the net weighs from a to b
 abbrev pub WeighFrom : ℕ → ℕ → Net → Type 0
 WeighFrom a b n = (c : Arc) → In c (n .arcs) → (a ≤ c .weight) × (c .weight ≤ b)
+
+-- so with one arc more that does
+pub weigh-more : {a b : ℕ} (n : Net) (x : ArcKind) (p t w : ℕ) → WeighFrom a b n → a ≤ w → w ≤ b → WeighFrom a b (withArc x p t w n)
+unfolding withArc
+weigh-more n x p t w W l h c (List·Memᴰ·head e) = rw e (l, h)
+weigh-more n x p t w W l h c (List·Memᴰ·tail i) = W c i
 
 module _ (n : Net) (x : ArcKind) (p t : ℕ) where
   pub weight-none : joined n x p t ≡ false → weightOf n x p t ≡ 0

@@ -6,7 +6,7 @@ use Prim.Native.Nat.{ℕ, _+_, _≤_, _<_}
 use native.Mathlib.Omega.{arith}
 use mathlib.Core.Bool.{true, not}
 use mathlib.Core.Option.{none}
-use mathlib.Core.List.{List, [], _∷_, _++_, map, head-eq-of-cons-eq, tail-eq-of-cons-eq, List·Memᴰ·head, List·Memᴰ·tail, List·Memᴰ·not-nil}
+use mathlib.Core.List.{List, [], _∷_, _++_, map, head-eq-of-cons-eq, tail-eq-of-cons-eq, List·Memᴰ·not-nil}
 use lib.ListN.{length, length-append}
 use lib.Dec.{ltb, leb}
 use borrow.Author.Tests.{ltb-true, ltb-false, leb-true, leb-false}
@@ -21,7 +21,7 @@ use Rattle.spec.specs.Endings.{plainEnds}
 use Rattle.spec.specs.declared.ArcKind.{ArcKind}
 use Rattle.spec.specs.declared.ArcKind.the-variants.{Input, Output, Inhibitor, Read}
 use Rattle.lists.specs.Laws.{and-true, or-false, false-or, not-is-false, any-in, any-found, in-upTo, upTo-in, lowest-none, none-lowest, flat-map-snoc}
-use Rattle.lists.specs.ArcWeights.{weight-joined}
+use Rattle.lists.specs.ArcWeights.{weigh-more, weight-joined}
 use Rattle.runs.specs.Bytes.{P-letter, T-letter, I-letter, O-letter, H-letter, R-letter}
 use Rattle.runs.specs.Answers.{of-gives, not-refused, of-bind, of-when, of-lowest, of-cond}
 use Rattle.runs.specs.Texts.{lineBytes, text-is, form-line}
@@ -148,18 +148,13 @@ line-declared k l n m done h D =
 
 -- ---- weights
 
-with-weight : (n : Net) (x : ArcKind) (p t w : ℕ) → Weighed n → 1 ≤ w → w ≤ 16 → Weighed (withArc x p t w n)
-unfolding withArc
-with-weight n x p t w W l h a (List·Memᴰ·head e) = rw e (l, h)
-with-weight n x p t w W l h a (List·Memᴰ·tail i) = W a i
-
 declare-weighed : (n : Net) (d : Declaration) → Weighed n → Allowed n d → Weighed (declare n d)
 unfolding declare withPlace withTransition
 declare-weighed n (newPlace v) W a = W
 declare-weighed n newTransition W a = W
-declare-weighed n (newArc x p t) W a = with-weight n x p t 1 W (omega arith) (omega arith)
-declare-weighed n (weightedInput p t w) W a = with-weight n Input p t w W (a .1) (a .2)
-declare-weighed n (weightedOutput p t w) W a = with-weight n Output p t w W (a .1) (a .2)
+declare-weighed n (newArc x p t) W a = weigh-more n x p t 1 W (omega arith) (omega arith)
+declare-weighed n (weightedInput p t w) W a = weigh-more n Input p t w W (a .1) (a .2)
+declare-weighed n (weightedOutput p t w) W a = weigh-more n Output p t w W (a .1) (a .2)
 
 -- every arc of a net of sound declarations weighs from 1 to 16
 pub sound-weighed : (ds : List Declaration) → Sound emptyNet ds → Weighed (declared ds)

@@ -6,7 +6,7 @@ use Prim.Native.Nat.{ℕ, suc}
 use Prim.Native.Char.{Char, code}
 use native.Mathlib.Omega.{arith}
 use mathlib.Core.Bool.{Bool, true, false, _&&_, cond}
-use mathlib.Core.List.{List, [], _∷_, _++_, List·Memᴰ·cases-cons, List·Memᴰ·not-nil, List·Memᴰ·eq-of-singleton}
+use mathlib.Core.List.{List, [], _∷_, _++_, List·Memᴰ·not-nil, List·Memᴰ·eq-of-singleton}
 use Rattle.spec.specs.Lists.{every, lowest}
 use Rattle.spec.specs.Answer.{gives, _>>_, refuse_at_when_, refuse_at?_}
 use Rattle.spec.specs.Classes.{alike}
@@ -17,13 +17,13 @@ use Rattle.spec.specs.Checking.{accepts, checkWithin, check}
 use Rattle.spec.specs.Replaying.{replay}
 use Rattle.spec.specs.Arranging.{arrange}
 use Rattle.spec.specs.Energy.{energy}
-use Rattle.spec.specs.Net.{Net, takes, makes, withPlace, withTransition, withArc, addPlace, addTransition, addArc, addLine, emptyNet, lacking, whole, netOf, readNet}
+use Rattle.spec.specs.Net.{Net, takes, makes, withPlace, withTransition, addPlace, addTransition, addArc, addLine, emptyNet, lacking, whole, netOf, readNet}
 use Rattle.spec.specs.WithoutWeights.{Unweighted, HasNoWeight, withOne, withOnes, SameNet, OldNets}
 use Rattle.spec.specs.BeforeWeights as Then
 use Rattle.spec.specs.declared.ArcKind.{ArcKind}
 use Rattle.spec.specs.declared.ArcKind.the-variants.{Input, Output, Inhibitor, Read}
 use Rattle.lists.specs.Laws.{true-or-false, clash, and-true, and-three}
-use Rattle.lists.specs.ArcWeights.{WeighFrom, weight-once}
+use Rattle.lists.specs.ArcWeights.{WeighFrom, weigh-more, weight-once}
 use Rattle.runs.specs.Answers.{of-gives, not-refused, of-bind, of-when, of-lowest, of-cond}
 use Rattle.runs.specs.Fields.{pieces-some, pieces-more}
 use Rattle.runs.specs.Readers.{lines-keep}
@@ -111,10 +111,7 @@ arc-kept x k p t n m h O =
     let a = of-when 13 k _ _ h in
     let b = of-when 14 k _ _ (a .1) in
     let c = of-when 51 k _ _ (b .1) in
-    subst Ones (of-gives (c .1)) new
-  where
-    new : Ones (withArc x p t 1 n)
-    new c i = unfold withArc in (elim (List·Memᴰ·cases-cons i) [ inl e ↦ rw e (omega arith, omega arith) | inr j ↦ O c j ])
+    subst Ones (of-gives (c .1)) (weigh-more n x p t 1 O (omega arith) (omega arith))
 
 line-kept : (k : ℕ) (l : Line) (n m : Net) → Then.addLine k l n ≡ gives m → Unweighted l × (Ones n → Ones m)
 unfolding Then.addLine addPlace addTransition withPlace withTransition alike classOf named inDigits

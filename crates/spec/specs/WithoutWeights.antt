@@ -18,7 +18,7 @@ use Rattle.spec.specs.Arranging.{arrange}
 use Rattle.spec.specs.Energy.{energy}
 use Rattle.spec.specs.BeforeWeights as Then
 
--- no line is an `I` or an `O` line with a third number
+-- the line is no `I` and no `O` line with a third number
 pub record Unweighted (l : Line) : Type 0 where
   pub input : isLine "I" (number ∷ number ∷ number ∷ []) l ≡ false
   pub output : isLine "O" (number ∷ number ∷ number ∷ []) l ≡ false
