@@ -1,5 +1,6 @@
 //! A library from a file: so the tests of the tests put in wrong ones without linking anew.
 
+use crate::answer::{Answer, EnergyAnswer};
 use crate::ffi::Library;
 use std::ffi::{c_char, c_int, c_void, CStr, CString};
 use std::mem::transmute_copy;
@@ -13,7 +14,7 @@ extern "C" {
 const RESOLVE_NOW: c_int = 2;
 
 /// Stays loaded until the program ends.
-pub fn load(file: &str) -> Result<&'static Library, String> {
+pub fn load(file: &str) -> Result<&'static Library<Answer, EnergyAnswer>, String> {
     let name = CString::new(file).map_err(|_| "a file name has no byte 0".to_string())?;
     // SAFETY: the name is ended by a byte 0, and loading runs no code of these libraries.
     let library = unsafe { dlopen(name.as_ptr(), RESOLVE_NOW) };
