@@ -1,12 +1,10 @@
-//! A tour of the library from Rust: builds the record of a net and a step log, checks it, writes its shortest arrangement and
+//! A tour of the crate `pti` (rust/pti): builds the record of a net and a step log, checks it, writes its shortest arrangement and
 //! replays that. With an energy text it says what the events draw from the hold-up capacitor and what is left. Where the net, the
 //! log or the energy text is refused, it shows the refused line.
 //!
 //!   PTI_LIB_DIR=$PWD/target/staticlib cargo run --offline --manifest-path tests/link/rust/Cargo.toml NET LOG [--energy FILE]
 
-mod pti;
-
-use pti::Refusal;
+use pti::{Choice, Energies, Order, Refusal, Relation, Spot, Text};
 use std::process::ExitCode;
 
 fn main() -> ExitCode {
@@ -26,7 +24,7 @@ fn main() -> ExitCode {
     match tour(&net, &log, energy.as_deref()) {
         Ok(()) => ExitCode::SUCCESS,
         Err(refusal) => {
-            show_refused(&net, &log, energy.as_deref().unwrap_or_default(), &refusal);
+            show_refused(&net, &log, energy.as_deref().unwrap_or_default(), refusal);
             ExitCode::from(1)
         }
     }
@@ -37,37 +35,42 @@ fn tour(net: &[u8], log: &[u8], energy: Option<&[u8]>) -> Result<(), Refusal> {
     println!("record: bytes {}", record.len());
     print!("{}", shown(&record));
 
-    let (table, (events, conditions, pairs)) = pti::check(net, &record)?;
-    println!("check: events {events}, conditions {conditions}, independent pairs {pairs}");
-    for (e, f) in (0..events).flat_map(|e| (0..events).map(move |f| (e, f))) {
-        match table[128 * e + f] {
-            2 => println!("{e} strictly before {f}"),
-            1 => println!("{e} not later than {f}"),
-            _ => (),
-        }
-    }
+    let order = pti::check(net, &record)?;
+    println!("check: events {}, conditions {}, independent pairs {}", order.events(), order.conditions(), order.independent_pairs());
+    show_order(&order);
 
-    let (arrangement, lines) = pti::arrange(net, &record)?;
-    println!("arrangement: lines {lines}");
-    print!("{}", shown(&arrangement));
+    let arrangement = pti::arrange(net, &record)?;
+    println!("arrangement: lines {}", arrangement.lines);
+    print!("{}", shown(&arrangement.text));
 
-    let (places, _, _) = pti::read_net(net)?;
-    let rows = pti::replay(net, &record, &arrangement)?;
-    println!("replay: lines {}, and the marking after each", rows.len() / 32 - 1);
-    for (k, row) in rows.chunks(32).enumerate() {
-        let counts: String = row[..places].iter().map(|count| format!(" {count}")).collect();
-        println!("{k}:{counts}");
+    let markings = pti::replay(net, &record, &arrangement.text)?;
+    println!("replay: lines {}, and the marking after each", markings.lines());
+    for (line, marking) in markings.iter().enumerate() {
+        let counts: String = marking.iter().map(|count| format!(" {count}")).collect();
+        println!("{line}:{counts}");
     }
 
     if let Some(energy) = energy {
-        show_energies(&pti::energy(net, &record, energy)?);
+        show_energies(pti::energy(net, &record, energy)?);
     }
     Ok(())
 }
 
+/// A line for each event that is bound to another; two that are always together are each not later than the other.
+fn show_order(order: &Order) {
+    for e in 0..order.events() {
+        for f in 0..order.events() {
+            match order.relation(e, f) {
+                Some(Relation::StrictlyBefore) => println!("{e} strictly before {f}"),
+                Some(Relation::NotLater | Relation::Together) => println!("{e} not later than {f}"),
+                _ => (),
+            }
+        }
+    }
+}
+
 /// What is left is below 0 where the capacitor gives less than the events draw.
-fn show_energies(energies: &pti::Energies) {
-    let pti::Energies { usable, draw, left } = *energies;
+fn show_energies(Energies { usable, draw, left }: Energies) {
     print!("energy: the capacitor gives {usable:.1} µJ between full and cutoff, the events draw {draw:.1} µJ, ");
     if left < 0.0 {
         println!("and it falls short by {:.1} µJ", -left);
@@ -76,17 +79,18 @@ fn show_energies(energies: &pti::Energies) {
     }
 }
 
-fn show_refused(net: &[u8], log: &[u8], energy: &[u8], refusal: &Refusal) {
-    let Refusal { number, spot } = *refusal;
-    println!("refused: {number}, spot {spot}");
-    let (choice, second, name) = match number {
-        11..=14 | 51 | 54 => (0, log, "net"),
-        21..=27 => (1, log, "log"),
-        52 => (1, energy, "energy text"),
-        _ => return,
+fn show_refused(net: &[u8], log: &[u8], energy: &[u8], refusal: Refusal) {
+    println!("refused: {}, spot {}", refusal.number(), refusal.spot().number());
+    let Spot::Line(text, line) = refusal.spot() else { return };
+    let (choice, lines) = match text {
+        Text::Net => (Choice::Net, net),
+        Text::Log => (Choice::Second, log),
+        Text::Energy => (Choice::Second, energy),
+        // The library wrote these two itself, and it accepts what it writes.
+        Text::Record | Text::Arrangement => return,
     };
-    if let Some(line) = pti::refused_line(net, second, choice, spot) {
-        println!("line {spot} of the {name}: {}", shown(line));
+    if let Ok(range) = pti::refused_line(net, lines, choice, line) {
+        println!("line {line} of the {text}: {}", shown(&lines[range]));
     }
 }
 
