@@ -23,15 +23,8 @@ fi
 program=${1:-$top/target/bin/byte_table}
 [ -x "$program" ] || { echo "tests/byte_table.sh: there is no program $program; rt check byte_table makes it" >&2; exit 2; }
 program=$(readlink -f "$program")
+. "$top/tests/lib.sh"
 cd "$work"
-tried=0 failed=0
-
-holds() { # NAME COMMAND...: the command succeeds
-  tried=$((tried + 1))
-  if "${@:2}"; then return; fi
-  failed=$((failed + 1))
-  echo "FAILED: $1"
-}
 
 differs() { ! cmp -s "$1" "$2"; }
 

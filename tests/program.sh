@@ -22,28 +22,9 @@ printf '=\n' | "$PTI_COMPARE" print > /dev/null || { echo "tests/program.sh: $PT
 work=$(mktemp -d)
 trap 'rm -rf "$work"' EXIT
 input=$work/input
-tried=0 failed=0
+. tests/lib.sh
 
 # ---- how a test is made
-
-holds() { # NAME COMMAND...: the command succeeds
-  tried=$((tried + 1))
-  if "${@:2}"; then return; fi
-  failed=$((failed + 1))
-  echo "FAILED: $1"
-}
-
-# The file has these bytes.
-same() { # NAME EXPECTED-FILE FILE
-  holds "$1" cmp -s "$2" "$3"
-  diff -a "$2" "$3" | head -n 10 | cat -v || true
-}
-
-# The file has these lines and no other.
-has() { # NAME FILE LINE...
-  printf '%s\n' "${@:3}" > "$work/expected"
-  same "$1" "$work/expected" "$2"
-}
 
 # The program on $input, held to the simulator. A program that does not end is a failure too.
 agrees() { # NAME
@@ -61,28 +42,24 @@ gives() { # NAME LINE
   esac
 }
 
-lines() { printf '%s\n' "$@"; }
-repeat() { local i; for ((i = 0; i < $1; i++)); do echo "$2"; done; }
-step() { printf 'S'; local i; for ((i = 0; i < $1; i++)); do printf ',%d' "$2"; done; echo; } # COUNT TRANSITION
 whole() { cat "$1"; echo '='; cat "$2"; } # NET LOG
 returned() { sed 's/$/\r/'; } # byte 13 before the byte 10 of every line
 size() { wc -c < "$1"; }
 
 # ---- the examples
 
+stored_output() { # OUT NET LOG
+  whole "$2" "$3" > "$input"
+  agrees "$3 under $2"
+  same "$1" "$1" "$work/printed"
+  whole "$2" "$3" | tr -d '\r' | returned > "$input"
+  agrees "$3 under $2 with 13 10"
+  same "$1 with 13 10" "$1" "$work/printed"
+}
+
 each_example() {
-  local out base net log
-  for out in examples/*/*.out; do
-    base=${out%.out}
-    log=${base%%.*}.log net=${out%/*}/net
-    case ${base##*/} in *.*) net=${out%/*}/${base##*.}.net ;; esac
-    whole "$net" "$log" > "$input"
-    agrees "$log under $net"
-    same "$out" "$out" "$work/printed"
-    whole "$net" "$log" | tr -d '\r' | returned > "$input"
-    agrees "$log under $net with 13 10"
-    same "$out with 13 10" "$out" "$work/printed"
-  done
+  local log
+  each_stored stored_output
   for log in examples/*/*.log; do holds "$log has an output" test -f "${log%.log}.out"; done
 }
 
@@ -327,24 +304,13 @@ tree=$work/tree
 # A tree like this one, with the program that is tested.
 make_tree() { # DIR
   mkdir -p "$1/crates" "$1/target/bin"
-  cp record crates.txt "$1/"
+  cp record setup.sh crates.txt "$1/"
   ln -s "$top/docs" "$top/examples" "$1/"
   cp "$program" "$1/target/bin/run_record"
   touch "$1/target/bin/run_record"
 }
 
-# Runs a command in $tree, and holds its exit status.
-runs() { # STATUS COMMAND...
-  local status=0
-  (cd "$tree" && "${@:2}") > "$work/out" 2> "$work/err" || status=$?
-  holds "status $1, not $status: ${*:2}" test "$status" -eq "$1"
-}
-
-prints() { has "standard output: $*" "$work/out" "$@"; }
-silent() { holds "nothing on standard output" test ! -s "$work/out"; }
-quiet() { holds "nothing on standard error" test ! -s "$work/err"; }
 says() { has "standard error: $*" "$work/err" "${@/#/record: }"; }
-mentions() { holds "standard error mentions: $1" grep -qF -e "$1" "$work/err"; }
 
 malformed="refused, 21: malformed line"
 inhibited="refused, 25: inhibited: a place that inhibits one of the step's events is not empty before the step"
@@ -468,7 +434,8 @@ script_misuse() {
   holds "nothing is left behind" test -z "$(ls "$work/tmp")"
 }
 
-# A stand-in for rt, which makes the program and notes each call.
+# A stand-in for rt, which makes the program and notes each call. Where it fails there is a program too, as where rt refuses what
+# a program prints; it is none to be used.
 stand_in_rt() { # EXIT-STATUS
   mkdir -p "$work/rt"
   cat > "$work/rt/rt" <<EOF
@@ -476,8 +443,8 @@ stand_in_rt() { # EXIT-STATUS
 echo "\$*" >> "$work/rt/calls"
 echo "what rt says"
 cat > /dev/null
-[ $1 -eq 0 ] || exit $1
 mkdir -p target/bin && cp "$program" target/bin/run_record
+exit $1
 EOF
   chmod +x "$work/rt/rt"
   : > "$work/rt/calls"
@@ -492,7 +459,7 @@ script_builds() {
   runs 2 ./record examples/drive/net examples/drive/a.log; silent; mentions "rt check run_record failed"; calls 1
   stand_in_rt 0
   whole examples/drive/net examples/drive/a.log > "$input"
-  runs 0 ./record < "$input"; same "after building" examples/drive/a.out "$work/out"; mentions "proving and building"; calls 1
+  runs 0 ./record < "$input"; same "after building" examples/drive/a.out "$work/out"; mentions "proving and building"; mentions "record: proved: "; calls 1
   has "what rt was asked" "$work/rt/calls" "check run_record"
   has "what rt said" "$tree/target/record.log" "what rt says"
   runs 0 ./record < "$input"; quiet; calls 1
@@ -544,7 +511,6 @@ script_bytes
 script_returns
 script_long_lines
 script_misuse
-holds "README.md" tests/readme.sh record "$tree"
 script_builds
 table
 
