@@ -2,23 +2,14 @@
 # Holds README.md to what its commands print. A command is an indented line that begins with `$ `; the indented lines below it,
 # up to the next command, must be what it writes to standard output and standard error.
 #
-#   tests/readme.sh record TREE     the commands that use the script `record`, run in the folder TREE
-#   tests/readme.sh library TREE    all others, but .ci/run
+#   tests/readme.sh TREE     all commands but .ci/run, run in the folder TREE
 set -euo pipefail
 top=$(cd "$(dirname "$0")/.." && pwd)
-kind=$1 tree=$2
+tree=$1
 tried=0 failed=0 command=''
 
-wanted() {
-  case $command in
-    '' | .ci/run*) return 1 ;;
-    *./record*) [ "$kind" = record ] ;;
-    *) [ "$kind" = library ] ;;
-  esac
-}
-
 finish() { # the command collected so far
-  wanted || return 0
+  case $command in '' | .ci/run*) return 0 ;; esac
   local printed
   printed=$(cd "$tree" && bash -c "$command" 2>&1 && echo . || echo .)
   tried=$((tried + 1))
@@ -28,13 +19,15 @@ finish() { # the command collected so far
   diff <(printf %s "$expected") <(printf %s "${printed%.}") | sed 's/^</README  </; s/^>/printed >/' || true
 }
 
+blank='' # empty lines that belong to an output if more of it follows
 while IFS= read -r line; do
   case $line in
-    '    $ '*) finish; command=${line#'    $ '} expected='' ;;
-    '    '*) expected+=${line#'    '}$'\n' ;;
-    *) finish; command='' ;;
+    '    $ '*) finish; command=${line#'    $ '} expected='' blank='' ;;
+    '    '*) expected+=$blank${line#'    '}$'\n' blank='' ;;
+    '') blank+=$'\n' ;;
+    *) finish; command='' blank='' ;;
   esac
 done < "$top/README.md"
 finish
-echo "README.md: $tried commands ($kind) tried, $failed failed"
+echo "README.md: $tried commands tried, $failed failed"
 [ "$failed" -eq 0 ] && [ "$tried" -gt 0 ]

@@ -1,8 +1,8 @@
 #!/usr/bin/env bash
-# The library from outside: compiles the C and the Rust programs of this folder against libpti.a, runs them on examples/, and
-# holds what they print to tests/link/expected and examples/*/*.out. The C tour is also linked with the independent simulator
-# behind the same interface, so that what is stored rests on more than the library. Last come README.md's commands on the
-# library. Exits non-zero on any failure.
+# The library from outside: tests the Rust crate over it (rust/pti), compiles the C and the Rust programs of this folder against
+# libpti.a, runs them on examples/, and holds what they print to tests/link/expected and examples/*/*.out. The crate's tests and
+# the C tour are also linked with the independent simulator behind the same interface, so that what is written out and stored
+# rests on more than the library. Exits non-zero on any failure.
 #
 # With PTI_LIB_DIR set, the libpti.a of that folder is linked; else rt proves and builds it first.
 set -euo pipefail
@@ -31,9 +31,22 @@ compile_rust() {
     cargo build --release --offline --quiet --manifest-path tests/link/rust/Cargo.toml
 }
 
+# Not with panic=abort: some of the crate's tests are panics that are due, and its std would take the place of theirs.
 compile_simulator() { # FOLDER: the simulator as its libpti.a
   mkdir -p "$1"
-  rustc --edition 2021 -O -C panic=abort -A warnings --crate-type staticlib --crate-name pti tests/compare/src/mock.rs -o "$1/libpti.a"
+  rustc --edition 2021 -O -A warnings --crate-type staticlib --crate-name pti tests/compare/src/mock.rs -o "$1/libpti.a"
+}
+
+test_crate() { # FOLDER TARGET: the crate's own tests and examples, with the libpti.a of that folder
+  PTI_LIB_DIR=$1 CARGO_TARGET_DIR=$2 RUSTFLAGS='-D warnings' \
+    cargo test --offline --quiet --manifest-path rust/pti/Cargo.toml > "$work/tested" 2>&1 && return
+  cat "$work/tested"
+  fail "the tests of rust/pti with $1/libpti.a"
+}
+
+document_crate() {
+  CARGO_TARGET_DIR=$top/target/link RUSTDOCFLAGS='-D warnings' \
+    cargo doc --offline --no-deps --quiet --manifest-path rust/pti/Cargo.toml || fail "the documentation of rust/pti"
 }
 
 # expected/NAME.out has what the command prints; the exit status is 1 where that is a refusal.
@@ -54,14 +67,6 @@ each_log() { # PROGRAM
   try net "$1" "$work/net" examples/drive/a.log
   try temperature.taken "$1" examples/temperature/taken.net examples/temperature/flush.log
   try flush.wrong "$1" examples/flush/wrong.net examples/flush/four.log
-}
-
-# Proposed records, which no log has to build.
-each_record() { # PROGRAM
-  try flush.record "$1" examples/flush/net examples/flush/four.record
-  try flush.record.three "$1" examples/flush/net examples/flush/three.record
-  try flush.record.single "$1" examples/flush/single.net examples/flush/four.record
-  try flush.record.wrong "$1" examples/flush/wrong.net examples/flush/four.record
 }
 
 each_arrangement() { # PROGRAM
@@ -113,8 +118,10 @@ compile_simulator "$work/simulator"
 compile_c tour "$PTI_LIB_DIR" "$work/tour_c"
 compile_c tour "$work/simulator" "$work/tour_simulator"
 compile_c print "$PTI_LIB_DIR" "$work/print_c"
-compile_c check "$PTI_LIB_DIR" "$work/check_c"
-compile_c check "$work/simulator" "$work/check_simulator"
+
+test_crate "$work/simulator" "$work/target"
+test_crate "$PTI_LIB_DIR" "$top/target/link"
+document_crate
 
 for program in "$work/tour_simulator" "$work/tour_c" target/link/release/tour; do
   each_log "$program"
@@ -122,17 +129,10 @@ for program in "$work/tour_simulator" "$work/tour_c" target/link/release/tour; d
   misuse "$program"
 done
 for program in "$work/tour_simulator" "$work/tour_c"; do each_arrangement "$program"; done
-for program in "$work/check_simulator" "$work/check_c"; do each_record "$program"; done
 each_print "$work/print_c"
 
 # A caller's stack may be small.
 try cache.stack bash -c 'ulimit -s 256 && "$1" examples/cache/net examples/cache/shifts.log | tail -n 1' - "$work/tour_c"
-
-# README.md's commands run in a tree like this one, with the library that is tested.
-mkdir -p "$work/tree/target/staticlib"
-ln -s "$top"/{include,examples,tests} "$work/tree/"
-ln -s "$PTI_LIB_DIR/libpti.a" "$work/tree/target/staticlib/"
-CARGO_TARGET_DIR=$top/target/link tests/readme.sh library "$work/tree" || failed=$((failed + 1))
 
 [ "$failed" -eq 0 ] || { echo "tests/link/run.sh: $failed failed"; exit 1; }
 echo "tests/link/run.sh: all passed"
