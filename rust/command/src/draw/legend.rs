@@ -17,10 +17,10 @@ pub struct Block {
 }
 
 /// What is drawn around the point (22, 0), and what it means.
-fn picture_rows() -> Vec<(String, &'static str)> {
+fn picture_rows() -> Vec<(String, String)> {
     let shape = |extra: &str| format!(r##"{extra}<circle class="place" cx="22" cy="0" r="{}"/>"##, RADIUS - 5.0);
     let edge = |class: &str, path: &str| format!(r##"<path class="{class}" d="{path}"/>"##);
-    vec![
+    let rows = [
         (boxed(""), "event: its number and its transition; ordered with all others"),
         (boxed(" free"), "event that is free to swap with those behind ∥"),
         (shape(""), "condition: a token, by its number and its place"),
@@ -30,21 +30,17 @@ fn picture_rows() -> Vec<(String, &'static str)> {
         (edge("key A", "M2 0H44"), "A: the event is after the condition was consumed"),
         (edge("key B", "M44 0H2"), "B: the event is not later than the condition's producer"),
         (edge("key R", "M2 0H44"), "R: the event has read the condition"),
-    ]
+    ];
+    rows.map(|(shape, meaning)| (shape, meaning.to_string())).into()
 }
 
 fn boxed(class: &str) -> String {
     format!(r##"<rect class="box{class}" x="4" y="-9" width="36" height="18" rx="3"/>"##)
 }
 
-fn matrix_rows() -> Vec<(String, &'static str)> {
-    let cell = |colour: &str| format!(r##"<rect x="14" y="-8" width="16" height="16" fill="{colour}"/>"##);
-    vec![
-        (cell(matrix::INDEPENDENT), "∥ independent: free to swap, or together"),
-        (cell(matrix::STRICT), "< strictly before, > strictly after"),
-        (cell(matrix::WEAK), "≤ not later, ≥ not earlier"),
-        (cell(matrix::TOGETHER), "= always together in one step"),
-    ]
+fn matrix_rows() -> Vec<(String, String)> {
+    let cell = |colour: &str| format!(r##"<rect x="14" y="-8" width="16" height="16" fill="{colour}" stroke="#999" stroke-width=".5"/>"##);
+    matrix::RELATIONS.iter().map(|(_, colour, sign, meaning)| (cell(colour), format!("{sign} {meaning}"))).collect()
 }
 
 /// What the things of a picture mean.
@@ -57,7 +53,7 @@ pub fn of_matrix() -> Block {
     drawn("The matrix", &matrix_rows())
 }
 
-fn drawn(caption: &str, rows: &[(String, &str)]) -> Block {
+fn drawn(caption: &str, rows: &[(String, String)]) -> Block {
     let mut text = format!("<text class=\"caption\" x=\"0\" y=\"12\">{caption}</text>\n");
     let mut width = 0.0_f64;
     for (row, (shape, meaning)) in rows.iter().enumerate() {

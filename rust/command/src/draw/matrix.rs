@@ -6,11 +6,16 @@ use super::routes::short;
 use pti::{Order, Relation};
 use std::fmt::Write;
 
-/// Colours of the cells; independent is the strong one.
-pub const INDEPENDENT: &str = "#f2a900";
-pub const STRICT: &str = "#e9edf2";
-pub const WEAK: &str = "#a9bdd6";
-pub const TOGETHER: &str = "#44546a";
+/// The relations of the row's event to the column's: the colour of a cell, the sign in it, and what both mean. Independent is the
+/// strong one; that the row's event comes first is darker than that it comes second, so that small cells show it too.
+pub const RELATIONS: [(Relation, &str, &str, &str); 6] = [
+    (Relation::Independent, "#f2a900", "∥", "independent: free to swap, or together"),
+    (Relation::StrictlyBefore, "#dbe1e9", "<", "strictly before"),
+    (Relation::StrictlyAfter, "#f2f4f7", ">", "strictly after"),
+    (Relation::NotLater, "#8faccd", "≤", "not later"),
+    (Relation::NotEarlier, "#c3d3e6", "≥", "not earlier"),
+    (Relation::Together, "#44546a", "=", "always together in one step"),
+];
 const CAPTION: &str = "Order of events: row to column";
 /// Where the cells begin: below the caption and the numbers of the columns, and behind those of the rows.
 const TOP: f64 = 44.0;
@@ -24,8 +29,8 @@ pub fn drawn(order: &Order) -> Block {
     let cell = cell_size(events);
     let side = cell * events as f64;
     let mut text = format!("<text class=\"caption\" x=\"0\" y=\"12\">{CAPTION}</text>\n");
-    for colour in [INDEPENDENT, STRICT, WEAK, TOGETHER] {
-        let path = cells(order, cell, colour);
+    for (relation, colour, ..) in RELATIONS {
+        let path = cells(order, cell, relation);
         if !path.is_empty() {
             let _ = writeln!(text, r##"<path fill="{colour}" d="{path}"/>"##);
         }
@@ -47,31 +52,15 @@ fn cell_size(events: usize) -> f64 {
     }
 }
 
-fn colour(relation: Relation) -> &'static str {
-    match relation {
-        Relation::Independent => INDEPENDENT,
-        Relation::StrictlyBefore | Relation::StrictlyAfter => STRICT,
-        Relation::NotLater | Relation::NotEarlier => WEAK,
-        Relation::Together => TOGETHER,
-    }
+fn sign(relation: Relation) -> String {
+    RELATIONS.iter().find(|known| known.0 == relation).map_or(String::new(), |known| label::escape(known.2))
 }
 
-fn sign(relation: Relation) -> &'static str {
-    match relation {
-        Relation::Independent => "∥",
-        Relation::StrictlyBefore => "&lt;",
-        Relation::StrictlyAfter => "&gt;",
-        Relation::NotLater => "≤",
-        Relation::NotEarlier => "≥",
-        Relation::Together => "=",
-    }
-}
-
-/// The cells of one colour as one path, each a little apart from the next. So many elements would be too many.
-fn cells(order: &Order, cell: f64, wanted: &str) -> String {
+/// The cells of one relation as one path, each a little apart from the next. So many elements would be too many.
+fn cells(order: &Order, cell: f64, wanted: Relation) -> String {
     let mut path = String::new();
     let events = order.events();
-    let is = |row: usize, column: usize| order.relation(row, column).is_some_and(|relation| colour(relation) == wanted);
+    let is = |row: usize, column: usize| order.relation(row, column) == Some(wanted);
     for row in 0..events {
         for column in (0..events).filter(|column| is(row, *column)) {
             let (x, y, size) = (LEFT + cell * column as f64 + 0.5, TOP + cell * row as f64 + 0.5, short(cell - 1.0));
@@ -114,9 +103,9 @@ mod tests {
     fn every_pair_has_one_cell() {
         for (name, run) in samples::all() {
             let events = run.order.events();
-            let all: usize = [INDEPENDENT, STRICT, WEAK, TOGETHER].iter().map(|colour| cells(&run.order, 9.0, colour).matches('M').count()).sum();
+            let all: usize = RELATIONS.iter().map(|known| cells(&run.order, 9.0, known.0).matches('M').count()).sum();
             assert_eq!(all, events * events.saturating_sub(1), "{name}");
-            assert_eq!(cells(&run.order, 9.0, INDEPENDENT).matches('M').count(), 2 * run.order.independent_pairs(), "{name}");
+            assert_eq!(cells(&run.order, 9.0, Relation::Independent).matches('M').count(), 2 * run.order.independent_pairs(), "{name}");
         }
     }
 
