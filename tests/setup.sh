@@ -3,6 +3,8 @@
 # the command then gets what the script was given. Stand-ins for rt and cargo note their calls, so that nothing is proved here.
 # Exits non-zero on any failure.
 set -euo pipefail
+# A signal that is ignored around this would be ignored in the scripts that it tries, where ^C and others must be heard.
+[ "${1:-}" = --heard ] || exec env --default-signal "$0" --heard
 cd "$(dirname "$0")/.."
 work=$(mktemp -d)
 trap 'rm -rf "$work"' EXIT
@@ -219,7 +221,7 @@ interrupted() { # SIGNAL STATUS
   local status=0 id
   afresh hang
   rm -f "$work/pids"
-  (cd "$tree" && exec env --default-signal=HUP,INT,TERM ./pti) < /dev/null > "$work/out" 2> "$work/err" & id=$!
+  (cd "$tree" && exec env --default-signal=INT ./pti) < /dev/null > "$work/out" 2> "$work/err" & id=$!
   holds "rt is under way" await "$work/pids"
   kill -s "$1" "$id"
   { wait "$id" || status=$?; } 2> /dev/null # bash says how it ended
@@ -242,7 +244,7 @@ on_terminal() {
 # Nobody reads on: then it ends too.
 unread() {
   afresh slow
-  runs 0 env --default-signal=PIPE sh -c './pti 2>&1 < /dev/null | head -n 1'; holds "the first line" grep -q '^pti: proving' "$work/out"
+  runs 0 sh -c './pti 2>&1 < /dev/null | head -n 1'; holds "the first line" grep -q '^pti: proving' "$work/out"
   called check
   left_behind
 }
