@@ -10,7 +10,7 @@ die() { say "$*"; exit 2; }
 
 installs() { # TOOL
     case $1 in
-        rt) echo "it comes with the Rattle kit; put the kit's folder bin on the PATH, as /opt/rattle/bin" ;;
+        rt) echo "it comes with the Rattle kit; put the kit's folder bin on the PATH" ;;
         cargo | rustc) echo "https://rustup.rs installs it, and so does, from Debian 13 on, Debian's package $1" ;;
         cc) echo "Debian's package gcc installs it; Rust links with it" ;;
     esac

@@ -16,6 +16,7 @@ work=$(mktemp -d)
 trap 'rm -rf "$work"' EXIT
 tree=$work/tree
 mkdir "$tree"
+. tests/lib.sh
 
 unit_tests() {
   CARGO_TARGET_DIR=$top/target/rust RUSTFLAGS='-D warnings' cargo test --quiet --release --offline --manifest-path rust/command/Cargo.toml
@@ -23,8 +24,7 @@ unit_tests() {
 
 # The command over the simulator behind the library's interface.
 over_simulator() { # FOLDER
-  mkdir -p "$1"
-  rustc --edition 2021 -O -A warnings --crate-type staticlib --crate-name pti tests/compare/src/mock.rs -o "$1/libpti.a"
+  compile_simulator "$1"
   PTI_LIB_DIR=$1 CARGO_TARGET_DIR=$top/target/simulated cargo build --quiet --release --offline --manifest-path rust/command/Cargo.toml
 }
 
@@ -49,7 +49,6 @@ if [ $# -eq 0 ]; then
 fi
 pti=$(readlink -f "$1")
 [ -x "$pti" ] || { echo "tests/command.sh: there is no command $1" >&2; exit 2; }
-. tests/lib.sh
 
 # Commands run in a folder of their own that has the examples.
 mkdir "$work/bin"
@@ -125,18 +124,18 @@ each_table() {
     net=examples/${name%.*}/net log=examples/${name/.//}.log
     record "$net" "$log" "$work/record"
     runs 0 pti check --table "$net" "$work/record"; quiet
-    awk '$2 ~ /^(\\|<|>|≤|≥|=|\.)$/ {
+    awk '$2 ~ /^(\\|<|>|≤|≥|=|∥)$/ {
         for (i = 2; i <= NF; i++) {
           if ($i == "<") print $1, "strictly before", i - 2
           if ($i == "≤" || $i == "=") print $1, "not later than", i - 2
-          if ($i == ".") free++ }
+          if ($i == "∥") free++ }
       } END { print "free", free / 2 }' "$work/out" > "$work/read"
     { grep -E 'strictly before|not later' "tests/link/expected/$name.out"; sed -n 's/^check: .*independent pairs/free/p' "tests/link/expected/$name.out"; } > "$work/due"
     same "$name as a matrix" "$work/due" "$work/read"
   done
   runs 0 pti check --table $drive/net a.record --names $drive/names
   prints "events 3" "conditions 5" "independent pairs 0" "" '         0 1 2' '0 write  \ < <' '1 flush  > \ <' '2 park   > > \' "" \
-    'the event of the row and that of the column:' '<  strictly before   ≤  not later     =  always in one step' '>  strictly after    ≥  not earlier   .  free to swap'
+    'the event of the row and that of the column:' '∥  free to swap     <  strictly before' '>  strictly after   ≤  not later' '≥  not earlier      =  always in one step'
   runs 0 pti check --table $drive/net e.record; prints "events 0" "conditions 2" "independent pairs 0"
 }
 
@@ -202,7 +201,6 @@ misuse() {
   done
   misused "there is no option --tabel; did you mean --table?" pti check --tabel $drive/net a.record
   misused "there is no option --table" pti build --table $drive/net $drive/a.log
-  misused "there is no option --json" pti draw --json $drive/net a.record
   misused "--json takes no word" pti net --json=yes $drive/net
   misused "--names stands twice" pti net --names a --names b $drive/net
   misused "--output stands twice" pti net -o a --output=b $drive/net
@@ -337,7 +335,7 @@ says_json() { # PART VALUE
 each_member() {
   local name
   for name in "net $drive/net" "build $drive/net $drive/a.log" "check $drive/net b.record --table" "arrange $drive/net b.record" \
-    "replay $drive/net b.record $drive/b.park_first.arr" "energy $drive/net a.record examples/energy/new.energy" "line $drive/net 1"; do
+    "replay $drive/net b.record $drive/b.park_first.arr" "energy $drive/net a.record examples/energy/new.energy" "draw $drive/net a.record" "line $drive/net 1"; do
     # shellcheck disable=SC2086
     runs 0 pti $name --json; members > "$work/members"
     runs 0 pti "${name%% *}" --help
@@ -373,6 +371,8 @@ json() {
   says_json '{lines}' '[[1],[0]]'
   runs 0 pti energy --json $drive/net a.record examples/energy/aged.energy
   says_json '{usable}' 157080; says_json '{draw}' 180000; says_json '{left}' -22920; says_json '{unit}' µJ
+  runs 0 sh -c "pti draw --json $drive/net a.record | perl -MJSON::PP -0777 -CO -ne 'print decode_json(\$_)->{text}'"; cp "$work/out" "$work/picture"
+  runs 0 pti draw $drive/net a.record; same "the picture in JSON" "$work/out" "$work/picture"
   runs 0 pti line --json $drive/net $drive/c.log 2; says_json '{start}' 4; says_json '{length}' 3; says_json '{text}' S,2
 }
 

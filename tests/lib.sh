@@ -1,5 +1,5 @@
-# What the tests of the command and of the scripts share, sourced by them: how a test is made, and how a command is run. They set
-# work, a folder of their own, and tree, where commands are run.
+# What the tests from outside share, sourced by them: how a test is made, and how a command is run. They run in the repository,
+# and set work, a folder of their own, and tree, where commands are run.
 tried=0 failed=0
 
 holds() { # NAME COMMAND...: the command succeeds
@@ -32,6 +32,15 @@ prints() { has "standard output: $*" "$work/out" "$@"; }
 silent() { holds "nothing on standard output" test ! -s "$work/out"; }
 quiet() { holds "nothing on standard error" test ! -s "$work/err"; }
 mentions() { holds "standard error mentions: $1" grep -qF -e "$1" "$work/err"; }
+
+# ---- the simulator
+
+# The independent simulator behind the library's interface. Not with panic=abort: some of the Rust crate's tests are panics that
+# are due, and its std would take the place of theirs.
+compile_simulator() { # FOLDER: where its libpti.a goes
+  mkdir -p "$1"
+  rustc --edition 2021 -O -A warnings --crate-type staticlib --crate-name pti tests/compare/src/mock.rs -o "$1/libpti.a"
+}
 
 # ---- texts
 

@@ -152,7 +152,7 @@ missing_tools() {
   with_tools
   PATH=$work/some runs 2 ./pti word; silent; called
   holds "all are named" test "$(grep -c 'is not on the PATH: .*[a-z]' "$work/err")" -eq 4
-  mentions /opt/rattle/bin; mentions https://rustup.rs; mentions "package cargo"; mentions "package gcc"
+  mentions "the Rattle kit"; mentions https://rustup.rs; mentions "package cargo"; mentions "package gcc"
   holds "nothing was begun" test ! -e "$tree/target"
   for tool in 'echo rustc 1.63.0' 'exit 1'; do
     with_tools rt cargo cc

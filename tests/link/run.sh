@@ -19,7 +19,7 @@ fi
 PTI_LIB_DIR=$(cd "$PTI_LIB_DIR" && pwd)
 export PTI_LIB_DIR
 
-failed=0
+. tests/lib.sh
 fail() { echo "tests/link/run.sh: FAILED: $*"; failed=$((failed + 1)); }
 
 compile_c() { # NAME FOLDER PROGRAM: the C program with the libpti.a of that folder
@@ -29,12 +29,6 @@ compile_c() { # NAME FOLDER PROGRAM: the C program with the libpti.a of that fol
 compile_rust() {
   CARGO_TARGET_DIR=$top/target/link RUSTFLAGS='-D warnings' \
     cargo build --release --offline --quiet --manifest-path tests/link/rust/Cargo.toml
-}
-
-# Not with panic=abort: some of the crate's tests are panics that are due, and its std would take the place of theirs.
-compile_simulator() { # FOLDER: the simulator as its libpti.a
-  mkdir -p "$1"
-  rustc --edition 2021 -O -A warnings --crate-type staticlib --crate-name pti tests/compare/src/mock.rs -o "$1/libpti.a"
 }
 
 test_crate() { # FOLDER TARGET: the crate's own tests and examples, with the libpti.a of that folder

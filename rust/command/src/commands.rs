@@ -12,16 +12,16 @@ pub struct Command {
     /// The words that it takes, in order; one in brackets may be left out.
     operands: &'static [&'static str],
     /// The options that not every command has.
-    own: &'static [Choosable],
+    own: &'static [Flag],
     pub brief: &'static str,
     more: &'static str,
-    /// What the JSON object of an accepted request has; nothing where there is none.
+    /// What the JSON object of an accepted request has.
     json: &'static str,
     pub act: fn(&Request) -> Result<Vec<u8>, Refusal>,
 }
 
 /// An option.
-pub struct Choosable {
+pub struct Flag {
     pub name: &'static str,
     pub short: Option<&'static str>,
     /// The word behind it, if it takes one.
@@ -29,15 +29,15 @@ pub struct Choosable {
     brief: &'static str,
 }
 
-const fn option(name: &'static str, word: &'static str, brief: &'static str) -> Choosable {
-    Choosable { name, short: None, word, brief }
+const fn option(name: &'static str, word: &'static str, brief: &'static str) -> Flag {
+    Flag { name, short: None, word, brief }
 }
 
-const JSON: Choosable = option("--json", "", "one JSON object, on one line, also of a refusal");
+const JSON: Flag = option("--json", "", "one JSON object, on one line, also of a refusal");
 
-const EVERY: &[Choosable] = &[
+const EVERY: &[Flag] = &[
     option("--names", "FILE", "names of places and transitions: lines P,number,name and T,number,name"),
-    Choosable { name: "--output", short: Some("-o"), word: "FILE", brief: "write there, and only where nothing is refused" },
+    Flag { name: "--output", short: Some("-o"), word: "FILE", brief: "write there, and only where nothing is refused" },
 ];
 
 pub const ALL: &[Command] = &[
@@ -133,14 +133,14 @@ Example:
     Command {
         name: "draw",
         operands: &["NET", "RECORD"],
-        own: &[option("--dot", "", "for Graphviz, in place of SVG")],
+        own: &[JSON, option("--dot", "", "for Graphviz, in place of SVG")],
         brief: "draw a record",
         more: "Writes an SVG: the events in columns by the lines of the shortest arrangement, the conditions between them, arcs and marks, and which
 events are free to swap.
 
 Example:
   $ pti build examples/drive/net examples/drive/a.log | pti draw examples/drive/net - --names examples/drive/names -o a.svg",
-        json: "",
+        json: "text",
         act: draw,
     },
     Command {
@@ -159,7 +159,7 @@ Example:
 ];
 
 impl Command {
-    pub fn options(&self) -> impl Iterator<Item = &'static Choosable> {
+    pub fn options(&self) -> impl Iterator<Item = &'static Flag> {
         self.own.iter().chain(EVERY)
     }
 
@@ -199,9 +199,6 @@ impl Command {
 
 impl Command {
     fn json_help(&self) -> String {
-        if self.json.is_empty() {
-            return String::new();
-        }
         format!(
             "\nJSON: accepted: true, {}.\nOf a refusal: accepted: false, number, sentence, spot_kind (line, transition, place, event, asked or whole), spot, file, line,\n\
              text, cut_off; what is not plain text in a line is written as \\xNN.\n",
@@ -210,7 +207,7 @@ impl Command {
     }
 }
 
-impl Choosable {
+impl Flag {
     fn form(&self) -> String {
         let short = self.short.map_or(String::new(), |short| format!("{short}, "));
         format!("{short}{}{}", self.name, self.behind())
@@ -348,7 +345,7 @@ fn energy(request: &Request) -> Result<Vec<u8>, Refusal> {
 fn draw(request: &Request) -> Result<Vec<u8>, Refusal> {
     let run = Run::new(request.text("NET"), request.text("RECORD"))?;
     let picture = if request.has("--dot") { draw::dot(&run, &request.names) } else { draw::svg(&run, &request.names) };
-    Ok(picture.into_bytes())
+    Ok(if request.has("--json") { object(vec![("text", Json::Text(picture))]) } else { picture.into_bytes() })
 }
 
 fn line(request: &Request) -> Result<Vec<u8>, Refusal> {

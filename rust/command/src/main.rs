@@ -6,6 +6,7 @@ mod draw;
 mod json;
 mod names;
 mod refused;
+mod relations;
 mod request;
 mod run;
 mod tables;

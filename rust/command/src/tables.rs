@@ -1,8 +1,9 @@
 //! What is printed as a table, for a person.
 
 use crate::names::Names;
+use crate::relations;
 use crate::run::{Net, Record};
-use pti::{Markings, Order, Relation};
+use pti::{Markings, Order};
 use std::fmt::Write;
 
 /// A number with its name, if it has one.
@@ -31,23 +32,15 @@ pub fn net(net: &Net, names: &Names) -> String {
     table
 }
 
-fn sign(relation: Option<Relation>) -> char {
-    match relation {
-        None => '\\',
-        Some(Relation::StrictlyBefore) => '<',
-        Some(Relation::StrictlyAfter) => '>',
-        Some(Relation::NotLater) => '≤',
-        Some(Relation::NotEarlier) => '≥',
-        Some(Relation::Together) => '=',
-        Some(Relation::Independent) => '.',
+/// What the signs of the matrix mean, two on a line.
+fn signs() -> String {
+    let mut said = String::from("the event of the row and that of the column:\n");
+    for two in relations::ALL.chunks(2) {
+        let [left, right] = [0, 1].map(|side| format!("{}  {}", two[side].1, two[side].2));
+        let _ = writeln!(said, "{left:<20}{right}");
     }
+    said
 }
-
-const SIGNS: &str = "\
-the event of the row and that of the column:
-<  strictly before   ≤  not later     =  always in one step
->  strictly after    ≥  not earlier   .  free to swap
-";
 
 /// The order as a matrix: a row and a column for each event.
 pub fn order(order: &Order, record: &Record, names: &Names) -> String {
@@ -55,10 +48,10 @@ pub fn order(order: &Order, record: &Record, names: &Names) -> String {
     let width = labels.iter().map(|label| label.chars().count()).max().unwrap_or(0);
     let mut table = format!("\n{}", heads(order.events(), width));
     for (e, label) in labels.iter().enumerate() {
-        let signs: String = (0..order.events()).flat_map(|f| [' ', sign(order.relation(e, f))]).collect();
+        let signs: String = (0..order.events()).flat_map(|f| [' ', order.relation(e, f).map_or('\\', relations::sign)]).collect();
         let _ = writeln!(table, "{label:<width$} {signs}");
     }
-    table + "\n" + SIGNS
+    table + "\n" + &signs()
 }
 
 /// The numbers of the columns, a digit below the other.

@@ -3,6 +3,7 @@
 use super::{label, matrix};
 use super::placing::{RADIUS, RING};
 use super::routes::short;
+use crate::relations;
 use std::fmt::Write;
 
 /// A row, and where its text begins.
@@ -40,7 +41,7 @@ fn boxed(class: &str) -> String {
 
 fn matrix_rows() -> Vec<(String, String)> {
     let cell = |colour: &str| format!(r##"<rect x="14" y="-8" width="16" height="16" fill="{colour}" stroke="#999" stroke-width=".5"/>"##);
-    matrix::RELATIONS.iter().map(|(_, colour, sign, meaning)| (cell(colour), format!("{sign} {meaning}"))).collect()
+    relations::ALL.iter().map(|(relation, sign, meaning)| (cell(matrix::colour(*relation)), format!("{sign} {meaning}"))).collect()
 }
 
 /// What the things of a picture mean.

@@ -3,19 +3,23 @@
 use super::label;
 use super::legend::Block;
 use super::routes::short;
+use crate::relations;
 use pti::{Order, Relation};
 use std::fmt::Write;
 
-/// The relations of the row's event to the column's: the colour of a cell, the sign in it, and what both mean. Independent is the
-/// strong one; that the row's event comes first is darker than that it comes second, so that small cells show it too.
-pub const RELATIONS: [(Relation, &str, &str, &str); 6] = [
-    (Relation::Independent, "#f2a900", "∥", "independent: free to swap, or together"),
-    (Relation::StrictlyBefore, "#dbe1e9", "<", "strictly before"),
-    (Relation::StrictlyAfter, "#f2f4f7", ">", "strictly after"),
-    (Relation::NotLater, "#8faccd", "≤", "not later"),
-    (Relation::NotEarlier, "#c3d3e6", "≥", "not earlier"),
-    (Relation::Together, "#44546a", "=", "always together in one step"),
-];
+/// The colour of a relation of the row's event to the column's. Independent is the strong one; that the row's event comes first
+/// is darker than that it comes second, so that small cells show it too.
+pub fn colour(relation: Relation) -> &'static str {
+    match relation {
+        Relation::Independent => "#f2a900",
+        Relation::StrictlyBefore => "#dbe1e9",
+        Relation::StrictlyAfter => "#f2f4f7",
+        Relation::NotLater => "#8faccd",
+        Relation::NotEarlier => "#c3d3e6",
+        Relation::Together => "#44546a",
+    }
+}
+
 const CAPTION: &str = "Order of events: row to column";
 /// Where the cells begin: below the caption and the numbers of the columns, and behind those of the rows.
 const TOP: f64 = 44.0;
@@ -29,10 +33,10 @@ pub fn drawn(order: &Order) -> Block {
     let cell = cell_size(events);
     let side = cell * events as f64;
     let mut text = format!("<text class=\"caption\" x=\"0\" y=\"12\">{CAPTION}</text>\n");
-    for (relation, colour, ..) in RELATIONS {
+    for (relation, ..) in relations::ALL {
         let path = cells(order, cell, relation);
         if !path.is_empty() {
-            let _ = writeln!(text, r##"<path fill="{colour}" d="{path}"/>"##);
+            let _ = writeln!(text, r##"<path fill="{}" d="{path}"/>"##, colour(relation));
         }
     }
     numbers(&mut text, events, cell);
@@ -50,10 +54,6 @@ fn cell_size(events: usize) -> f64 {
         25..=64 => 12.0,
         _ => 9.0,
     }
-}
-
-fn sign(relation: Relation) -> String {
-    RELATIONS.iter().find(|known| known.0 == relation).map_or(String::new(), |known| label::escape(known.2))
 }
 
 /// The cells of one relation as one path, each a little apart from the next. So many elements would be too many.
@@ -89,7 +89,7 @@ fn signs(text: &mut String, order: &Order, cell: f64) {
         if let Some(relation) = order.relation(row, column) {
             let (x, y) = (short(LEFT + cell * (column as f64 + 0.5)), short(TOP + cell * (row as f64 + 0.5) + 4.0));
             let light = if relation == Relation::Together { r##" style="fill:#fff""## } else { "" };
-            let _ = writeln!(text, r##"<text class="cell"{light} x="{x}" y="{y}">{}</text>"##, sign(relation));
+            let _ = writeln!(text, r##"<text class="cell"{light} x="{x}" y="{y}">{}</text>"##, label::escape(&relations::sign(relation).to_string()));
         }
     }
 }
@@ -103,7 +103,7 @@ mod tests {
     fn every_pair_has_one_cell() {
         for (name, run) in samples::all() {
             let events = run.order.events();
-            let all: usize = RELATIONS.iter().map(|known| cells(&run.order, 9.0, known.0).matches('M').count()).sum();
+            let all: usize = relations::ALL.iter().map(|known| cells(&run.order, 9.0, known.0).matches('M').count()).sum();
             assert_eq!(all, events * events.saturating_sub(1), "{name}");
             assert_eq!(cells(&run.order, 9.0, Relation::Independent).matches('M').count(), 2 * run.order.independent_pairs(), "{name}");
         }
