@@ -33,9 +33,8 @@ const fn option(name: &'static str, word: &'static str, brief: &'static str) -> 
     Flag { name, short: None, word, brief }
 }
 
-const JSON: Flag = option("--json", "", "one JSON object, on one line, also of a refusal");
-
 const EVERY: &[Flag] = &[
+    option("--json", "", "one JSON object, on one line, also of a refusal"),
     option("--names", "FILE", "names of places and transitions: lines P,number,name and T,number,name"),
     Flag { name: "--output", short: Some("-o"), word: "FILE", brief: "write there, and only where nothing is refused" },
 ];
@@ -44,7 +43,7 @@ pub const ALL: &[Command] = &[
     Command {
         name: "net",
         operands: &["NET"],
-        own: &[JSON, option("--list", "", "each place and each transition besides")],
+        own: &[option("--list", "", "each place and each transition besides")],
         brief: "read a net",
         more: "Prints how many places and transitions the net has.
 
@@ -58,7 +57,7 @@ Example:
     Command {
         name: "build",
         operands: &["NET", "LOG"],
-        own: &[JSON],
+        own: &[],
         brief: "write the record of a step log",
         more: "Prints the run record: lines E for its events, C for its conditions, A, B and R for its marks.
 
@@ -72,7 +71,7 @@ Example:
     Command {
         name: "check",
         operands: &["NET", "RECORD"],
-        own: &[JSON, option("--table", "", "the order of the events besides, as a matrix")],
+        own: &[option("--table", "", "the order of the events besides, as a matrix")],
         brief: "check a proposed record",
         more: "Prints how many events and conditions the record has, and how many pairs of events are free to swap.
 
@@ -87,7 +86,7 @@ Example:
     Command {
         name: "arrange",
         operands: &["NET", "RECORD"],
-        own: &[JSON],
+        own: &[],
         brief: "write the shortest arrangement of a record",
         more: "Prints its lines, G and events: each line is a step, and no arrangement that keeps the order has fewer.
 
@@ -100,7 +99,7 @@ Example:
     Command {
         name: "replay",
         operands: &["NET", "RECORD", "ARRANGEMENT"],
-        own: &[JSON],
+        own: &[],
         brief: "replay an arrangement of a record",
         more: "Prints the marking before its first line and after each: a column for each place, under the place's number.
 
@@ -117,7 +116,7 @@ Example:
     Command {
         name: "energy",
         operands: &["NET", "RECORD", "ENERGY"],
-        own: &[JSON],
+        own: &[],
         brief: "say what a record's events draw from the hold-up capacitor, and what is left",
         more: "ENERGY is a line K,capacitance,full,cutoff in µF and mV, and for each transition of the net, in order, a line J,µJ or W,mW,ms.
 What is left is below 0 where the capacitor falls short; the exit status is 0 then too.
@@ -133,7 +132,7 @@ Example:
     Command {
         name: "draw",
         operands: &["NET", "RECORD"],
-        own: &[JSON, option("--dot", "", "for Graphviz, in place of SVG")],
+        own: &[option("--dot", "", "for Graphviz, in place of SVG")],
         brief: "draw a record",
         more: "Writes an SVG: the events in columns by the lines of the shortest arrangement, the conditions between them, arcs and marks, and which
 events are free to swap.
@@ -146,7 +145,7 @@ Example:
     Command {
         name: "line",
         operands: &["NET", "[SECOND]", "LINE"],
-        own: &[JSON],
+        own: &[],
         brief: "show a line of a net or of a second text",
         more: "Prints line LINE, counted from 1, of SECOND where it is given and else of NET, without its ending.
 
