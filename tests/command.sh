@@ -223,6 +223,7 @@ bad_files() {
   head -c 3000 "$pti" > "$tree/binary"
   runs 1 pti net binary; silent; mentions 'binary:1: refused, 11: malformed line'; mentions '    \x7FELF\x02\x01\x01\x00'
   holds "binary bytes are not printed" test -z "$(tr -d ' -~\n' < "$work/err")"
+  printf 'P,\303\251\n' > "$tree/n"; refused 11 n:1 'P,\xC3\xA9' pti net n
   : > "$tree/empty"
   runs 0 pti net empty; prints "places 0" "transitions 0"
   runs 0 pti build empty empty; silent; quiet

@@ -57,7 +57,7 @@ fn carry_out(request: &Request) -> Result<bool, Failure> {
 /// The output goes where it was asked to.
 fn deliver(request: &Request, bytes: &[u8]) -> Result<(), Failure> {
     match &request.output {
-        Some(file) if file != "-" => std::fs::write(file, bytes).map_err(|error| unwritable(&texts::shown(file.to_string_lossy().as_bytes()), &error)),
+        Some(file) if file != "-" => std::fs::write(file, bytes).map_err(|error| unwritable(&texts::named(file), &error)),
         _ => print(bytes),
     }
 }

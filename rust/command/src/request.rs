@@ -59,7 +59,7 @@ pub fn ask(words: &[OsString]) -> Result<Asked, Failure> {
 fn command(name: &OsStr) -> Result<&'static Command, Failure> {
     let found = commands::ALL.iter().find(|command| name == command.name);
     found.ok_or_else(|| {
-        let name = texts::shown(name.to_string_lossy().as_bytes());
+        let name = texts::named(name);
         let near = nearest(&name, commands::ALL.iter().map(|command| command.name));
         Failure::Misuse(None, format!("there is no command {name}{near}"))
     })
@@ -90,7 +90,7 @@ impl Call {
         let known = self.command.options().find(|known| known.name == name || known.short == Some(name));
         let known = known.ok_or_else(|| {
             let near = nearest(name, self.command.options().map(|known| known.name));
-            self.misuse(format!("there is no option {}{near}", texts::shown(name.as_bytes())))
+            self.misuse(format!("there is no option {}{near}", texts::named(OsStr::new(name))))
         })?;
         let slot = match known.name {
             "--names" => &mut self.names,
@@ -132,7 +132,7 @@ impl Call {
 
     fn number(&self, word: &OsString) -> Result<usize, Failure> {
         let number = word.to_str().and_then(texts::number);
-        number.ok_or_else(|| self.misuse(format!("LINE is a number, not {}", texts::shown(word.to_string_lossy().as_bytes()))))
+        number.ok_or_else(|| self.misuse(format!("LINE is a number, not {}", texts::named(word))))
     }
 
     fn misuse(&self, what: String) -> Failure {

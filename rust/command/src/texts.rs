@@ -23,7 +23,7 @@ pub fn is_standard_input(file: &OsStr) -> bool {
 
 /// The text of a file, or of standard input.
 pub fn read(operand: &'static str, file: &OsString) -> Result<Source, Failure> {
-    let name = if is_standard_input(file) { "standard input".to_string() } else { shown(file.to_string_lossy().as_bytes()) };
+    let name = if is_standard_input(file) { "standard input".to_string() } else { named(file) };
     let mut bytes = Vec::new();
     let got = if is_standard_input(file) {
         if io::stdin().is_terminal() {
@@ -54,21 +54,22 @@ pub fn plain(error: &io::Error) -> String {
     }
 }
 
-/// Bytes as a person can see them: what is not plain text is written as \xNN, so that a damaged line shows what it holds, and a
-/// name cannot disturb the terminal.
+/// Bytes of a text as a person can see them: what is not plain text is written as \xNN, so that a damaged line shows what it holds.
 pub fn shown(bytes: &[u8]) -> String {
-    let mut text = String::new();
-    for part in bytes.utf8_chunks() {
-        for symbol in part.valid().chars() {
-            if symbol.is_control() || symbol == '\\' {
-                text.extend(symbol.to_string().bytes().map(|byte| format!("\\x{byte:02X}")));
-            } else {
-                text.push(symbol);
-            }
+    bytes.iter().map(|byte| if matches!(byte, b' '..=b'~') && *byte != b'\\' { char::from(*byte).to_string() } else { format!("\\x{byte:02X}") }).collect()
+}
+
+/// A word of the command line, as the name of a file. Its letters may be of any language, but it cannot disturb the terminal.
+pub fn named(word: &OsStr) -> String {
+    let mut name = String::new();
+    for letter in word.to_string_lossy().chars() {
+        if letter.is_control() || letter == '\\' {
+            name.push_str(&letter.to_string().bytes().map(|byte| format!("\\x{byte:02X}")).collect::<String>());
+        } else {
+            name.push(letter);
         }
-        text.extend(part.invalid().iter().map(|byte| format!("\\x{byte:02X}")));
     }
-    text
+    name
 }
 
 #[cfg(test)]
@@ -79,7 +80,13 @@ mod tests {
     fn what_cannot_be_seen_is_written_out() {
         assert_eq!(shown(b"S,0"), "S,0");
         assert_eq!(shown(b"S,\0\xff\r\\ x"), "S,\\x00\\xFF\\x0D\\x5C x");
-        assert_eq!(shown("net µ".as_bytes()), "net µ");
-        assert_eq!(shown(b"\x1b[2J"), "\\x1B[2J");
+        assert_eq!(shown("S,µ~ ".as_bytes()), "S,\\xC2\\xB5~ ");
+        assert_eq!(shown(b"\x1b[2J\x7f"), "\\x1B[2J\\x7F");
+    }
+
+    #[test]
+    fn names_keep_their_letters() {
+        assert_eq!(named(OsStr::new("net µ")), "net µ");
+        assert_eq!(named(OsStr::new("a\n\\\u{9b}2J")), "a\\x0A\\x5C\\xC2\\x9B2J");
     }
 }
