@@ -1,5 +1,7 @@
 // The hold-up capacitor and what the events of a transition draw, as floats, made of whole numbers in their ranges: each
 // float is its number exactly.
+#![tactic(auto)]
+
 ghost use Rattle.std.specs.Prelude.{◌≡◌, ◌*◌, ◌^◌, ◌≤◌};
 ghost use Rattle.spec.specs.Rounding.{float_of};
 ghost use Rattle.hold_up.specs.Floats.{Stands, Holds};
@@ -8,7 +10,7 @@ ghost use Rattle.hold_up.specs.Floats.{Stands, Holds};
 pub const DRAWS: usize = 32;
 
 // The capacitor's three figures, kept together: µF, mV and mV.
-#[derive(Drop)]
+#[derive(Clone, Copy)]
 pub struct Capacitor {
     pub capacitance: f64,
     pub full: f64,
@@ -16,14 +18,14 @@ pub struct Capacitor {
 }
 
 // What an event of a transition draws: a pulse of µJ, or a load of mW for ms.
-#[derive(Drop)]
+#[derive(Clone, Copy)]
 pub enum Draw {
     Pulse(f64),
     Load(f64, f64),
 }
 
 // The same in an array with one for each transition: a struct can have an array of structs as a field, and none of enums.
-#[derive(Drop)]
+#[derive(Clone, Copy)]
 pub struct EventDraw {
     pub draw: Draw,
 }

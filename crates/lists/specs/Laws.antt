@@ -154,6 +154,7 @@ module _ {A : Type 0} where
   unfolding sum_of
   sum_of-lt f g x (y ∷ xs) h (Memᴰ.head e) l = omega (arith, ap f e, ap g e, sum_of-le f g xs (λ z m. h z (there m)))
   sum_of-lt f g x (y ∷ xs) h (Memᴰ.tail m) l = omega (arith, h y here, sum_of-lt f g x xs (λ z k. h z (there k)) m l)
+  sum_of-lt f g x [] h x4 l = elim x4 [ ]
 
   pub sum_of-zero : (f : A → ℕ) (xs : List A) → ((x : A) → In x xs → f x ≡ 0) → sum_of f xs ≡ 0
   unfolding sum_of
@@ -174,6 +175,7 @@ module _ {A : Type 0} where
   unfolding sum_of
   sum_of-in f x (y ∷ xs) (Memᴰ.head e) = rw e (omega arith)
   sum_of-in f x (y ∷ xs) (Memᴰ.tail m) = omega (arith, sum_of-in f x xs m)
+  sum_of-in f x [] x'' = elim x'' [ ]
 
   pub count-sum : (p : A → Bool) (xs : List A) → count p xs ≡ sum_of (λ x. as_count (p x)) xs
   unfolding count sum_of
@@ -249,6 +251,7 @@ module _ {A : Type 0} where
   unfolding any
   any-in p x (y ∷ xs) (Memᴰ.head e) h = true-or-l (any p xs) (ap p (sym e) ∙ h)
   any-in p x (y ∷ xs) (Memᴰ.tail m) h = true-or-r (p y) (any-in p x xs m h)
+  any-in p x [] x3 h = elim x3 [ ]
 
   pub any_found : (p : A → Bool) (xs : List A) → any p xs ≡ true → (x : A) × In x xs × (p x ≡ true)
   unfolding any
@@ -271,6 +274,7 @@ module _ {A : Type 0} where
   unfolding every
   every_in p (y ∷ xs) h x (Memᴰ.head e) = ap p e ∙ (and-true (p y) (every p xs) h).0
   every_in p (y ∷ xs) h x (Memᴰ.tail m) = every_in p xs (and-true (p y) (every p xs) h).1 x m
+  every_in p [] h x x4 = elim x4 [ ]
 
   pub in-every : (p : A → Bool) (xs : List A) → ((x : A) → In x xs → p x ≡ true) → every p xs ≡ true
   unfolding every
@@ -357,6 +361,7 @@ module _ {A : Type 0} where
   pub in-at : (d x : A) (xs : List A) → In x xs → (i : ℕ) × (i < length xs) × (get_or xs i d ≡ x)
   in-at d x (y ∷ xs) (Memᴰ.head e) = (0, omega arith, sym e)
   in-at d x (y ∷ xs) (Memᴰ.tail m) = let r : (i : ℕ) × (i < length xs) × (get_or xs i d ≡ x) = in-at d x xs m in (suc r.0, omega (arith, r.1), r.2)
+  in-at d x [] x'' = elim x'' [ ]
 
   pub at_in : (d : A) (xs : List A) (i : ℕ) → i < length xs → In (get_or xs i d) xs
   at_in d [] i h = absurd (not-suc-le-zero h)
@@ -420,6 +425,7 @@ pub flat_in : {A : Type 0} {x : A} {xs : List A} (xss : List (List A)) → In xs
 unfolding flat
 flat_in {x} (ys ∷ xss) (Memᴰ.head e) m = Memᴰ.append_left (flat xss) (subst (λ zs. In x zs) e m)
 flat_in (ys ∷ xss) (Memᴰ.tail n) m = Memᴰ.append_right ys (flat_in xss n m)
+flat_in {A = A} {x = x} {xs = xs} [] x3 m = elim x3 [ ]
 
 pub in-flat-map : {A B : Type 0} {y : B} (f : A → List B) (xs : List A) → In y (flat (map f xs)) → (x : A) × In x xs × In y (f x)
 unfolding flat
@@ -438,6 +444,7 @@ pub greatest-above : (x : ℕ) (xs : List ℕ) → In x xs → x ≤ greatest xs
 unfolding greatest
 greatest-above x (y ∷ xs) (Memᴰ.head e) = omega arith
 greatest-above x (y ∷ xs) (Memᴰ.tail m) = omega (arith, greatest-above x xs m)
+greatest-above x [] x'' = elim x'' [ ]
 
 pub greatest-least : (b : ℕ) (xs : List ℕ) → ((x : ℕ) → In x xs → x ≤ b) → greatest xs ≤ b
 unfolding greatest

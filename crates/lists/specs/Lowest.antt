@@ -1,7 +1,7 @@
 -- The lowest number that passes a test, as a loop over the numbers finds it: that number, or the bound where none passes.
-use Rattle.std.specs.Prelude.{ℕ, ◌+◌, ◌-◌, ◌<◌, ◌≤◌, ◌≡◌, Bool, true, false}
+use Rattle.std.specs.Prelude.{ℕ, ◌-◌, ◌<◌, ◌≤◌, ◌≡◌, Bool, true}
 use Rattle.std.proofs.Common.{sym, ◌∙◌, subst, arith}
-use Rattle.std.proofs.Math.Option.{Option, none, some}
+use Rattle.std.proofs.Math.Option.{none, some}
 use Rattle.spec.specs.Lists.{from, up_to, first, lowest}
 use Rattle.lists.specs.Search.{first-hit, first-end, first-same}
 

@@ -1,6 +1,6 @@
 -- Counts and sums over the numbers below a bound, with one number more at a time.
-use Rattle.std.specs.Prelude.{ℕ, suc, ◌+◌, ◌≡◌, refl, Bool, List, [], ◌∷◌, ◌++◌, map}
-use Rattle.std.proofs.Common.{sym, ap, ap₂, ◌∙◌, add-one, arith}
+use Rattle.std.specs.Prelude.{ℕ, ◌+◌, ◌≡◌, Bool, [], ◌∷◌, map}
+use Rattle.std.proofs.Common.{add-one, arith}
 use Rattle.std.proofs.lemmas.List.{map-append}
 use Rattle.spec.specs.Lists.{up_to, count, sum, as_count}
 use Rattle.lists.specs.Laws.{up_to-snoc, count-append, count-cons}

@@ -1,4 +1,6 @@
 // Numbers of the machine: narrow ones as those that index and count, and the greater and the lesser of two.
+#![tactic(auto)]
+
 ghost use Rattle.std.specs.Prelude.{◌≡◌, ◌≤◌, ◌<◌, max, min};
 
 // A byte.

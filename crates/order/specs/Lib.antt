@@ -11,7 +11,6 @@ pub mod Index
 pub mod Arrange
 pub mod Exact
 pub mod Extend
-pub mod Swap
 pub mod Scan
 pub mod Table
 pub mod Examples

@@ -14,7 +14,8 @@ use Rattle.spec.specs.Order.{Pair, pairs, Path, single, then, StrictlyBefore, No
 use Rattle.spec.specs.Process.{Process, WellFormed}
 use Rattle.spec.specs.Checking.{related, ordered}
 use Rattle.order.specs.Join.{join}
-use Rattle.order.specs.Closure.{col, step, close, close-bound}
+use Rattle.order.specs.Closure.{col, step, close}
+use Rattle.order.proofs.Closure.{close-bound}
 use Rattle.order.specs.Diamond.{entry}
 use Rattle.lists.specs.Laws
 use Rattle.runs.specs.Sources.{bounded}

@@ -15,7 +15,7 @@ use Rattle.spec.specs.Record.{RunRecord, bench, record_bytes}
 use Rattle.spec.specs.Order.{is_strictly_before, is_not_later}
 use Rattle.spec.specs.Process.{Process, WellFormed}
 use Rattle.spec.specs.Building.{record_for}
-use Rattle.spec.specs.Checking.{accepts, read_record, related, table_at, table_bytes, checked_of, check}
+use Rattle.spec.specs.Checking.{read_record, related, table_at, table_bytes, checked_of, check}
 use Rattle.spec.specs.Arranging.{levels, arranged_lines, arrangement_bytes, arranged_of, arrange}
 use Rattle.spec.specs.Replaying.{row_at, replay_row, fired_by, replayed_of, replay}
 use Rattle.spec.specs.Runs.{EnabledSequence, KeepsOrder, WithinLimits, marking_at, as_steps}

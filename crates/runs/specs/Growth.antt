@@ -1,5 +1,5 @@
 -- Runs only grow: where the record of a run is within the limits, so is that of every run before it.
-use Rattle.std.specs.Prelude.{◌≡◌, refl, Bool, true, false, cond, replicate}
+use Rattle.std.specs.Prelude.{◌≡◌, refl, replicate}
 use Rattle.std.proofs.Math.Path.{ap}
 use Rattle.std.proofs.Common.{◌∙◌, arith}
 use Prim.Native.Nat.{ℕ, suc, ◌+◌, ◌≤◌, zero-le}
@@ -10,7 +10,7 @@ use Rattle.std.proofs.lemmas.List.{length-replicate}
 use Rattle.std.proofs.Math.Seq.{append_snoc}
 use Rattle.spec.specs.Lists.{from, up_to, flat, count, sum, sum_of}
 use Rattle.spec.specs.Net.{Net}
-use Rattle.spec.specs.Record.{Condition, Mark}
+use Rattle.spec.specs.Record.{Condition}
 use Rattle.spec.specs.Building.{Event, no_event, Run, initial_of, start, in_step, take_all, make_all, consumed_by, play_step, play_steps, run_of, marks_due, record_of, record_for}
 use Rattle.spec.specs.declared.Limits.{Limits}
 use Rattle.spec.specs.Runs.{EnabledSequence}

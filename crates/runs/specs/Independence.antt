@@ -3,7 +3,7 @@
 use Rattle.std.specs.Prelude.{◌≡◌, ◌↔◌, ℕ, true, not, List, length, leb}
 use Rattle.std.proofs.Math.Path.{refl}
 use Rattle.std.proofs.Common.{ap, arith, ne_eqb, leb-false}
-use Rattle.std.proofs.Math.Logic.{Ne·symm}
+use Rattle.std.proofs.Math.Logic.{Ne-symm}
 use Rattle.std.proofs.lemmas.Bool.{lt-leb}
 use Rattle.spec.specs.Answer.{◌>>=◌}
 use Rattle.spec.specs.Net.{Net}
@@ -15,8 +15,8 @@ use Rattle.spec.specs.Runs.{TwoEvents, InSome}
 use Rattle.spec.specs.Independence.{FreeToSwap, CountsSwaps, Independence}
 use Rattle.lists.specs.Laws
 use Rattle.order.specs.Order.{Acyclic}
-use Rattle.order.specs.Swap as Swap
-use Rattle.order.specs.Swap.{first-in-some, together-in-some}
+use Rattle.order.proofs.Swap as Swap
+use Rattle.order.proofs.Swap.{first-in-some, together-in-some}
 use Rattle.runs.specs.Values.{pair_at, order_of, order}
 use Rattle.runs.specs.Closure.{ordered-test}
 use Rattle.runs.specs.Levels.{kept, kept_back}
@@ -50,7 +50,7 @@ module _ (N : Net) (R : RunRecord) (W : WellFormed N R) (P : Process N R) where
     -- neither has a value
     apart : (independent R e f ≡ true) ↔ ((c e f ≡ 0) × (c f e ≡ 0))
     unfolding independent
-    apart = rw (ne_eqb e f t.differ, ordered-test N R W e f t.one t.other t.differ, ordered-test N R W f e t.other t.one (Ne·symm t.differ)) (
+    apart = rw (ne_eqb e f t.differ, ordered-test N R W e f t.one t.other t.differ, ordered-test N R W f e t.other t.one (Ne-symm t.differ)) (
       λ h. let z = Laws.and-true (not (leb 1 (c e f))) (not (leb 1 (c f e))) h in ((no_value (c e f)).0 z.0, (no_value (c f e)).0 z.1),
       λ h. Laws.true-and ((no_value (c e f)).1 h.0) ((no_value (c f e)).1 h.1),
     )
@@ -58,7 +58,7 @@ module _ (N : Net) (R : RunRecord) (W : WellFormed N R) (P : Process N R) where
     free : (independent R e f ≡ true) ↔ FreeToSwap R e f
     free =
         let ef = first-in-some (pair_at (pairs R)) n acyclic e f t.one t.other t.differ in
-        let fe = first-in-some (pair_at (pairs R)) n acyclic f e t.other t.one (Ne·symm t.differ) in
+        let fe = first-in-some (pair_at (pairs R)) n acyclic f e t.other t.one (Ne-symm t.differ) in
         let both = together-in-some (pair_at (pairs R)) n acyclic e f t.one t.other in (
           λ h. let z = apart.0 h in record {
             one-first = some-kept.1 (ef.1 z.1);

@@ -3,7 +3,7 @@
 use Rattle.std.specs.Prelude.{◌≡◌, ◌≢◌, ◌↔◌, List, length, get_or}
 use Rattle.std.proofs.Math.Path.{refl, ap}
 use Rattle.std.proofs.Common.{sym, ◌∙◌, le_of_eq, le_trans, arith}
-use Rattle.std.proofs.Math.Logic.{Iff·trans, Iff·symm}
+use Rattle.std.proofs.Math.Logic.Iff
 use Prim.Native.Nat.{ℕ, zero, suc, ◌≤◌, ◌<◌, zero-le}
 use Rattle.std.proofs.Math.Decide.{ℕ_discrete}
 use Rattle.std.proofs.lemmas.List.{length-map}
@@ -18,10 +18,13 @@ use Rattle.spec.specs.Runs.{KeepsOrder}
 use Rattle.spec.specs.Computed.{LevelIsLongest}
 use Rattle.order.specs.Below.{max_below, max-same}
 use Rattle.order.specs.Order.{Order}
-use Rattle.order.specs.Level.{lev, lev-keeps, lev-dense}
-use Rattle.order.specs.Chain.{prolong, chain_f, chain_f-level}
-use Rattle.order.specs.Arrange.{Kept, arrange, arrange-same, levels-kept, levels-shortest}
-use Rattle.order.specs.Exact.{exact-strict, exact-weak}
+use Rattle.order.specs.Level.{lev}
+use Rattle.order.proofs.Level.{lev-keeps, lev-dense}
+use Rattle.order.specs.Chain.{prolong, chain_f}
+use Rattle.order.proofs.Chain.{chain_f-level}
+use Rattle.order.specs.Arrange.{Kept, arrange}
+use Rattle.order.proofs.Arrange.{arrange-same, levels-kept, levels-shortest}
+use Rattle.order.proofs.Exact.{exact-strict, exact-weak}
 use Rattle.lists.specs.Laws
 use Rattle.runs.specs.Values.{order_of, strict-order, weak-order, order}
 use Rattle.runs.specs.Closure.{strict-is, weak-is}
@@ -71,7 +74,7 @@ module _ (N : Net) (R : RunRecord) (W : WellFormed N R) (P : Process N R) where
 
   level-is : (e : ℕ) → e < n → longest R n e ≡ lev n c e
   level-is e l = longest-is n e ∙ chain_f-level n c o (is_strictly_before R) (is_not_later R)
-      (λ g e i j. Iff·trans (strict-is N R W g e) (Iff·symm (strict-order N R W g e i j)))
+      (λ g e i j. Iff.trans (strict-is N R W g e) (Iff.symm (strict-order N R W g e i j)))
       (λ g e i j h. ((weak-order N R W g e i j).1 ((weak-is N R W g e).0 h)).1) e l
 
   pub level-at : (e : ℕ) → e < n → get_or (levels R) e 0 ≡ lev n c e

@@ -2,19 +2,19 @@
 -- condition, and then that condition held when the event's step began.
 use Rattle.std.specs.Prelude.{◌≡◌, ◌⊎◌, ℕ, ◌+◌, ◌*◌, ◌≤◌, ◌<◌, Bool, ◌&&◌, ◌||◌, cond, get_or, ltb}
 use Rattle.std.proofs.Math.Path.{refl, sym, ap, ap₂}
-use Rattle.std.proofs.Common.{◌∙◌, length-append}
+use Rattle.std.proofs.Common.{◌∙◌}
 use Rattle.std.proofs.Math.Logic.{inl, inr}
 use native.Mathlib.Omega.{arith}
 use Rattle.std.proofs.Math.Bool.{true, false, not, and-true, and-false}
 use Rattle.std.proofs.Math.Option.{Option, none, some}
 use mathlib.Core.List.Memᴰ
-use mathlib.Core.List.{List, [], ◌∷◌, ◌++◌, map}
+use mathlib.Core.List.{List, []}
 use Rattle.std.proofs.Math.ListN.{length, get_or-map}
 use Rattle.std.proofs.Math.Dec.{eqb}
-use borrow.Author.Tests.{eq-eqb, ne_eqb, eqb-true, ltb-true, lt-ltb, le-ltb, ltb-false}
-use Rattle.spec.specs.Lists.{In, up_to, lowest, count, sum_of, as_count, flat}
+use borrow.Author.Tests.{eq-eqb, eqb-true, ltb-true, lt-ltb, le-ltb, ltb-false}
+use Rattle.spec.specs.Lists.{In, up_to, count, sum_of, as_count}
 use Rattle.spec.specs.Net.{Net, places, inhibits, reads}
-use Rattle.spec.specs.Record.{RunRecord, Condition, Mark, no_condition, condition_at, transition_of, names, is_none, slot_of, guard_slot, read_slot, is_at, due}
+use Rattle.spec.specs.Record.{Condition, Mark, no_condition, condition_at, transition_of, names, is_none, slot_of, guard_slot, read_slot, is_at, due}
 use Rattle.spec.specs.Process.{read_in}
 use Rattle.spec.specs.Building.{Event, no_event, Run, unmarked, step_of, is_earlier, mark_at, held_in, lowest_held, read_by, read_mark, mark_if, marks_at, marks_of, marks_due, record_of}
 use Rattle.spec.specs.declared.MarkKind.TheVariants.{Before, After, Read}

@@ -1,24 +1,24 @@
 -- The record of a run is well formed and a process, and the step numbers keep its pairs.
-use Rattle.std.specs.Prelude.{◌≡◌, refl, ◌⊎◌, ℕ, ◌+◌, ◌≤◌, ◌<◌, Bool, true, false, not, ◌&&◌, List, get_or}
+use Rattle.std.specs.Prelude.{◌≡◌, refl, ◌⊎◌, ℕ, ◌≤◌, ◌<◌, true, false, not, List}
 use Rattle.std.proofs.Common.{sym, ◌∙◌, arith, ltb-true, lt-ltb}
 use Rattle.std.proofs.Math.Path.{ap}
 use Rattle.std.proofs.Math.Logic.{inl, inr}
 use Rattle.std.proofs.Math.Option.{Option, none, some}
 use mathlib.Core.List.Memᴰ
 use Rattle.std.proofs.Math.ListN.{length, length-map}
-use Rattle.spec.specs.Lists.{In, as_count}
-use Rattle.spec.specs.Net.{Net, takes, makes, inhibits, reads}
+use Rattle.spec.specs.Lists.{In}
+use Rattle.spec.specs.Net.{Net, takes, makes, inhibits}
 use Rattle.spec.specs.Record.{RunRecord, Condition, Mark, no_condition, transition_of, names, is_none, due}
 use Rattle.spec.specs.Order.{Pair, pairs}
 use Rattle.spec.specs.Process.{Process, WellFormed, is_below, wrong_end}
-use Rattle.spec.specs.Building.{Event, no_event, Run, unmarked, step_of, is_earlier, marks_due, record_of}
+use Rattle.spec.specs.Building.{Event, Run, unmarked, step_of, is_earlier, marks_due, record_of}
 use Rattle.spec.specs.declared.MarkKind.{MarkKind}
 use Rattle.spec.specs.declared.MarkKind.TheVariants.{Before, After, Read}
 use Rattle.lists.specs.Laws
 use Rattle.runs.specs.Pairs.{KeepsPairs, no-cycle}
 use Rattle.runs.specs.Sources.{between, each-pair}
 use Rattle.runs.specs.Built.{fired_by, ConsumedBefore, ProducedSince, HeldAt, Sound, Good}
-use Rattle.runs.specs.MarkCounts.{condition_of, fired as fired-run, DueMark, ReadMark, mark_of, read_held, count-guards, count-readings}
+use Rattle.runs.specs.MarkCounts.{condition_of, fired as fired-run, DueMark, mark_of, read_held, count-guards, count-readings}
 
 earlier-is : (es : List Event) (e : ℕ) (o : Option ℕ) → is_earlier es o e ≡ true → (f : ℕ) × (o ≡ some f) × (step_of es f < step_of es e)
 unfolding is_earlier

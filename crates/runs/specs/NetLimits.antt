@@ -47,6 +47,7 @@ sound-below : (n : Net) (ds : List Declaration) → NetLimits n → Sound n ds �
 unfolding declare_all
 sound-below n (d ∷ ds) L S e (Memᴰ.head q) = rw q (allowed-below n d L (S [] ds d refl))
 sound-below n (d ∷ ds) L S e (Memᴰ.tail m) = sound-below (declare n d) ds (declare-keeps n d L (S [] ds d refl)) (sound-tail n d ds S) e m
+sound-below n [] L S e x3 = elim x3 [ ]
 
 pub sound-small : (ds : List Declaration) → Sound empty_net ds → DeclarationsBelow 1000 ds
 sound-small ds S = sound-below empty_net ds no-net S

@@ -1,10 +1,10 @@
 -- A numbering of the events that keeps a record's pairs keeps its closed order, and then no event is strictly before itself.
-use Rattle.std.specs.Prelude.{◌≡◌, refl, ◌↔◌, ◌≢◌, ℕ, ◌≤◌, ◌<◌, Bool, true, false, ◌||◌, List, [], ◌∷◌, length}
-use Rattle.std.proofs.Common.{sym, ap, ◌∙◌, le_of_eq, arith}
+use Rattle.std.specs.Prelude.{◌≡◌, refl, ℕ, ◌≤◌, ◌<◌, Bool, true, false, ◌||◌, List, length}
+use Rattle.std.proofs.Common.{ap, le_of_eq, arith}
 use Rattle.std.proofs.Math.Decide.{ℕ_discrete}
 use Rattle.spec.specs.Lists.{In}
 use Rattle.spec.specs.Record.{RunRecord}
-use Rattle.spec.specs.Order.{Pair, pairs, Path, single, then, StrictlyBefore, NotLater}
+use Rattle.spec.specs.Order.{Pair, pairs, Path, single, then}
 use Rattle.spec.specs.Arrangement.{Arrangement, index}
 use Rattle.spec.specs.Runs.{KeepsOrder}
 use Rattle.lists.specs.Laws.{clash}

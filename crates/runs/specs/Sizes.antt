@@ -9,7 +9,7 @@ use Rattle.std.proofs.Math.ListN.{length-append}
 use Rattle.std.proofs.Math.Seq.{take-length}
 use Rattle.spec.specs.Lists.{In, sum_of, flat}
 use Rattle.spec.specs.Text.{field_bytes, fields_bytes, line_with, most_digits}
-use Rattle.spec.specs.Net.{Net, places}
+use Rattle.spec.specs.Net.{Net}
 use Rattle.spec.specs.Record.{RunRecord, Condition, Mark, bench, event_field, event_line, condition_line, mark_line_of, mark_line, record_bytes}
 use Rattle.spec.specs.Process.{WellFormed, is_below}
 use Rattle.spec.specs.Arrangement.{times, Arrangement}

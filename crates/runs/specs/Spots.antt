@@ -5,9 +5,9 @@ use Rattle.std.proofs.Common.{ap, ◌∙◌, zero-le, le_refl, arith, ltb-true, 
 use Rattle.std.proofs.Math.Option.{some}
 use mathlib.Core.List.Memᴰ
 use Rattle.spec.specs.Lists.{In, every, first}
-use Rattle.spec.specs.Answer.{Answer, gives, refuses, ◌>>=◌, found}
+use Rattle.spec.specs.Answer.{Answer, gives, refuses, ◌>>=◌}
 use Rattle.spec.specs.Text.{Line, lines_of, by_lines, most_digits, number_in, digits, line_with}
-use Rattle.spec.specs.Net.{places, net_of, read_net}
+use Rattle.spec.specs.Net.{net_of, read_net}
 use Rattle.spec.specs.Record.{RunRecord, bench}
 use Rattle.spec.specs.Building.{built, build}
 use Rattle.spec.specs.Checking.{read_record, accepts, check_within, check}
@@ -16,7 +16,7 @@ use Rattle.spec.specs.Replaying.{read_arrangement, replay}
 use Rattle.spec.specs.Energy.{EnergyText, no_energy, capacitor_line, draw_line, energy_line, read_energy, energy}
 use Rattle.spec.specs.LineParts.{refused_line}
 use Rattle.spec.specs.Printing.{input_of, parted, printed, program}
-use Rattle.spec.specs.Refusals.{NumberAndSpots, refusal, net_refusals, log_refusals, record_refusals, arrangement_refusals, figure_refusals, energy_refusals, build_refusals, check_refusals, replay_refusals, arrange_refusals, line_refusals, input_refusals, program_refusals, IsAmong, RefusesOnly, Refusals}
+use Rattle.spec.specs.Refusals.{NumberAndSpots, net_refusals, log_refusals, record_refusals, arrangement_refusals, figure_refusals, energy_refusals, build_refusals, check_refusals, replay_refusals, arrange_refusals, line_refusals, input_refusals, program_refusals, IsAmong, RefusesOnly, Refusals}
 use Rattle.spec.specs.declared.Field.TheVariants.{Number}
 use Rattle.lists.specs.Laws.{there, and-true, every_in}
 use Rattle.runs.specs.Digits.{number-back}

@@ -12,10 +12,13 @@ use Rattle.spec.specs.Net.{Net}
 use Rattle.spec.specs.Record.{RunRecord}
 use Rattle.spec.specs.Order.{Pair, pairs, Path, single, then, StrictlyBefore, NotLater, is_pair}
 use Rattle.spec.specs.Process.{Process, WellFormed}
-use Rattle.order.specs.Closure.{close, close-least, close-trans}
+use Rattle.order.specs.Closure.{close}
+use Rattle.order.proofs.Closure.{close-least, close-trans}
 use Rattle.order.specs.Paths
-use Rattle.order.specs.Order.{Order, closed}
-use Rattle.order.specs.Paths.{one, more, sound}
+use Rattle.order.specs.Order.{Order}
+use Rattle.order.proofs.Order.{closed}
+use Rattle.order.specs.Paths.{one, more}
+use Rattle.order.proofs.Paths.{sound}
 use Rattle.lists.specs.Laws
 use Rattle.runs.specs.Pairs.{Bounded}
 use Rattle.runs.specs.Sources.{bounded}

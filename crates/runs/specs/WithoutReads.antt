@@ -13,7 +13,7 @@ use Rattle.spec.specs.Answer.{Answer, gives, ◌>>=◌, ◌>>◌, refuse◌at◌
 use Rattle.spec.specs.Classes.{alike}
 use Rattle.spec.specs.Text.{Line, named, in_digits, class_of, is_a, lines_of, by_lines}
 use Rattle.spec.specs.Forms.{number, number_or_dash, is_line, number_at}
-use Rattle.spec.specs.Net.{Net, places, reads, read_net}
+use Rattle.spec.specs.Net.{Net, places, read_net}
 use Rattle.spec.specs.Record.{RunRecord, Mark, bench, transition_of, slot_of, guard_slot, is_at, marked}
 use Rattle.spec.specs.Process.{read_in}
 use Rattle.spec.specs.Building.{build}

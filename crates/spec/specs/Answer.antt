@@ -1,5 +1,5 @@
 -- What an operation answers (01, "Refusals by operation").
-use Rattle.std.specs.Prelude.{ℕ, Bool, true, false, cond}
+use Rattle.std.specs.Prelude.{ℕ, Bool, cond}
 use Rattle.std.proofs.Math.Option.{Option, none, some}
 
 -- "A refusal returns number and spot": a value, or a refusal's number and its spot

@@ -1,5 +1,5 @@
 -- Arrangements of n events as lists of lines (01, "Checking, replaying, arranging"); they know no record.
-use Rattle.std.specs.Prelude.{◌≡◌, ℕ, zero, suc, ◌≤◌, ◌<◌, Bool, cond, List, [], ◌∷◌, length, get_or, eqb}
+use Rattle.std.specs.Prelude.{◌≡◌, ℕ, suc, ◌≤◌, ◌<◌, cond, List, [], ◌∷◌, length, get_or, eqb}
 use Rattle.spec.specs.Lists.{count, flat, is_in}
 
 -- how often event e stands in the lines

@@ -1,11 +1,11 @@
 -- Arranging a record: the lines and their bytes (01, "arranging"; refusal 50).
-use Rattle.std.specs.Prelude.{◌≡◌, ℕ, zero, suc, ◌+◌, ◌≤◌, ◌<◌, Bool, true, cond, List, [], ◌∷◌, map, length, get_or, eqb, ltb}
+use Rattle.std.specs.Prelude.{ℕ, zero, suc, ◌<◌, cond, List, map, length, get_or, eqb, ltb}
 use Rattle.spec.specs.Lists.{up_to, keep, greatest, flat}
-use Rattle.spec.specs.Answer.{Answer, gives, refuses, ◌>>=◌, ◌>>◌, refuse◌at◌when◌}
+use Rattle.spec.specs.Answer.{Answer, gives, ◌>>=◌, ◌>>◌, refuse◌at◌when◌}
 use Rattle.spec.specs.Text.{line_with}
 use Rattle.spec.specs.Record.{RunRecord, bench}
 use Rattle.spec.specs.Order.{StrictlyBefore, NotLater, is_strictly_before, is_not_later}
-use Rattle.spec.specs.Checking.{Accepted, accepts}
+use Rattle.spec.specs.Checking.{accepts}
 use Rattle.spec.specs.declared.Field.TheVariants.{Number}
 
 -- ---- "Arrange puts each event on the line whose index from 0 is the length, in strict pairs, of the longest chain

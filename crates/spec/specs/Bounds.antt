@@ -1,17 +1,17 @@
 -- The limits and sizes of document 01 at their boundaries, computed: what is just within passes, and one more is
 -- refused.
 use Rattle.std.specs.Prelude.{◌≡◌, refl, ℕ, Bool, true, ◌&&◌, List, [], ◌∷◌, ◌++◌, replicate, eqb}
-use Rattle.std.proofs.Math.Option.{Option, none, some}
+use Rattle.std.proofs.Math.Option.{none, some}
 use Rattle.spec.specs.Lists.{flat}
 use Rattle.spec.specs.Answer.{Answer, ◌>>=◌}
 use Rattle.spec.specs.Text.{line_with}
-use Rattle.spec.specs.Net.{Net, places, read_net}
-use Rattle.spec.specs.Record.{RunRecord, Condition, Mark, bench, no_condition}
-use Rattle.spec.specs.Building.{Run, Event, log_line, build}
+use Rattle.spec.specs.Net.{places, read_net}
+use Rattle.spec.specs.Record.{RunRecord, Condition, bench, no_condition}
+use Rattle.spec.specs.Building.{Run, log_line, build}
 use Rattle.spec.specs.Checking.{enter_line, check_within, check}
 use Rattle.spec.specs.Arranging.{arrange}
 use Rattle.spec.specs.Replaying.{replay}
-use Rattle.spec.specs.Printing.{NetAndLog, input_of, program}
+use Rattle.spec.specs.Printing.{input_of, program}
 use Rattle.spec.specs.Quoted.{as_text, ascii, same, refused, given, passes, at_most}
 use Rattle.spec.specs.Cases.{drive, record_b, open_all}
 use Rattle.spec.specs.RefusalOrder.{build_within}

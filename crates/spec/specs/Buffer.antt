@@ -1,5 +1,5 @@
 -- What an operation leaves in a lent buffer (01, "Refusals by operation").
-use Rattle.std.specs.Prelude.{ℕ, List, [], ◌∷◌, ◌++◌, length, drop}
+use Rattle.std.specs.Prelude.{ℕ, List, ◌++◌, length, drop}
 use Rattle.spec.specs.Answer.{Answer, gives, refuses}
 use Rattle.spec.specs.Checking.{Checked}
 use Rattle.spec.specs.Arranging.{Arranged}

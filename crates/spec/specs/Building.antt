@@ -1,8 +1,8 @@
 -- Building a run record from a step log (01, "Steps", "Building"; 02, 2026-01; refusals 20 to 27).
-use Rattle.std.specs.Prelude.{ℕ, zero, suc, ◌+◌, Bool, true, false, not, ◌&&◌, ◌||◌, cond, List, [], ◌∷◌, ◌++◌, map, length, get_or, replicate, eqb, ltb, leb}
+use Rattle.std.specs.Prelude.{ℕ, suc, ◌+◌, Bool, false, not, ◌&&◌, ◌||◌, cond, List, [], ◌∷◌, ◌++◌, map, length, get_or, replicate, eqb, ltb, leb}
 use Rattle.std.proofs.Math.Option.{Option, none, some}
 use Rattle.spec.specs.Lists.{any, up_to, lowest, flat}
-use Rattle.spec.specs.Answer.{Answer, gives, refuses, ◌>>=◌, ◌>>◌, refuse◌at◌when◌}
+use Rattle.spec.specs.Answer.{Answer, gives, ◌>>=◌, ◌>>◌, refuse◌at◌when◌}
 use Rattle.spec.specs.Text.{Line, lines_of, by_lines}
 use Rattle.spec.specs.Forms.{is_list_line, numbers_of}
 use Rattle.spec.specs.Net.{Net, places, takes, makes, reads, read_net}

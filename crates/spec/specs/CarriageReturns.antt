@@ -1,14 +1,14 @@
 -- Request 2026-02, computed: each case fails under a reading of the request that the others would let pass.
-use Rattle.std.specs.Prelude.{◌≡◌, refl, ℕ, Bool, true, ◌&&◌, cond, List, [], ◌∷◌, ◌++◌, map, eqb}
+use Rattle.std.specs.Prelude.{◌≡◌, refl, ℕ, Bool, true, ◌&&◌, cond, List, [], ◌++◌, map, eqb}
 use Prim.Native.Char.{code}
 use Rattle.spec.specs.Classes.{class_code}
 use Rattle.spec.specs.Text.{class_of, digit_of}
-use Rattle.spec.specs.Net.{Net, places, read_net}
+use Rattle.spec.specs.Net.{places, read_net}
 use Rattle.spec.specs.Building.{build}
 use Rattle.spec.specs.Checking.{check}
 use Rattle.spec.specs.Arranging.{arrange}
 use Rattle.spec.specs.Replaying.{replay}
-use Rattle.spec.specs.LineParts.{Part, refused_line}
+use Rattle.spec.specs.LineParts.{refused_line}
 use Rattle.spec.specs.Printing.{program}
 use Rattle.spec.specs.Endings.{plain_ends}
 use Rattle.spec.specs.Quoted.{ascii, same, refused, given, passes}

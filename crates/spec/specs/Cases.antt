@@ -2,8 +2,8 @@
 use Rattle.std.specs.Prelude.{◌≡◌, refl, ℕ, ◌+◌, ◌*◌, Bool, true, ◌&&◌, List, [], ◌∷◌, ◌++◌, eqb}
 use Rattle.spec.specs.Building.{build}
 use Rattle.spec.specs.Checking.{Checked, check}
-use Rattle.spec.specs.Arranging.{Arranged, arrange}
-use Rattle.spec.specs.Replaying.{Replayed, replay}
+use Rattle.spec.specs.Arranging.{arrange}
+use Rattle.spec.specs.Replaying.{replay}
 use Rattle.spec.specs.Printing.{program}
 use Rattle.spec.specs.Opening.{open_definitions}
 use Rattle.spec.specs.Quoted.{as_text, same, refused, given, zeros_but}

@@ -1,6 +1,6 @@
 -- Reading and checking a run record, and the table that the check writes (01, "Record", "Checking"; 02,
 -- 2026-01; refusals 30 to 39).
-use Rattle.std.specs.Prelude.{ℕ, zero, suc, ◌+◌, Bool, true, false, not, ◌&&◌, ◌||◌, cond, List, [], ◌∷◌, ◌++◌, map, length, eqb, ltb, leb}
+use Rattle.std.specs.Prelude.{ℕ, Bool, true, false, not, ◌&&◌, ◌||◌, cond, List, [], ◌∷◌, ◌++◌, map, length, eqb, ltb, leb}
 use Rattle.std.proofs.Math.Option.{Option}
 use Rattle.spec.specs.Lists.{any, count, up_to, lowest, sum, flat, as_count}
 use Rattle.spec.specs.Answer.{Answer, gives, refuses, ◌>>=◌, ◌>>◌, refuse◌at◌when◌, refuse◌at?◌}

@@ -1,5 +1,5 @@
 -- That what is computed is what the papers say. The statements are types here; the crate `runs` has a proof of each.
-use Rattle.std.specs.Prelude.{◌≡◌, ◌↔◌, ℕ, ◌≤◌, ◌<◌, Bool, true, false, List, length, get_or}
+use Rattle.std.specs.Prelude.{◌≡◌, ◌↔◌, ℕ, ◌≤◌, ◌<◌, true, false, List, length, get_or}
 use Rattle.spec.specs.Net.{Net}
 use Rattle.spec.specs.Step.{EnabledAt, short, inhibited}
 use Rattle.spec.specs.Record.{RunRecord}

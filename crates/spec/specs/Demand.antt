@@ -1,14 +1,14 @@
 -- The third demand: its parts, and all of them as one record. They are types here; the crate `runs` has the proof.
-use Rattle.std.specs.Prelude.{◌≡◌, ◌↔◌, ◌⊎◌, ℕ, ◌+◌, ◌*◌, ◌≤◌, ◌<◌, List, [], length, get_or}
-use Rattle.spec.specs.Answer.{Answer, gives, refuses}
+use Rattle.std.specs.Prelude.{◌≡◌, ◌↔◌, ◌⊎◌, ℕ, ◌+◌, ◌*◌, ◌≤◌, ◌<◌, List, length, get_or}
+use Rattle.spec.specs.Answer.{gives}
 use Rattle.spec.specs.Net.{Net, read_net}
 use Rattle.spec.specs.Step.{tokens_at}
 use Rattle.spec.specs.Record.{RunRecord, bench}
 use Rattle.spec.specs.Order.{StrictlyBefore, NotLater}
 use Rattle.spec.specs.Building.{build}
 use Rattle.spec.specs.Checking.{Checked, read_record, check}
-use Rattle.spec.specs.Arranging.{Arranged, arrange, arrangement_bytes}
-use Rattle.spec.specs.Replaying.{Replayed, replay}
+use Rattle.spec.specs.Arranging.{arrange, arrangement_bytes}
+use Rattle.spec.specs.Replaying.{replay}
 use Rattle.spec.specs.Runs.{EnabledSequence, KeepsOrder, WithinLimits, marking_at, as_steps, event_lines, log_bytes}
 use Rattle.spec.specs.Runs.{TwoEvents, StandsEarlier, InEvery, InNone}
 

@@ -8,7 +8,7 @@ use Rattle.spec.specs.Text.{Line, lines_of, is_number, number_in, by_lines}
 use Rattle.spec.specs.Forms.{has_letter, fields_of, or_zero}
 use Rattle.spec.specs.Net.{Net}
 use Rattle.spec.specs.Record.{RunRecord, bench}
-use Rattle.spec.specs.Checking.{Accepted, accepts}
+use Rattle.spec.specs.Checking.{accepts}
 use Rattle.spec.specs.Rounding.{nearest, float_of, nearest_difference}
 use Rattle.spec.specs.declared.Energies.{Energies}
 use Rattle.spec.specs.declared.EnergyNumbers.{EnergyNumbers}

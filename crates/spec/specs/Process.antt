@@ -1,6 +1,6 @@
 -- What a process is (01, "Record"; 02, 2026-01; 004, definition 2; 000, section 5), and when the numbers of a record name
 -- something.
-use Rattle.std.specs.Prelude.{◌≡◌, ◌≢◌, ℕ, ◌<◌, Bool, true, false, not, ◌&&◌, List, [], ◌∷◌, length, eqb, ltb}
+use Rattle.std.specs.Prelude.{◌≡◌, ℕ, ◌<◌, Bool, true, false, ◌&&◌, length, eqb, ltb}
 use Rattle.std.proofs.Math.Option.{Option, none, some}
 use Rattle.spec.specs.Lists.{In, count, as_count}
 use Rattle.spec.specs.Net.{Net, places, takes, makes, reads}

@@ -1,6 +1,6 @@
 -- Texts as document 01 quotes them, and tests of answers, for the cases that compute.
-use Rattle.std.specs.Prelude.{ℕ, ◌+◌, ◌*◌, Bool, true, false, ◌&&◌, cond, List, [], ◌∷◌, ◌++◌, map, set, replicate, eqb}
-use Prim.Native.Char.{Char, code}
+use Rattle.std.specs.Prelude.{ℕ, Bool, true, false, ◌&&◌, cond, List, [], ◌∷◌, ◌++◌, map, set, replicate, eqb}
+use Prim.Native.Char.{code}
 use Prim.Native.String.{String, [] as end_of_text, ◌∷◌ as ◌then◌}
 use Rattle.spec.specs.Answer.{Answer, gives, refuses}
 use Rattle.spec.specs.declared.Limits.{Limits}

@@ -1,8 +1,8 @@
 -- Request 2026-01, computed: each case fails under a reading of the request that the others would let pass.
 use Rattle.std.specs.Prelude.{◌≡◌, refl, ℕ, ◌+◌, ◌*◌, Bool, true, ◌&&◌, List, [], ◌∷◌, ◌++◌, take, eqb}
-use Rattle.spec.specs.Net.{Net, places, read_net}
+use Rattle.spec.specs.Net.{places, read_net}
 use Rattle.spec.specs.Building.{build}
-use Rattle.spec.specs.Checking.{Checked, check_within, check}
+use Rattle.spec.specs.Checking.{check_within, check}
 use Rattle.spec.specs.Replaying.{replay}
 use Rattle.spec.specs.Printing.{program}
 use Rattle.spec.specs.Quoted.{as_text, unended, same, refused, given, passes, at_most, zeros_but}

@@ -1,14 +1,14 @@
 -- Replaying an arrangement (01, "replaying"; refusals 40 to 45).
-use Rattle.std.specs.Prelude.{ℕ, zero, suc, ◌+◌, ◌-◌, Bool, true, false, not, ◌&&◌, ◌||◌, cond, List, [], ◌∷◌, ◌++◌, map, length, replicate, take, ltb, leb}
+use Rattle.std.specs.Prelude.{ℕ, ◌+◌, ◌-◌, Bool, false, not, ◌&&◌, ◌||◌, cond, List, [], ◌∷◌, ◌++◌, map, length, replicate, take, ltb, leb}
 use Rattle.spec.specs.Lists.{any, up_to, lowest, flat, is_in}
-use Rattle.spec.specs.Answer.{Answer, gives, refuses, ◌>>=◌, ◌>>◌, refuse◌at◌when◌, refuse◌at?◌}
+use Rattle.spec.specs.Answer.{Answer, gives, ◌>>=◌, ◌>>◌, refuse◌at◌when◌, refuse◌at?◌}
 use Rattle.spec.specs.Text.{Line, lines_of, by_lines}
 use Rattle.spec.specs.Forms.{is_list_line, numbers_of}
 use Rattle.spec.specs.Net.{Net, places}
 use Rattle.spec.specs.Step.{tokens_at, taken, made}
 use Rattle.spec.specs.Record.{RunRecord, bench, transition_of}
 use Rattle.spec.specs.Order.{is_strictly_before, is_not_later}
-use Rattle.spec.specs.Checking.{Accepted, accepts}
+use Rattle.spec.specs.Checking.{accepts}
 
 -- ---- "per line 41 malformed, 42 unknown event, 43 event repeated, 44 order broken (spot: line); then 45 event
 -- missing (lowest)."

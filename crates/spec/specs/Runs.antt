@@ -1,6 +1,6 @@
 -- Enabled step sequences, and arrangements that keep a record's order (01, the paragraph on the third demand; 004,
 -- section 3).
-use Rattle.std.specs.Prelude.{◌≡◌, ◌≢◌, ℕ, zero, suc, ◌+◌, ◌≤◌, ◌<◌, Bool, true, List, [], ◌∷◌, map, length, get_or, take}
+use Rattle.std.specs.Prelude.{◌≢◌, ℕ, ◌+◌, ◌≤◌, ◌<◌, List, [], ◌∷◌, map, length, get_or, take}
 use Rattle.spec.specs.Lists.{In, from, flat}
 use Rattle.spec.specs.Text.{line_with}
 use Rattle.spec.specs.Net.{Net}

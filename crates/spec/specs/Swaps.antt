@@ -1,7 +1,7 @@
 -- Request 2026-04, computed: each case fails under a reading of the request that the others would let pass. Cases b and f
 -- of document 01 stand in `Cases`.
 use Rattle.std.specs.Prelude.{◌≡◌, refl, ℕ, Bool, true, ◌&&◌, List, ◌++◌, eqb}
-use Rattle.spec.specs.Checking.{Checked, check}
+use Rattle.spec.specs.Checking.{check}
 use Rattle.spec.specs.Printing.{program}
 use Rattle.spec.specs.Quoted.{as_text, same, given}
 use Rattle.spec.specs.Cases.{drive, open_all}

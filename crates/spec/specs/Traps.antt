@@ -4,12 +4,12 @@ use Rattle.std.specs.Prelude.{◌≡◌, refl, ℕ, ◌+◌, ◌*◌, Bool, true
 use Rattle.spec.specs.Lists.{up_to, count}
 use Rattle.spec.specs.Classes.{class_code}
 use Rattle.spec.specs.Text.{class_of, digit_of, is_a, line_with}
-use Rattle.spec.specs.Net.{Net, places, read_net}
+use Rattle.spec.specs.Net.{places, read_net}
 use Rattle.spec.specs.Building.{build}
-use Rattle.spec.specs.Checking.{Checked, check}
-use Rattle.spec.specs.Arranging.{Arranged, arrange}
-use Rattle.spec.specs.Replaying.{Replayed, replay}
-use Rattle.spec.specs.LineParts.{Part, refused_line, part_of}
+use Rattle.spec.specs.Checking.{check}
+use Rattle.spec.specs.Arranging.{arrange}
+use Rattle.spec.specs.Replaying.{replay}
+use Rattle.spec.specs.LineParts.{refused_line, part_of}
 use Rattle.spec.specs.Printing.{program}
 use Rattle.spec.specs.Buffer.{build_leaves, check_leaves, replay_leaves, arrange_leaves}
 use Rattle.spec.specs.Values.{net_returns, build_returns, check_returns, replay_returns, arrange_returns, line_returns, program_returns}

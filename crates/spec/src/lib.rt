@@ -1,7 +1,8 @@
 // The values that the definitions and the code share. There is nothing to run here.
+#![tactic(auto)]
 
 // What a byte is: a digit, a comma, a dash, a line end, a letter in use, a carriage return or foreign.
-#[derive(Drop)]
+#[derive(Clone, Copy)]
 pub enum Class {
     Digit,
     Comma,
@@ -27,21 +28,21 @@ pub enum Class {
 }
 
 // A byte's class, and its value as a digit: 0 where it is none.
-#[derive(Drop)]
+#[derive(Clone, Copy)]
 pub struct ByteClass {
     pub class: Class,
     pub digit: u8,
 }
 
 // A field of a line, as it is written.
-#[derive(Drop)]
+#[derive(Clone, Copy)]
 pub enum Field {
     Number(usize),
     Dash,
 }
 
 // The kinds of arcs: `I`, `O`, `H` and `R`.
-#[derive(Drop)]
+#[derive(Clone, Copy)]
 pub enum ArcKind {
     Input,
     Output,
@@ -50,7 +51,7 @@ pub enum ArcKind {
 }
 
 // The kinds of marks: `B`, `A` and `R`.
-#[derive(Drop)]
+#[derive(Clone, Copy)]
 pub enum MarkKind {
     Before,
     After,
@@ -58,7 +59,7 @@ pub enum MarkKind {
 }
 
 // The greatest numbers of events, conditions and marks of a record.
-#[derive(Drop)]
+#[derive(Clone, Copy)]
 pub struct Limits {
     pub events: usize,
     pub conditions: usize,
@@ -68,7 +69,7 @@ pub struct Limits {
 // What a call returns: the number and the spot of a refusal, 0 where it is accepted, and the operation's values, 0 where it is
 // refused.
 #[repr(C)]
-#[derive(Drop)]
+#[derive(Clone, Copy)]
 pub struct Numbers {
     pub number: u64,
     pub spot: u64,
@@ -78,7 +79,7 @@ pub struct Numbers {
 }
 
 // The three energies, in µJ: what the capacitor can give, what the events draw, and what is left.
-#[derive(Drop)]
+#[derive(Clone, Copy)]
 pub struct Energies {
     pub usable: f64,
     pub draw: f64,
@@ -88,7 +89,7 @@ pub struct Energies {
 // What a call for energies returns: the number and the spot of a refusal, 0 where it is accepted, and the three energies in
 // µJ, 0 where it is refused.
 #[repr(C)]
-#[derive(Drop)]
+#[derive(Clone, Copy)]
 pub struct EnergyNumbers {
     pub number: u64,
     pub spot: u64,

@@ -13,10 +13,11 @@ use Rattle.std.specs.Float.Ieee.Exact.{HasValue}
 use Rattle.std.specs.Float.Ieee.Scale.{finite, grid, grid_scale, round_same, normal_of_fraction}
 use Rattle.std.specs.Float.Ieee.Positive.{num, den, den_pos}
 use Rattle.spec.specs.Rounding.{nearest, float_of, negative, apart, gap, Rounded}
-use Rattle.rounding.specs.Correct.{beq-refl, beq-eq, factor, parts, eq_of, rounded, round-value}
-use Rattle.rounding.specs.Unique.{rounds-to, at-most-twice}
-use Rattle.rounding.specs.Operations.{div_is}
-use Rattle.rounding.specs.Whole.{exact, divided, halved, half-divided}
+use Rattle.rounding.proofs.Correct.{beq-refl, beq-eq, factor, parts, eq_of, rounded, round-value}
+use Rattle.rounding.proofs.Unique.{rounds-to, at-most-twice}
+use Rattle.rounding.proofs.Operations.{div_is}
+use Rattle.rounding.specs.Whole.{exact}
+use Rattle.rounding.proofs.Whole.{divided, halved, half-divided}
 
 module _ (f : Format) (s : Bool) (a c : ℕ) (x : Float) (C : 0 < c) (A : a < 2 ^ emax f * c) (h : T (fits f x)) (v : HasValue x s a c) where
   size_is : num x * c ≡ a * den x

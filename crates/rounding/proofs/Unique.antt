@@ -11,7 +11,7 @@ use Rattle.std.specs.Float.Ieee.Nearest.{div_same}
 use Rattle.std.specs.Float.Ieee.Scale.{finite}
 use Rattle.std.specs.Float.Ieee.Positive.{num, den}
 use Rattle.spec.specs.Rounding.{negative, apart, gap, Rounded}
-use Rattle.rounding.specs.Correct.{not-both, rounded}
+use Rattle.rounding.proofs.Correct.{not-both, rounded}
 
 -- two values of one sign that are == have one bit pattern
 pattern : (f : Format) (x y : Float) → T (finite x) → T (finite y) → negative x ≡ negative y → T (eq x y) → to_bits f x ≡ to_bits f y

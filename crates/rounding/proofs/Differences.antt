@@ -11,8 +11,8 @@ use Rattle.std.specs.Float.Ieee.{binary64, low, round, fits}
 use Rattle.std.specs.Float.Ieee.Scale.{finite}
 use Rattle.std.specs.Float.Ieee.Positive.{num, den, den_pos, first_pos}
 use Rattle.spec.specs.Rounding.{nearest_difference, negative, Rounded}
-use Rattle.rounding.specs.Operations.{sub-mul}
-use Rattle.rounding.specs.Correct.{units_of, rounded, not-zero}
+use Rattle.rounding.proofs.Operations.{sub-mul}
+use Rattle.rounding.proofs.Correct.{units_of, rounded, not-zero}
 
 -- ---- a / c - b / c
 

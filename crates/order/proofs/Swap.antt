@@ -8,10 +8,11 @@ use Rattle.spec.specs.Lists.{In}
 use Rattle.spec.specs.Arrangement.{index}
 use Rattle.lists.specs.Laws.{here, there, all_cons}
 use Rattle.order.specs.Closure.{close}
-use Rattle.order.specs.Order.{Acyclic, keeps-closed}
+use Rattle.order.specs.Order.{Acyclic}
+use Rattle.order.proofs.Order.{keeps-closed}
 use Rattle.order.specs.Arrange.{Kept}
 use Rattle.order.specs.Exact.{NoneBefore, of_one}
-use Rattle.order.specs.Extend.{extension, one-within, strict-added, pair-in, step-within, step_added}
+use Rattle.order.proofs.Extend.{extension, one-within, strict-added, pair-in, step-within, step_added}
 
 module _ (pair : ℕ → ℕ → ℕ) (n : ℕ) (h : Acyclic pair n) where
   abbrev c : ℕ → ℕ → ℕ

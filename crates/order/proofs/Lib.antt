@@ -1,0 +1,11 @@
+pub mod Closure
+pub mod Paths
+pub mod Order
+pub mod Diamond
+pub mod Level
+pub mod Chain
+pub mod Arrange
+pub mod Exact
+pub mod Extend
+pub mod Swap
+pub mod Scan
