@@ -1,4 +1,6 @@
 // What each byte of a text is, by a table of 256 entries.
+#![tactic(auto)]
+
 ghost use Rattle.std.specs.Prelude.{◌≡◌, ◌+◌, ◌≤◌, length, drop};
 ghost use Rattle.spec.specs.Classes.{class_code, alike};
 ghost use Rattle.byte_entries.specs.Entries.{entry_of, class_by, is_entry, before_first};

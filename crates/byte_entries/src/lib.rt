@@ -1,4 +1,5 @@
 // The numbers by which the table of bytes tells classes.
+#![tactic(auto)]
 
 // What the table has for a byte that is no digit: a number for its class. A digit's entry is its value.
 pub const COMMA: u8 = 10;

@@ -1,4 +1,6 @@
 // Bytes cleared, and a chunk of them copied or counted.
+#![tactic(auto)]
+
 ghost use Rattle.std.specs.Prelude.{◌≡◌, ℕ, ◌+◌, ◌<◌, ◌≤◌, length, get_or, take, drop};
 ghost use Rattle.spec.specs.Lists.{as_count};
 ghost use Rattle.lists.specs.Mapped.{Mapped};

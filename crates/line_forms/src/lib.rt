@@ -1,4 +1,6 @@
 // Lines of a fixed form, as rows: a letter, and so many numbers or dashes.
+#![tactic(auto)]
+
 ghost use Rattle.std.specs.Prelude.{◌≡◌};
 ghost use Rattle.line_forms.specs.Rows.{a_number, a_number_or_dash, absent, value_of, is_alone, is_one, is_two, is_triple, is_three};
 
@@ -6,7 +8,7 @@ use byte_classes::alike;
 use spec::Class;
 
 // What stands in a field of a line. Wrong is neither a number nor a dash; Absent stands beyond the last field.
-#[derive(Drop)]
+#[derive(Clone, Copy)]
 pub enum Slot {
     Number(usize),
     Dash,
@@ -15,7 +17,7 @@ pub enum Slot {
 }
 
 // A line's letter and its first four fields; no line of a fixed form has more than three.
-#[derive(Drop)]
+#[derive(Clone, Copy)]
 pub struct Row {
     pub letter: Class,
     pub first: Slot,

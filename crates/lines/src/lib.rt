@@ -1,4 +1,6 @@
 // The lines of a text, one after the other.
+#![tactic(auto)]
+
 ghost use Rattle.std.specs.Prelude.{◌≡◌, ◌+◌, ◌<◌, ◌≤◌, max, length};
 ghost use Rattle.spec.specs.declared.Class.TheVariants.{Return};
 ghost use Rattle.byte_entries.specs.Entries.{code_of};
@@ -9,7 +11,7 @@ use byte_classes::{byte_table, end_of, entry_of};
 use byte_entries::{COMMA, FOREIGN, LINE_END, RETURN};
 
 // A line of a text: it ends before `end`, and the next one starts at `next`.
-#[derive(Drop)]
+#[derive(Clone, Copy)]
 pub struct Span {
     pub end: usize,
     pub next: usize,
@@ -21,7 +23,7 @@ pub struct Span {
 // It belongs to one text and moves forward only. The borrow checker covers no function over a struct that holds a
 // reference, so `reader_at`, `line_end` and `moved` are thin and proved by hand, and so is `raw_line_at` right above them;
 // `find_end`, `later` and `span_of` do the work, on a slice and numbers.
-#[derive(Drop)]
+#[derive(Clone, Copy)]
 pub struct Reader<'a> {
     pub text: &'a [u8],
     pub at: usize,
@@ -148,7 +150,7 @@ pub fn ended_to(table: &[u8; 256], s: &[u8]) -> usize
 }
 
 // The number of a line, where it starts, and how far the text is made of ended lines.
-#[derive(Drop)]
+#[derive(Clone, Copy)]
 pub struct Cursor {
     pub line: usize,
     pub at: usize,
@@ -156,7 +158,7 @@ pub struct Cursor {
 }
 
 // The entries of the first two bytes of a line.
-#[derive(Drop)]
+#[derive(Clone, Copy)]
 pub struct Opening {
     pub letter: u8,
     pub behind: u8,

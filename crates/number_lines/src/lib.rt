@@ -1,4 +1,6 @@
 // Lines of one letter and one number or more, as those of a log and of an arrangement are: judged, counted and read.
+#![tactic(auto)]
+
 ghost use Rattle.std.specs.Prelude.{◌≡◌, ◌&&◌, ◌+◌, ◌≤◌, leb, length};
 ghost use Rattle.spec.specs.Lists.{any};
 ghost use Rattle.spec.specs.Text.{most_digits};
@@ -90,7 +92,7 @@ pub fn numbers(table: &[u8; 256], l: &[u8]) -> [u8; NUMBERS]
 }
 
 // A list line in one walk: how many numbers it has, the greatest of them, and where the next line starts.
-#[derive(Drop)]
+#[derive(Clone, Copy)]
 pub struct Listed {
     pub count: usize,
     pub high: usize,

@@ -1,5 +1,7 @@
 // Plain lines, read in one walk of the text: a letter, then numbers or dashes, and the ending, byte 10 or 13 and 10. A
 // line that is not of the form asked for is left where it stands, for the readers of `lines` and `fields`.
+#![tactic(auto)]
+
 ghost use Rattle.std.specs.Prelude.{◌≡◌, ◌≤◌};
 ghost use Rattle.byte_classes.specs.Table.{byte_table};
 ghost use Rattle.lines.specs.Lines.{Ahead};
@@ -13,7 +15,7 @@ use lines::past_ending;
 
 // A number or a dash, where it ends, and the entry of the byte that stands there; that of a foreign byte where there is
 // neither.
-#[derive(Drop)]
+#[derive(Clone, Copy)]
 pub struct FieldFrom {
     pub field: Slot,
     pub end: usize,
@@ -56,7 +58,7 @@ pub fn alone_at(table: &[u8; 256], s: &[u8], at: usize, behind: u8) -> usize
 
 // The number of a line with a letter and a number, and where the next line starts; below the same for other forms. A
 // line of another form leaves `next` at the position.
-#[derive(Drop)]
+#[derive(Clone, Copy)]
 pub struct One {
     pub a: usize,
     pub next: usize,
@@ -74,7 +76,7 @@ pub fn one_at(table: &[u8; 256], most: usize, s: &[u8], at: usize) -> One
     One { a: x.value, next }
 }
 
-#[derive(Drop)]
+#[derive(Clone, Copy)]
 pub struct Two {
     pub a: usize,
     pub b: usize,
@@ -106,7 +108,7 @@ pub fn two_at(table: &[u8; 256], most: usize, s: &[u8], at: usize) -> Two
     }
 }
 
-#[derive(Drop)]
+#[derive(Clone, Copy)]
 pub struct Three {
     pub a: usize,
     pub b: Slot,

@@ -1,4 +1,6 @@
 // The refused line: the part of the net text or the second text that a line number names.
+#![tactic(auto)]
+
 ghost use Rattle.std.specs.Prelude.{◌≡◌, ◌<◌};
 ghost use Rattle.spec.specs.Answer.{returned};
 ghost use Rattle.spec.specs.LineParts.{refused_line, part_of};
@@ -11,21 +13,21 @@ use byte_slices::{CHUNK, count_at};
 use lines::line_at;
 
 // From where to where a line goes in its text, without its end.
-#[derive(Drop)]
+#[derive(Clone, Copy)]
 pub enum Found {
     At(usize, usize),
     Nothing,
 }
 
 // The answer: where the line starts in the chosen text and how long it is, or that there is no such line.
-#[derive(Drop)]
+#[derive(Clone, Copy)]
 pub enum LineAnswer {
     Shown(usize, usize),
     NoSuchLine(usize),
 }
 
 // A position, and how many line ends stand from it on in front of a line.
-#[derive(Drop)]
+#[derive(Clone, Copy)]
 pub struct Place {
     pub left: usize,
     pub at: usize,

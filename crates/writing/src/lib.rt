@@ -1,4 +1,6 @@
 // Writing texts: bytes, numbers, fields and lines, each from a position on; the answer is the next position.
+#![tactic(auto)]
+
 ghost use Rattle.std.specs.Prelude.{◌+◌, ◌<◌, ◌≤◌, ◌∷◌, [], length, take};
 ghost use Rattle.spec.specs.Text.{digits, field_bytes, fields_bytes};
 ghost use Rattle.spec.specs.declared.Field.TheVariants.{Number};

@@ -1,0 +1,10 @@
+-- `number_lines::put` meets its contract: a number below 256 is its own rest, and one beyond the room changes nothing.
+use native.Mathlib.Omega.{arith}
+use Rattle.number_lines.proofs.Listing.{puts}
+use Rattle.number_lines.proofs.put.Goals as goal
+
+pub returns-then-i-ge-NUMBERS : goal.returns-then-i-ge-NUMBERS
+returns-then-i-ge-NUMBERS c = record { long = c.requires; put = λ h. absurd (omega arith) }
+
+pub returns : goal.returns
+returns c = puts _ _ _ c.requires

@@ -1,0 +1,12 @@
+-- `refused_lines::skip` meets its contract. The loop's invariant: the line sought is the one in front of which `left`
+-- line ends stand from `at` on (`Running`). 128 bytes with fewer line ends than are left cannot hold its start.
+use Prim.Native.Nat.{◌+◌, ◌-◌}
+use lib.ListN.{length}
+use Rattle.refused_lines.specs.Shown.{Running}
+use Rattle.refused_lines.proofs.skip.Given as goal
+
+abbrev pub invariant-loop-at : goal.invariant-loop-at
+invariant-loop-at l = Running l.text l.line l.left l.at
+
+abbrev pub decreases-loop-at : goal.decreases-loop-at
+decreases-loop-at l = length l.text + 1 - l.at
