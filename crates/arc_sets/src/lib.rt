@@ -1,6 +1,8 @@
 // The arcs of a net as sets of places: for each transition the places that it takes from, those that it makes tokens
 // in, those that inhibit it and those that it reads, with a bit for each place; and with them the weights of the arcs
 // (02, 2026-06). So a step walks the arcs that are there, and not every place.
+#![tactic(auto)]
+
 ghost use Rattle.std.specs.Prelude.{◌≡◌, ◌+◌, ◌-◌, ◌*◌, ◌%◌, ◌^◌, ◌≤◌, ◌<◌, get_or, replicate};
 ghost use Rattle.std.specs.Int.Bits.{bit_or};
 ghost use Rattle.std.specs.Int.Count.{count_trailing_zeros};

@@ -26,7 +26,6 @@ use Rattle.net.specs.declared.Net.{Net}
 use Rattle.net.specs.declared.NetAnswer.{NetAnswer}
 use Rattle.net.specs.declared.NetAnswer.TheVariants.{Accepted, Refused}
 use Rattle.net.specs.declared.NetRefusal.TheVariants.{Lacking}
-use Rattle.net.specs.contracts.NetAnswer
 use Rattle.net_reader.proofs.LastRule.{whole-lacks, whole-gives, counts}
 use Prim.Native.Nat.{ℕ, ◌+◌, ◌*◌, ◌≤◌}
 use mathlib.Core.Path.{◌≡◌, refl, sym, ap, ◌∙◌}
@@ -34,7 +33,7 @@ use mathlib.Core.Bool.{true, false}
 use mathlib.Core.List.{List}
 use lib.ListN.{length, replicate, length-replicate}
 use lib.Seq.{ext_get_or}
-use Rattle.spec.specs.Answer.{Answer, gives, refuses, ◌>>◌}
+use Rattle.spec.specs.Answer.{Answer, gives, refuses}
 use Rattle.spec.specs.Lists.{any, sum, as_count}
 use Rattle.columns.specs.Columns.{column, column-at}
 use Rattle.spec.specs.Net.{Net as NetD, joined, takes, makes, inhibits, reads}

@@ -1,4 +1,6 @@
 // The net reader: a text becomes a net of arrays, or a refusal.
+#![tactic(auto)]
+
 ghost use Rattle.std.specs.Prelude.{◌≡◌, true, ◌+◌, ◌≤◌, ◌<◌, length};
 ghost use Rattle.columns.specs.Columns.{column};
 ghost use Rattle.byte_classes.specs.Table.{byte_table};
@@ -62,7 +64,7 @@ fn add_row(k: usize, r: Row, s: Size, tokens: &mut [u16; TOKENS], arcs: &mut [u8
 }
 
 // A line that was added, and where the next one starts.
-#[derive(Drop)]
+#[derive(Clone, Copy)]
 pub struct Took {
     pub step: Stepped,
     pub next: usize,
@@ -102,7 +104,7 @@ fn arc_kind(letter: u8) -> usize
 
 // The two numbers of an arc's line, its weight, which is 1 where the line has none, and where the next line starts. A line
 // of another form leaves `next` at the position.
-#[derive(Drop)]
+#[derive(Clone, Copy)]
 pub struct ArcLine {
     pub first: usize,
     pub second: usize,

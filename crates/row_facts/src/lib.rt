@@ -1,4 +1,6 @@
 // What the closed order in rows of bits says of strict pairs: its loops, and how many events each is strictly before.
+#![tactic(auto)]
+
 ghost use Rattle.std.specs.Prelude.{◌≡◌, ◌<◌, ◌≤◌};
 ghost use Rattle.lists.specs.Lowest.{Lowest};
 ghost use Rattle.row_facts.specs.Pairs.{on_cycle};

@@ -1,4 +1,6 @@
 // Independent pairs of the closed order in rows of bits: what the rows leave of all pairs.
+#![tactic(auto)]
+
 ghost use Rattle.std.specs.Prelude.{◌≡◌, ◌*◌, ◌<◌, ◌≤◌};
 ghost use Rattle.order.specs.Order.{Order};
 ghost use Rattle.reach.specs.Rows.{cell_of};

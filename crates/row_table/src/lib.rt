@@ -1,4 +1,6 @@
 // The check's table of 16,384 bytes, from the closed order in rows of bits.
+#![tactic(auto)]
+
 ghost use Rattle.std.specs.Prelude.{◌≡◌, ℕ, ◌+◌, ◌*◌, ◌%◌, ◌<◌, ◌≤◌, length};
 ghost use Rattle.lists.specs.Mapped.{Mapped};
 ghost use Rattle.bit_sets.specs.Bits.{bit};

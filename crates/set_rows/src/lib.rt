@@ -1,4 +1,6 @@
 // Sets of events in words, one behind the other: two words for each set.
+#![tactic(auto)]
+
 ghost use Rattle.std.specs.Prelude.{◌≡◌, ◌+◌, ◌*◌, ◌≤◌, length};
 ghost use Rattle.set_rows.specs.Sets.{words_of_set, set_of, PutSet};
 

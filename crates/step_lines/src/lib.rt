@@ -1,4 +1,6 @@
 // A line of a log as a step: read, counted, and judged at a marking.
+#![tactic(auto)]
+
 ghost use Rattle.std.specs.Prelude.{◌≡◌, ◌≤◌, ◌<◌, length};
 ghost use Rattle.byte_classes.specs.Table.{byte_table};
 ghost use Rattle.lines.specs.Lines.{line_of, EndedTo};
@@ -17,7 +19,7 @@ use steps::{MARKING, Position, STEP, StepAnswer, StepRefusal, judge};
 const MOST_EVENTS: usize = 128;
 
 // The answer to a line, how many events it has, and where the next line starts.
-#[derive(Drop)]
+#[derive(Clone, Copy)]
 pub struct StepLine {
     pub answer: StepAnswer,
     pub count: usize,

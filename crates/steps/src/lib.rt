@@ -1,4 +1,6 @@
 // One step at a marking: summed, judged and played.
+#![tactic(auto)]
+
 ghost use Rattle.std.specs.Prelude.{◌≡◌, ◌+◌, ◌≤◌, ◌<◌, length, get_or, take};
 ghost use Rattle.lists.specs.Stretch.{MappedFrom};
 ghost use Rattle.arc_sets.specs.Sets.{row_count, read_at, weight_at, arc_at, Within};
@@ -17,7 +19,7 @@ pub const MARKING: usize = 32;
 
 // What a line of a log is refused for without its record being built, with its line: it is malformed, it names an
 // unknown transition, it has more events than are left, or its step is not enabled at the marking.
-#[derive(Drop)]
+#[derive(Clone, Copy)]
 pub enum StepRefusal {
     Malformed(usize),
     UnknownTransition(usize),
@@ -26,14 +28,14 @@ pub enum StepRefusal {
     Inhibited(usize),
 }
 
-#[derive(Drop)]
+#[derive(Clone, Copy)]
 pub enum StepAnswer {
     Goes,
     Refused(StepRefusal),
 }
 
 // How far a sequence of steps has come: the line that is next, and its events; and how large its net is.
-#[derive(Drop)]
+#[derive(Clone, Copy)]
 pub struct Position {
     pub places: usize,
     pub transitions: usize,
