@@ -1,5 +1,7 @@
 // Sets of conditions, in rows of eight words: of each place those that stand in it, and of each transition those of the
 // places that inhibit it.
+#![tactic(auto)]
+
 ghost use Rattle.std.specs.Prelude.{◌≡◌, length, ◌<◌};
 ghost use Rattle.condition_sets.specs.Sets.{sets_size, whole_word, EmptyRow, JoinsRow, Placeable, Placed, InPlaces};
 ghost use Rattle.condition_sets.specs.Sets.{WatchedBy, Watches, Ready, guards_of};

@@ -1,4 +1,6 @@
 // Conditions held by columns of a record's bytes: those that the events of a step take, and those that they make.
+#![tactic(auto)]
+
 ghost use Rattle.std.specs.Prelude.{[], ◌∷◌, map, ◌+◌, ◌≤◌, ◌<◌, length, replicate};
 ghost use Rattle.runs.specs.Flows.{flow};
 ghost use Rattle.runs.specs.Consume.{made_of};
@@ -17,7 +19,7 @@ use steps::STEP;
 // How far a run has come, beside the arrays that hold it: the line of the log that is next, its events and its
 // conditions, how often an event made a condition in a place that inhibits it, and how many places its events read,
 // which is how many marks R it has (02, 2026-01); and how large its net is.
-#[derive(Drop)]
+#[derive(Clone, Copy)]
 pub struct Extent {
     pub places: usize,
     pub transitions: usize,

@@ -11,10 +11,10 @@ use lib.Dec.{eqb, ltb}
 use lib.ListN.{length, get_or, set, length-set}
 use lib.Seq.{get_or-set_same, get_or-set_other}
 use borrow.Author.Tests.{eq-eqb, ne_eqb, eqb-true, ltb-true, lt-ltb, le-ltb}
-use Rattle.spec.specs.Lists.{lowest, as_count}
+use Rattle.spec.specs.Lists.{as_count}
 use Rattle.spec.specs.Record.{names}
 use Rattle.lists.specs.Laws
-use Rattle.bit_sets.specs.Bits.{bit, bit-most}
+use Rattle.bit_sets.specs.Bits.{bit}
 use Rattle.condition_sets.specs.Sets.{bit_at}
 use Rattle.condition_sets.proofs.Words.{at_most}
 use Rattle.held_conditions.specs.Held.{place_in, consumer_in, producer_in, earlier_at, left_at, held_at, lowest_at, reads_condition, FirstOf, Passed, Joins, ReadsPlace, ReadsOf}

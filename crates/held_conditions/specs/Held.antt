@@ -1,6 +1,6 @@
 -- When a condition held, by the bytes of a record and the steps of its events; and the conditions that an event reads.
 use Rattle.std.specs.Prelude.{ℕ, ◌+◌, ◌≤◌, ◌<◌, max, ◌≡◌, Bool, true, false, not, ◌&&◌, ◌||◌, List, eqb, ltb, length, get_or}
-use Rattle.std.proofs.Math.Option.{Option, some}
+use Rattle.std.proofs.Math.Option.{Option}
 use Rattle.spec.specs.Lists.{lowest, as_count}
 use Rattle.spec.specs.Record.{names}
 use Rattle.bit_sets.specs.Bits.{bit}

@@ -1,5 +1,7 @@
 // Which conditions held when the step of an event began, by the steps of the events; and which of them the event reads
 // (02, 2026-01): in each place that its transition reads, the lowest-numbered one.
+#![tactic(auto)]
+
 ghost use Rattle.std.specs.Prelude.{◌≡◌, ◌≤◌, ◌<◌, length};
 ghost use Rattle.record_columns.specs.Layout.{conditions_most, record_bytes};
 ghost use Rattle.condition_sets.specs.Sets.{InPlaces};

@@ -1,4 +1,6 @@
 // The history of a run, held by arrays: its events and its conditions, grown step by step.
+#![tactic(auto)]
+
 ghost use Rattle.std.specs.Prelude.{◌≡◌, ◌+◌, ◌≤◌, ◌<◌, length, take};
 ghost use Rattle.arc_sets.specs.Sets.{Within};
 ghost use Rattle.steps.specs.StepArrays.{step_long, IsStep};

@@ -1,4 +1,6 @@
 // The lines of a record, each written by its numbers.
+#![tactic(auto)]
+
 ghost use Rattle.std.specs.Prelude.{◌≡◌, ◌∷◌, [], ◌+◌, ◌≤◌, length};
 ghost use Rattle.spec.specs.Text.{fields_bytes};
 ghost use Rattle.spec.specs.Record.{event_field, event_line, mark_line_of};

@@ -1,4 +1,6 @@
 // One step of a log that is enabled, built on the run that the steps before it left.
+#![tactic(auto)]
+
 ghost use Rattle.std.specs.Prelude.{◌≡◌};
 ghost use Rattle.log_steps.specs.declared.LogAnswer.TheVariants.{Refused};
 ghost use Rattle.log_steps.specs.RunArrays.{Buildable, BuiltOn};
@@ -16,21 +18,21 @@ const MOST_CONDITIONS: usize = 512;
 const MOST_MARKS: usize = 4096;
 
 // What a log is refused for: a line as a step, or that its record would be too large; with its line.
-#[derive(Drop)]
+#[derive(Clone, Copy)]
 pub enum LogRefusal {
     Step(StepRefusal),
     OverConditions(usize),
     OverMarks(usize),
 }
 
-#[derive(Drop)]
+#[derive(Clone, Copy)]
 pub enum LogAnswer {
     Goes,
     Refused(LogRefusal),
 }
 
 // The answer, and how far the run has come; a refusal says nothing of the arrays that hold the run.
-#[derive(Drop)]
+#[derive(Clone, Copy)]
 pub struct Played {
     pub answer: LogAnswer,
     pub run: Extent,

@@ -1,4 +1,6 @@
 // The lines of a log, judged and played one after the other from the initial marking.
+#![tactic(auto)]
+
 ghost use Rattle.std.specs.Prelude.{◌≡◌};
 ghost use Rattle.logs.specs.LogRun.{position_of, Begun, PlayedLog, Beginnable, BeginsAt};
 

@@ -1,8 +1,8 @@
 -- The marks that the sets tell are those of the run.
-use Prim.Native.Nat.{ℕ, ◌+◌, ◌-◌, ◌*◌, ◌/◌, ◌%◌, ◌^◌, ◌≤◌, ◌<◌, max}
+use Prim.Native.Nat.{ℕ, ◌+◌, ◌-◌, ◌*◌, ◌/◌, ◌%◌, ◌^◌, ◌≤◌, ◌<◌}
 use mathlib.Core.Path.{◌≡◌, refl, sym, ap, ap₂, ◌∙◌}
 use mathlib.Core.Logic.{inl, inr}
-use mathlib.Core.Bool.{Bool, true, false, not, ◌&&◌, and-false}
+use mathlib.Core.Bool.{Bool, true, false, and-false}
 use mathlib.Core.List.{List, [], ◌∷◌, ◌++◌, map, append-nil}
 use native.Mathlib.Decide.{ℕ_discrete}
 use native.Mathlib.Omega.{arith}
@@ -18,15 +18,15 @@ use Rattle.spec.specs.declared.MarkKind.TheVariants.{Read}
 use Rattle.lists.specs.Laws
 use Rattle.lists.specs.Tables.{table_same}
 use Rattle.bit_sets.specs.Bits.{bit, bit-most, bit-or}
-use Rattle.arc_sets.specs.Walk.{Left, lowest, lowest-word, left-within, skipped, left-rest, rest-less, nothing_left}
+use Rattle.arc_sets.specs.Walk.{Left, lowest, left-within, skipped, left-rest, rest-less, nothing_left}
 use Rattle.record_columns.specs.Enters.{mark_of}
 use Rattle.line_writer.specs.Lines.{kind_if}
 use Rattle.condition_sets.specs.Sets.{bit_at, guards_of, Placed, WatchedBy}
-use Rattle.condition_sets.proofs.Words.{at_most, low-place}
+use Rattle.condition_sets.proofs.Words.{at_most}
 use Rattle.held_conditions.specs.Held.{place_in, producer_in, consumer_in, earlier_at, lowest_at, reads_condition, ReadsOf}
 use Rattle.held_conditions.proofs.Reading.{lowest-place, named-is}
 use Rattle.record_columns.specs.declared.Counts.{Counts}
-use Rattle.record_writer.specs.Bytes.{event_lines, condition_lines, Writable}
+use Rattle.record_writer.specs.Bytes.{event_lines, condition_lines}
 use Rattle.record_writer.specs.Notes.{guard_if, note_if, notes_if, note_of, notes_of, notes_to, run_notes, run_bytes, Puts, Room, text_of}
 use Rattle.record_writer.specs.declared.Ends.{Ends}
 use Rattle.record_writer.proofs.Noting.{puts-as, puts-after, room_as, room-before, room-behind, parts-begin, parts_next, parts-room, parts-skip, parts-behind}

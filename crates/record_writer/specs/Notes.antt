@@ -1,5 +1,5 @@
 -- Marks written, and noted in the words of a record.
-use Rattle.std.specs.Prelude.{ℕ, ◌+◌, ◌≤◌, ◌<◌, max, ◌≡◌, Bool, true, not, ◌&&◌, List, [], ◌∷◌, ◌++◌, map, eqb, length, get_or}
+use Rattle.std.specs.Prelude.{ℕ, ◌+◌, ◌≤◌, ◌<◌, max, ◌≡◌, true, not, ◌&&◌, List, ◌++◌, map, eqb, length, get_or}
 use Rattle.spec.specs.Lists.{up_to, flat, as_count}
 use Rattle.spec.specs.Record.{Mark, mark_line}
 use Rattle.spec.specs.Building.{mark_if}

@@ -1,4 +1,6 @@
 // The record of a run, written from its history, and its marks noted in the words that the rules read.
+#![tactic(auto)]
+
 ghost use Rattle.std.specs.Prelude.{◌≡◌, ℕ, ◌+◌, ◌≤◌, ◌<◌, ◌∷◌, [], length, get_or, eqb};
 ghost use Rattle.writing.specs.Written.{Wrote};
 ghost use Rattle.bit_sets.specs.Bits.{bit};
@@ -25,7 +27,7 @@ use record_columns::{
 use spec::MarkKind;
 
 // Where the text ends, and how many marks there are.
-#[derive(Drop)]
+#[derive(Clone, Copy)]
 pub struct Ends {
     pub at: usize,
     pub marks: usize,
@@ -126,7 +128,7 @@ fn put_due(
 }
 
 // A condition: whether its place inhibits an event, and whether the event reads it.
-#[derive(Drop)]
+#[derive(Clone, Copy)]
 pub struct Spot {
     pub guard: bool,
     pub read: bool,
@@ -172,7 +174,7 @@ fn is_set(word: u64, i: usize) -> bool
 
 // Some conditions: a word of the set of those whose places inhibit an event, one of the set of those that it reads, and
 // the condition of the words' bit 0.
-#[derive(Drop)]
+#[derive(Clone, Copy)]
 pub struct Part {
     pub guards: u64,
     pub reads: u64,
@@ -210,7 +212,7 @@ fn put_part(
 }
 
 // An event whose marks are next, and where they go.
-#[derive(Drop)]
+#[derive(Clone, Copy)]
 pub struct Turn {
     pub ends: Ends,
     pub event: usize,

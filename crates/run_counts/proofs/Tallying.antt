@@ -7,7 +7,6 @@ use native.Mathlib.Omega.{arith}
 use lib.ListN.{length, get_or, take}
 use lib.Seq.{ext_get_or}
 use Rattle.spec.specs.Lists.{up_to, sum_of}
-use Rattle.lists.specs.Laws
 use Rattle.lists.specs.Along.{sum_of-more}
 use Rattle.lists.specs.Grouped.{sum_of-next}
 use Rattle.columns.specs.Columns.{column, column-at, column-length}

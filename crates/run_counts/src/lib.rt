@@ -1,5 +1,7 @@
 // What is counted of a run: by place its conditions and the events that the place inhibits, and how many places its
 // events read; so that its conditions and its marks are known without building them.
+#![tactic(auto)]
+
 ghost use Rattle.std.specs.Prelude.{◌≡◌, ◌*◌, ◌≤◌, ◌<◌, take};
 ghost use Rattle.spec.specs.Lists.{sum_of, up_to};
 ghost use Rattle.arc_sets.specs.Sets.{row_count, read_at, weight_at, Within};
