@@ -1,4 +1,6 @@
 // Accepting a net and a record: what check, replay, arrange and energy share, "net's; check's but 30".
+#![tactic(auto)]
+
 ghost use Rattle.std.specs.Prelude.{◌≡◌, ◌≤◌, length};
 ghost use Rattle.spec.specs.Record.{bench};
 ghost use Rattle.net.specs.NetArrays.{net_at};
@@ -28,13 +30,13 @@ const SHORT_TEXT: usize = 512;
 const SHORT_MARKS: usize = 512;
 
 // Why a net and a record are not accepted: the net, or the record under it.
-#[derive(Drop)]
+#[derive(Clone, Copy)]
 pub enum Refusal {
     Net(NetRefusal),
     Record(RecordRefusal),
 }
 
-#[derive(Drop)]
+#[derive(Clone, Copy)]
 pub enum Verdict {
     Given,
     Refused(Refusal),
@@ -42,7 +44,7 @@ pub enum Verdict {
 
 // Whether a net and a record are accepted, and their counts. The net, the record's bytes and its closed order are in
 // what was lent.
-#[derive(Drop)]
+#[derive(Clone, Copy)]
 pub struct Accepted {
     pub verdict: Verdict,
     pub places: usize,

@@ -1,5 +1,7 @@
 // The lines of an arrangement: read and entered one after the other (refusals 41 to 43), held to the order of their
 // events from the last to the first (44), and searched for an event that is missing (45).
+#![tactic(auto)]
+
 ghost use Rattle.std.specs.Prelude.{◌≡◌, cond, ◌-◌, ◌<◌, ◌≤◌, length, take, drop, replicate};
 ghost use Rattle.byte_classes.specs.Table.{byte_table};
 ghost use Rattle.lines.specs.Lines.{line_of, EndedTo};
@@ -31,7 +33,7 @@ pub const ENDS: usize = 128;
 const BEFORE: usize = ENDS - 1;
 
 // What is answered to an arrangement: how many lines keep the order, or a refusal with its line or the missing event.
-#[derive(Drop)]
+#[derive(Clone, Copy)]
 pub enum ArrangementAnswer {
     Keeps(usize),
     Malformed(usize),
@@ -42,14 +44,14 @@ pub enum ArrangementAnswer {
 }
 
 // The lines of an arrangement by 41 to 43: the answer to them, and how many were taken.
-#[derive(Drop)]
+#[derive(Clone, Copy)]
 pub struct LinesRead {
     pub answer: ArrangementAnswer,
     pub lines: usize,
 }
 
 // A line by 41 and 42: the answer to it, how many numbers it has, and where the next one starts.
-#[derive(Drop)]
+#[derive(Clone, Copy)]
 pub struct Known {
     pub answer: ArrangementAnswer,
     pub count: usize,
@@ -57,7 +59,7 @@ pub struct Known {
 }
 
 // The events of a line, what one of them is not later than, and what one of them is strictly before.
-#[derive(Drop)]
+#[derive(Clone, Copy)]
 pub struct Group {
     pub line: Set,
     pub path: Set,

@@ -11,8 +11,10 @@ use Rattle.spec.specs.Process.{Process, WellFormed}
 use Rattle.spec.specs.Arranging.{longest, levels, line_count, arranged_lines, arrangement_bytes}
 use Rattle.lists.specs.Mapped.{Mapped}
 use Rattle.lists.specs.Tables.{length-table, table_is}
-use Rattle.order.specs.Level.{lev, lev-same}
-use Rattle.order.specs.Order.{Order, order_same}
+use Rattle.order.specs.Level.{lev}
+use Rattle.order.proofs.Level.{lev-same}
+use Rattle.order.specs.Order.{Order}
+use Rattle.order.proofs.Order.{order_same}
 use Rattle.reach.specs.Rows.{cell_of}
 use Rattle.runs.specs.Values.{order_of, order}
 use Rattle.runs.specs.Levels.{level-at, arranged-keeps}

@@ -10,7 +10,8 @@ use Rattle.spec.specs.Buffer.{leaves, check_leaves}
 use Rattle.spec.specs.declared.Limits.{Limits}
 use Rattle.lists.specs.Mapped.{Mapped}
 use Rattle.reach.specs.Rows.{cell_of}
-use Rattle.order.specs.Order.{Order, order_same}
+use Rattle.order.specs.Order.{Order}
+use Rattle.order.proofs.Order.{order_same}
 use Rattle.row_facts.specs.Counts.{Ready}
 use Rattle.row_table.specs.Table.{byte_in}
 use Rattle.runs.specs.Values.{order_of, order}

@@ -11,9 +11,11 @@ use lib.Ieee.Positive.{num, den, den_pos}
 use lib.Ieee.Scale.{grid}
 use Rattle.spec.specs.Rounding.{nearest, float_of}
 use Rattle.spec.specs.Energy.{Ratings, usable_of, left_of, energies_of}
-use Rattle.rounding.specs.Correct.{round-value}
-use Rattle.rounding.specs.Operations.{sub_is, round_difference, difference-is}
-use Rattle.rounding.specs.Whole.{exact, mul-whole, sub-whole, halved, half-divided}
+use Rattle.rounding.proofs.Correct.{round-value}
+use Rattle.rounding.specs.Operations.{round_difference}
+use Rattle.rounding.proofs.Operations.{sub_is, difference-is}
+use Rattle.rounding.specs.Whole.{exact}
+use Rattle.rounding.proofs.Whole.{mul-whole, sub-whole, halved, half-divided}
 use Rattle.hold_up.specs.declared.Capacitor.{Capacitor}
 use Rattle.hold_up.specs.declared.Draw.{Draw}
 use Rattle.hold_up.specs.declared.Draw.TheVariants.{Pulse, Load}

@@ -11,9 +11,9 @@ use lib.Ieee.Positive.{num, den, den_pos}
 use Rattle.spec.specs.Rounding.{nearest, negative, Rounded}
 use Rattle.spec.specs.Energy.{Ratings, usable_of, left_of, energies_of}
 use Rattle.spec.specs.HoldUp.{Right}
-use Rattle.rounding.specs.Correct.{rounded}
-use Rattle.rounding.specs.Unique.{at-most-twice}
-use Rattle.rounding.specs.Differences
+use Rattle.rounding.proofs.Correct.{rounded}
+use Rattle.rounding.proofs.Unique.{at-most-twice}
+use Rattle.rounding.proofs.Differences
 use Rattle.energies.proofs.Ranges.{draw-exact, product_small}
 
 module _ (k : Ratings) (drawn : ℕ) (small : k.capacitance ≤ 1000000) (under : k.full ≤ 60000) (above : k.cutoff ≤ k.full) (few : drawn ≤ 128 * 1000000000000) where

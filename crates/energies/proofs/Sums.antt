@@ -11,7 +11,7 @@ use lib.Ieee.{Float, binary64, add, round, of_bits}
 use Rattle.spec.specs.Lists.{sum_of}
 use Rattle.spec.specs.Rounding.{float_of}
 use Rattle.lists.specs.Along.{sum_of-more}
-use Rattle.rounding.specs.Whole.{add-whole}
+use Rattle.rounding.proofs.Whole.{add-whole}
 use Rattle.hold_up.specs.declared.EventDraw.{EventDraw}
 use Rattle.hold_up.specs.Floats.{no_draw}
 use Rattle.energies.specs.Promises.{Drawn}

@@ -1,4 +1,6 @@
 // The energies of the hold-up capacitor and of a record's events, in µJ.
+#![tactic(auto)]
+
 ghost use Rattle.std.specs.Prelude.{◌≡◌, ℕ, ◌^◌, ◌≤◌};
 ghost use Rattle.spec.specs.Rounding.{float_of};
 ghost use Rattle.spec.specs.Energy.{Ratings, usable_of, left_of};

@@ -1,4 +1,6 @@
 // The energies of a record, from its texts: what the hold-up capacitor gives, what the events draw, and what is left.
+#![tactic(auto)]
+
 ghost use Rattle.std.specs.Prelude.{◌≡◌};
 ghost use Rattle.spec.specs.Energy.{energy};
 ghost use Rattle.energy.specs.Answers.{energy_of};
@@ -12,7 +14,7 @@ use record_columns::RECORD;
 use spec::Energies;
 
 // What is answered: the three energies, why the net or the record is refused, or why the energy text is.
-#[derive(Drop)]
+#[derive(Clone, Copy)]
 pub enum EnergyAnswer {
     Given(Energies),
     Refused(Refusal),

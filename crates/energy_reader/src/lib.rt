@@ -1,4 +1,6 @@
 // The reader of energy texts: the hold-up capacitor and what an event of each transition draws, or a refusal.
+#![tactic(auto)]
+
 ghost use Rattle.std.specs.Prelude.{◌≡◌, ◌≤◌, ◌<◌, length};
 ghost use Rattle.byte_classes.specs.Table.{byte_table};
 ghost use Rattle.lines.specs.Lines.{EndedTo};
@@ -16,13 +18,13 @@ use spec::Class;
 
 // Why an energy text is refused: a line that is malformed, has the wrong letter or a number out of range; or too many
 // or too few lines.
-#[derive(Drop)]
+#[derive(Clone, Copy)]
 pub enum EnergyRefusal {
     WrongLine(usize),
     LineCount,
 }
 
-#[derive(Drop)]
+#[derive(Clone, Copy)]
 pub enum EnergyTextAnswer {
     Read,
     Refused(EnergyRefusal),
@@ -39,14 +41,14 @@ pub struct EnergyRead {
 // ---- what a line says
 
 // The draw that a transition's line says, if it is one.
-#[derive(Drop)]
+#[derive(Clone, Copy)]
 pub enum MayDraw {
     Says(Draw),
     NoDraw,
 }
 
 // The capacitor that the first line says, if it is a capacitor's.
-#[derive(Drop)]
+#[derive(Clone, Copy)]
 pub enum MayHold {
     Figures(Capacitor),
     NoFigures,
@@ -118,7 +120,7 @@ fn capacitor_row(w: Row) -> MayHold
 // ---- the line at a position
 
 // The row of a line, and where the next one starts.
-#[derive(Drop)]
+#[derive(Clone, Copy)]
 pub struct RowAt {
     pub row: Row,
     pub next: usize,
@@ -147,7 +149,7 @@ fn row_at(table: &[u8; 256], text: &[u8], at: usize) -> RowAt
 }
 
 // What the first line says, and where the next one starts.
-#[derive(Drop)]
+#[derive(Clone, Copy)]
 pub struct CapacitorAt {
     pub capacitor: MayHold,
     pub next: usize,
@@ -168,7 +170,7 @@ fn capacitor_at(table: &[u8; 256], text: &[u8]) -> CapacitorAt
 }
 
 // What a transition's line says, and where the next one starts.
-#[derive(Drop)]
+#[derive(Clone, Copy)]
 pub struct DrawAt {
     pub draw: MayDraw,
     pub next: usize,

@@ -1,4 +1,6 @@
 // The marking after each line of an arrangement: what its places had, what its events made and took, and the rows.
+#![tactic(auto)]
+
 ghost use Rattle.std.specs.Prelude.{◌≡◌, ◌+◌, ◌-◌, ◌≤◌, length, get_or, replicate};
 ghost use Rattle.lists.specs.Mapped.{Mapped};
 ghost use Rattle.lists.specs.Stretch.{MappedFrom};

@@ -1,4 +1,6 @@
 // All lines of an arrangement, judged: read by 41 to 43, then held to the order by 44, then to 45.
+#![tactic(auto)]
+
 ghost use Rattle.std.specs.Prelude.{◌≡◌, ◌≤◌, replicate};
 ghost use Rattle.reach.specs.Rows.{Good};
 ghost use Rattle.marking_rows.specs.Rows.{lined_size};

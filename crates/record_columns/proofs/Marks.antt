@@ -104,3 +104,4 @@ value-once (v ∷ ws) w s c e (Memᴰ.tail m) t h = go (is_at s c e v) refl h (v
     go : (b : Bool) → is_at s c e v ≡ b → cond b (suc (count (is_at s c e) ws)) (count (is_at s c e) ws) ≤ 1 → (count (is_at s c e) ws ≤ 1 → mark_value ws s c e ≡ kind_code w.kind) → max (mark_says v s c e) (mark_value ws s c e) ≡ kind_code w.kind
     go true u l rest = absurd (omega (arith, Laws.count-in (is_at s c e) w ws m t))
     go false u l rest = omega (arith, says-away v s c e u, rest l)
+value-once [] w s c e x3 t h = elim x3 [ ]

@@ -1,4 +1,6 @@
 // Where a record stands in bytes and words, and how an event, a condition or a mark is entered there, or refused.
+#![tactic(auto)]
+
 ghost use Rattle.std.specs.Prelude.{◌≡◌, true, ◌<◌, ◌≤◌};
 ghost use Rattle.spec.specs.Process.{is_below};
 ghost use Rattle.spec.specs.Record.{slot_of};
@@ -42,7 +44,7 @@ pub const GUARD_SLOT: usize = 0;
 pub const READ_SLOT: usize = 1;
 
 // What a record may have, and the places and transitions that its net has.
-#[derive(Drop)]
+#[derive(Clone, Copy)]
 pub struct Bounds {
     pub limits: Limits,
     pub places: usize,
@@ -50,7 +52,7 @@ pub struct Bounds {
 }
 
 // How many events, conditions and marks a record has.
-#[derive(Drop)]
+#[derive(Clone, Copy)]
 pub struct Counts {
     pub events: usize,
     pub conditions: usize,
@@ -59,7 +61,7 @@ pub struct Counts {
 
 // Why a record is refused: by its reader, with the line, or by a rule of processes, with the lowest place or event. The
 // answers of all operations that take a record hold it.
-#[derive(Drop)]
+#[derive(Clone, Copy)]
 pub enum RecordRefusal {
     Malformed(usize),
     LimitPassed(usize),
@@ -73,14 +75,14 @@ pub enum RecordRefusal {
 }
 
 // What the reader answers: that the record is read, or a refusal.
-#[derive(Drop)]
+#[derive(Clone, Copy)]
 pub enum RecordAnswer {
     Read,
     Refused(RecordRefusal),
 }
 
 // The answer to the lines so far, and the counts after them.
-#[derive(Drop)]
+#[derive(Clone, Copy)]
 pub struct RecordRead {
     pub answer: RecordAnswer,
     pub counts: Counts,

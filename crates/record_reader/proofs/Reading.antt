@@ -5,7 +5,7 @@ use mathlib.Core.Bool.{true, false, true≢false}
 use mathlib.Core.List.{List, []}
 use native.Mathlib.Omega.{arith}
 use lib.ListN.{length, get_or, replicate, length-replicate}
-use Rattle.spec.specs.Net.{Net, places}
+use Rattle.spec.specs.Net.{Net}
 use Rattle.spec.specs.Record.{RunRecord}
 use Rattle.spec.specs.Checking.{enter_line, empty_record}
 use Rattle.lines.specs.Agree.{Agrees, giving, refusing}
@@ -19,7 +19,6 @@ use Rattle.record_columns.specs.declared.Bounds.{Bounds}
 use Rattle.record_columns.specs.declared.Counts.{Counts}
 use Rattle.record_reader.specs.declared.Took.{Took}
 use Rattle.record_columns.specs.declared.RecordAnswer.TheVariants.{Read}
-use Rattle.record_columns.specs.contracts.RecordAnswer
 use Rattle.record_columns.proofs.Answers.{goes_given}
 use Rattle.record_reader.proofs.Widths.{width, line-grows}
 

@@ -1,4 +1,6 @@
 // The record reader: a text becomes a record of bytes and words, or a refusal.
+#![tactic(auto)]
+
 ghost use Rattle.std.specs.Prelude.{◌≡◌, true, ◌≤◌, ◌<◌, length};
 ghost use Rattle.byte_classes.specs.Table.{byte_table};
 ghost use Rattle.lines.specs.Lines.{EndedTo};
@@ -56,7 +58,7 @@ fn enter_row(
 }
 
 // A line that was entered, and where the next one starts.
-#[derive(Drop)]
+#[derive(Clone, Copy)]
 pub struct Took {
     pub step: RecordRead,
     pub next: usize,

@@ -1,4 +1,6 @@
 // Replaying an arrangement, from its texts to its rows.
+#![tactic(auto)]
+
 ghost use Rattle.std.specs.Prelude.{length};
 ghost use Rattle.spec.specs.Replaying.{replay};
 ghost use Rattle.replaying.specs.Replaying.{Replays};
@@ -14,7 +16,7 @@ use record_columns::RECORD;
 
 // What replaying answers: that the buffer is short, why the net or the record is refused, or the answer to the
 // arrangement.
-#[derive(Drop)]
+#[derive(Clone, Copy)]
 pub enum ReplayAnswer {
     BufferShort,
     Refused(Refusal),

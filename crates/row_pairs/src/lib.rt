@@ -1,4 +1,6 @@
 // The pairs of a record, from its bytes and words, in rows of bits.
+#![tactic(auto)]
+
 ghost use Rattle.std.specs.Prelude.{◌≡◌, ℕ, ◌*◌, ◌+◌, ◌<◌, ◌≤◌, length};
 ghost use Rattle.bit_sets.specs.Sets.{has};
 ghost use Rattle.reach.specs.Rows.{words, Good, Sub, row_of};

@@ -1,0 +1,29 @@
+-- The net, then the record; where the net is refused, the refusal is that of all.
+use mathlib.Core.Path.{refl}
+use Rattle.net_reader.proofs.Reading.{accepted-into, read_found}
+use Rattle.accepting.proofs.Fresh.{fresh-few, fresh-all}
+use Rattle.accepting.proofs.Accepting.{net-stop, refused-both, accepted-both}
+use Rattle.accepting.proofs.accept.Goals as goal
+
+pub read_into-requires : goal.read_into-requires
+read_into-requires c = c.requires.1
+
+pub accept_record-requires : goal.accept_record-requires
+accept_record-requires c = let f = read_found _ _ _ _ _ (accepted-into _ _ c.in-Accepted.is c.read_into.ensures) in let d = f.2.counts in
+    (record { events = c.requires.0.events; conditions = c.requires.0.conditions; places = d.few_places; transitions = d.few_transitions }, record { net = f.0; holds = f.2 }, c.requires.2, fresh-few _ c.if-text-le-SHORT_TEXT.true, c.requires.3)
+
+pub returns-then-text-le-SHORT_TEXT : goal.returns-then-text-le-SHORT_TEXT
+returns-then-text-le-SHORT_TEXT c = let f = read_found _ _ _ _ _ (accepted-into _ _ c.in-Accepted.is c.read_into.ensures) in let e = c.accept_record.ensures in
+    accepted-both e.0 _ _ _ _ _ _ _ _ _ _ f.0 f.1 f.2 (e.1 f.0 f.2)
+
+pub accept_record-requires-in-Accepted : goal.accept_record-requires-in-Accepted
+accept_record-requires-in-Accepted c = let f = read_found _ _ _ _ _ (accepted-into _ _ c.in-Accepted.is c.read_into.ensures) in let d = f.2.counts in
+    (record { events = c.requires.0.events; conditions = c.requires.0.conditions; places = d.few_places; transitions = d.few_transitions }, record { net = f.0; holds = f.2 }, c.requires.2, fresh-all _, c.requires.3)
+
+pub returns-in-Refused : goal.returns-in-Refused
+returns-in-Refused c = let r = c.read_into in
+    refused-both refl _ _ _ _ _ _ _ _ (rw c.refused.ensures (net-stop _ _ _ r.result _ r.ensures.answer c.in-Refused.is))
+
+pub returns-else-text-le-SHORT_TEXT : goal.returns-else-text-le-SHORT_TEXT
+returns-else-text-le-SHORT_TEXT c = let f = read_found _ _ _ _ _ (accepted-into _ _ c.in-Accepted.is c.read_into.ensures) in let e = c.accept_record-in-Accepted.ensures in
+    accepted-both e.0 _ _ _ _ _ _ _ _ _ _ f.0 f.1 f.2 (e.1 f.0 f.2)

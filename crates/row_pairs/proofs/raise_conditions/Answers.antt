@@ -1,0 +1,23 @@
+use native.Mathlib.Omega.{arith}
+use mathlib.Core.Path.{refl}
+use Rattle.row_pairs.proofs.Raising.{overall-none, overall-more, overall-end, condition-raised}
+use Rattle.row_pairs.proofs.raise_conditions.Goals as goal
+
+pub loop-c-init : goal.loop-c-init
+loop-c-init c = (omega arith, refl, overall-none _ _)
+
+pub raise_pair-requires : goal.raise_pair-requires
+raise_pair-requires c =
+    (omega (arith, c.requires.2), c.loop-c.invariant.2.good c.requires.3)
+
+pub loop-c-preserved : goal.loop-c-preserved
+loop-c-preserved c =
+    let v = c.loop-c.invariant in (
+      omega arith,
+      omega (arith, c.raise_pair.ensures.long),
+      overall-more _ v.2
+          (condition-raised _ _ c.wide.ensures.0 c.wide-in-loop-c.ensures.0 c.raise_pair.ensures),
+    )
+
+pub returns : goal.returns
+returns c = overall-end _ _ (omega arith) c.loop-c.invariant.2
