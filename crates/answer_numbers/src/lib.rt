@@ -1,4 +1,6 @@
 // Each answer as document 01's number and spot, and the values that an operation returns.
+#![tactic(auto)]
+
 ghost use Rattle.std.specs.Prelude.{◌≡◌};
 ghost use Rattle.spec.specs.Answer.{gives, refuses};
 ghost use Rattle.spec.specs.Values.{as_numbers};

@@ -1,5 +1,7 @@
 // The second and the third demand, that independent means free to swap (02, 2026-04), and that energies are right (02,
 // 2026-05), as the promises of functions that make the calls: what each call returned, and what it left in the buffers.
+#![tactic(auto)]
+
 ghost use Rattle.demands.specs.Exactly.{ReadsExactly, BuildsExactly, ChecksExactly};
 ghost use Rattle.demands.specs.Exactly.{ArrangesExactly, ReplaysExactly};
 ghost use Rattle.demands.specs.Demand.{buffers, OrderPromised, RunPromised};
@@ -55,7 +57,7 @@ pub fn arrangement_replayed(
 }
 
 // What the calls on one net, one record and one arrangement returned.
-#[derive(Drop)]
+#[derive(Clone, Copy)]
 pub struct Calls {
     pub net: Numbers,
     pub check: Numbers,
@@ -64,7 +66,7 @@ pub struct Calls {
 }
 
 // The same, and before them that building the record returned.
-#[derive(Drop)]
+#[derive(Clone, Copy)]
 pub struct RunCalls {
     pub build: Numbers,
     pub calls: Calls,
