@@ -10,7 +10,7 @@ use native.Mathlib.Omega.{arith}
 use lib.ListN.{get_or, drop}
 use lib.Dec.{leb}
 use borrow.Author.Tests.{le-leb, leb-true, eq-eqb, ne_eqb}
-use Rattle.spec.specs.Lists.{from, up_to}
+use Rattle.spec.specs.Lists.{up_to}
 use Rattle.spec.specs.Text.{named, class_names, in_digits, class_of, digit_of}
 use Rattle.spec.specs.declared.Class.{Class}
 use Rattle.spec.specs.declared.Class.TheVariants.{LineEnd, Foreign}
@@ -24,18 +24,9 @@ unfolding entry_of digit_of in_digits
 digit b p q = simp le-leb
 
 -- the byte is none of those that the list names
-abbrev None : ℕ → List (ℕ × Class) → Type 0
+abbrev pub None : ℕ → List (ℕ × Class) → Type 0
 None b [] = Unit {0}
 None b (n ∷ ns) = (b ≡ n.0 → ⊥) × None b ns
-
--- the same as the rest of a `match` has it
-abbrev Rest : Type 0 → ℕ → List (ℕ × Class) → Type 0
-Rest X b [] = X
-Rest X b (n ∷ ns) = Rest (X × (b ≡ n.0 → ⊥)) b ns
-
-of-rest : (X : Type 0) (b : ℕ) (ns : List (ℕ × Class)) → Rest X b ns → X × None b ns
-of-rest X b [] h = (h, tt)
-of-rest X b (n ∷ ns) h = let r = of-rest (X × (b ≡ n.0 → ⊥)) b ns h in (r.0.0, (r.0.1, r.1))
 
 none_named : (b : ℕ) (ns : List (ℕ × Class)) → None b ns → named b ns ≡ Foreign
 unfolding named
@@ -51,9 +42,9 @@ no_digit b h = go (leb 48 b) (leb b 57) refl refl
     go true false p q = refl
     go false t p q = refl
 
-pub foreign : (b : ℕ) → (48 ≤ b → b ≤ 57 → ⊥) → Rest (Unit {0}) b class_names → code_of Foreign ≡ entry_of b
+pub foreign : (b : ℕ) → (48 ≤ b → b ≤ 57 → ⊥) → None b class_names → code_of Foreign ≡ entry_of b
 unfolding entry_of class_of
-foreign b d h = sym (rw (no_digit b d, none_named b class_names (of-rest (Unit {0}) b class_names h).1))
+foreign b d h = sym (rw (no_digit b d, none_named b class_names h))
 
 -- ---- the search for the byte that ends a line, from byte b on
 

@@ -1,5 +1,7 @@
 // Prints the text that byte_classes keeps as its table, so that no hand writes it: every number comes from the range rule
 // of `entry_of`, and none from the table.
+#![tactic(auto)]
+
 ghost use Rattle.std.specs.Prelude.{◌≡◌, ◌+◌, ◌≤◌, length, take};
 ghost use Rattle.byte_entries.specs.Entries.{entry_of};
 ghost use Rattle.writing.specs.Written.{Wrote};
@@ -10,7 +12,7 @@ use byte_entries::{
     LETTER_J, LETTER_K, LETTER_O, LETTER_P, LETTER_R, LETTER_S, LETTER_T, LETTER_W, LINE_END,
     RETURN,
 };
-use libc::STDOUT_FILENO;
+use std::process::ExitCode;
 use streams::{Output, write_all};
 use writing::{put_byte, put_number};
 
@@ -142,11 +144,15 @@ fn put_text(out: &mut [u8]) -> usize
     put_closing(out, end)
 }
 
-fn main() {
+fn main(rt: HostRuntime) -> ExitCode {
     let mut out = [0u8; ROOM];
     let n = put_text(&mut out);
-    match write_all(STDOUT_FILENO, &out[..n]) {
-        Output::Written(_) => {}
-        Output::Failed => os::fail(b"byte_table: standard output"),
+    match write_all(&mut rt.stdout(), &out[..n]) {
+        Output::Written(_) => ExitCode::SUCCESS,
+        Output::Failed(e) => {
+            // Where standard error fails too, the exit status alone says so.
+            let _ = eprintln!(rt; "byte_table: standard output: {e}");
+            ExitCode::FAILURE
+        }
     }
 }

@@ -1,4 +1,6 @@
 // The program's input: a net, a line `=`, a log.
+#![tactic(auto)]
+
 ghost use Rattle.std.specs.Prelude.{◌≡◌, ◌≤◌, ◌<◌, length};
 ghost use Rattle.byte_classes.specs.Table.{byte_table};
 ghost use Rattle.lines.specs.Lines.{PastEnding};
@@ -10,7 +12,7 @@ use byte_slices::{CHUNK, count_at};
 use lines::past_ending;
 
 // Where the net ends and where the log starts, or that no line is `=`.
-#[derive(Drop)]
+#[derive(Clone, Copy)]
 pub enum Parting {
     At(usize, usize),
     Nothing,

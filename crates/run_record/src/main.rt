@@ -1,15 +1,24 @@
 // The program: reads standard input and prints what document 01 says. Where standard input cannot be read to its end nothing
-// is printed, and standard error says why.
-use answering::{INPUT_BYTES, Outcome, answer};
-use libc::{STDIN_FILENO, STDOUT_FILENO};
-use pti::PROGRAM_BYTES;
+// is printed, and standard error says why; so it does where not all can be written. Then the exit status is 1.
+#![tactic(auto)]
 
-fn main() {
+use answering::{INPUT_BYTES, Outcome, answer};
+use pti::PROGRAM_BYTES;
+use std::io;
+use std::process::ExitCode;
+
+// Where standard error fails too, the exit status alone says so.
+fn failed(rt: &impl Eprint, stream: &str, e: io::Error) -> ExitCode {
+    let _ = eprintln!(rt; "run_record: {stream}: {e}");
+    ExitCode::FAILURE
+}
+
+fn main(rt: HostRuntime) -> ExitCode {
     let mut input = [0u8; INPUT_BYTES];
     let mut out = [0u8; PROGRAM_BYTES];
-    match answer(STDIN_FILENO, STDOUT_FILENO, &mut input, &mut out) {
-        Outcome::Printed(_, _) => {}
-        Outcome::Unwritten(_, _) => os::fail(b"run_record: standard output"),
-        Outcome::Unread => os::fail(b"run_record: standard input"),
+    match answer(&mut rt.stdin(), &mut rt.stdout(), &mut input, &mut out) {
+        Outcome::Printed(_, _) => ExitCode::SUCCESS,
+        Outcome::Unwritten(_, _, e) => failed(&rt, "standard output", e),
+        Outcome::Unread(e) => failed(&rt, "standard input", e),
     }
 }

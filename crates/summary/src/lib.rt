@@ -1,4 +1,6 @@
 // The summary of a record: the line that the program prints behind it.
+#![tactic(auto)]
+
 ghost use Rattle.std.specs.Prelude.{◌≡◌, ◌+◌, ◌≤◌, length};
 ghost use Rattle.spec.specs.Arranging.{line_count};
 ghost use Rattle.order.specs.Order.{Order};
