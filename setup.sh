@@ -1,5 +1,6 @@
-# What `record` and `pti` share, sourced by both: on first use, and after a change, they prove and build what they run. What is
-# said of that goes to standard error; standard input is left alone. They set me, their name, and top, the repository.
+# What `record`, `pti` and `library` share, sourced by each: on first use, and after a change, they prove and build what they run or
+# hand out. What is said of that goes to standard error; standard input is left alone. They set me, their name, and top, the
+# repository.
 
 pid='' room='' line=''
 
@@ -27,12 +28,14 @@ needs() { # TOOL...
     [ $missing -eq 0 ] || exit 2
 }
 
-# Is the file whole, and newer than all that it is made of?
-current() { # FILE SOURCE...
+# Is the file whole, and newer than all that it is made of? All are named as they stand in the repository. What rt keeps in a
+# crate's out/ is no source, and neither is the crate's own folder, whose time changes when rt makes or removes out/.
+current() ( # FILE SOURCE...
     made=$1
     shift
-    [ -e "$made" ] && [ ! -e "$made.begun" ] && [ -z "$(find "$@" -newer "$made" | head -n 1)" ]
-}
+    cd "$top" && [ -e "$made" ] && [ ! -e "$made.begun" ] && [ -z "$(find "$@" -path 'crates/*/out' ! -path 'crates/*/*/out' -prune \
+        -o ! \( -type d -path 'crates/*' ! -path 'crates/*/*' \) -newer "$made" -print | head -n 1)" ]
+)
 
 # ---- what runs
 
@@ -44,11 +47,10 @@ alone() {
         flock 9 & pid=$!
         ended
     fi
-    # rt runs a program as nobody, who has to get there.
-    room=$(mktemp -d) && chmod 711 "$room" || exit 2
+    room=$(mktemp -d) || exit 2
 }
 
-# Starts a command in the repository, in a process group of its own: what rt starts in turn does not heed ^C.
+# Starts a command in the repository, in a process group of its own, so that a signal to this script ends all of it, and only here.
 start() { # LOG COMMAND...
     out=$1
     shift
@@ -76,6 +78,22 @@ stop() {
     exec 9>&-
 }
 
+# Runs a function that proves and builds, and ends what is under way where a signal ends this.
+set_up() { # FUNCTION
+    trap stop EXIT
+    # shellcheck disable=SC2064
+    for signal in HUP INT PIPE TERM; do trap "interrupted $signal" $signal; done
+    "$1"
+    stop
+    trap - EXIT HUP INT PIPE TERM
+}
+
+interrupted() { # SIGNAL
+    stop
+    trap - EXIT "$1"
+    kill -s "$1" $$
+}
+
 # Makes a file by a command. Until it is whole there is FILE.begun beside it, whose time becomes the file's, so that an edit made
 # meanwhile is newer than the file.
 make_file() { # FILE COMMAND...
@@ -85,10 +103,13 @@ make_file() { # FILE COMMAND...
     "$@" && [ -e "$file" ] && touch -r "$file.begun" "$file" && rm "$file.begun"
 }
 
+# What rt and cargo say of a fault, and rt at the end of a crate that is not proved.
+wrong='^error|: error|: not proved|: no proof|: failed \([0-9]'
+
 failed() { # WHAT LOG
     say "$1 failed: see $2"
-    if ! grep -qE 'error|NOT PROVED|FAILED' "$2"; then tail -n 12 "$2"
-    else grep -E -A 4 'error|NOT PROVED|FAILED' "$2" | grep -v 'NOT PROVED: its dependency' | head -n 12
+    if ! grep -qE "$wrong" "$2"; then tail -n 12 "$2"
+    else grep -E -A 4 "$wrong" "$2" | grep -v ': not run, since ' | head -n 12
     fi | cut -c 1-300 >&2
     exit 2
 }
@@ -97,11 +118,12 @@ failed() { # WHAT LOG
 
 processors() { nproc 2> /dev/null || echo 1; }
 
-# The crates that NAME needs, itself last, and about what part each has in the time: by the seconds that rt printed, a crate takes
-# as long as src/ has bytes, with 700 for each crate that it uses and a 70th of its definitions and proofs. The crates of a level
-# run side by side, as long as there are others.
+# The crates that NAME needs, itself last, and about what part each has in the time: by the seconds that an older rt printed, a
+# crate takes as long as src/ has bytes, with 700 for each crate that it uses and a 70th of its definitions and proofs. The crates
+# of a level run side by side, as long as there are others.
 plan() { # NAME
-    (cd "$top/crates" && find . \( -path './*/src/*' -o -path './*/specs/*' -o -path './*/proofs/*' \) -type f -exec wc -c {} +) |
+    (cd "$top/crates" && find . -path './*/out' ! -path './*/*/out' -prune \
+        -o \( -path './*/src/*' -o -path './*/specs/*' -o -path './*/proofs/*' \) -type f -exec wc -c {} +) |
         awk -v wanted="$1" -v processors="$(processors)" '
         function visit(name,    used, count, i) {
             if (name in level) return
@@ -118,7 +140,7 @@ plan() { # NAME
         }
         reading == "sizes" { if (split($2, path, "/") > 2) time[path[2]] += path[3] == "src" ? $1 : $1 / 70; next }
         { sub(/#.*/, "") }
-        split($0, side, ":") == 2 { gsub(/[ \t]/, "", side[1]); uses[side[1]] = side[2]; time[side[1]] += 1 }
+        split($0, side, ":") == 2 { split(side[1], word, " "); uses[word[1]] = side[2]; time[word[1]] += 1 }
         END {
             visit(wanted)
             for (i = 1; i <= needed; i++) {
@@ -130,18 +152,25 @@ plan() { # NAME
         }' reading=sizes - reading=crates "$top/crates.txt"
 }
 
-# Of the plan: the crates that rt has proved, and all; their part in the time so far, and what is left. A crate that has not
-# changed since it was proved takes no time.
+# Of the plan: the crates that rt has proved, and all; their part in the time so far, and what is left. rt prints a line `== NAME`
+# once it is done with a crate, and below it what the check said: of a crate that has not changed since it was proved nothing but
+# lines of its own, and that takes no time.
 counted() { # LOG
     printf '%s\n' "$planned" | awk '
-        reading == "plan" { part[$1] = $2; left += $2; all++; next }
-        $1 == "rt:" && $3 == "proved" && ($2 in part) {
-            proved++
-            left -= part[$2]
-            if ($4 != "(unchanged") spent += part[$2]
-            delete part[$2]
+        function settle() {
+            if (name in part && (verdict || !said)) {
+                proved++
+                left -= part[name]
+                if (verdict) spent += part[name]
+                delete part[name]
+            }
+            said = verdict = 0
         }
-        END { print proved + 0, all + 0, spent + 0, left + 0 }' reading=plan - reading=log "$1"
+        reading == "plan" { part[$1] = $2; left += $2; all++; next }
+        $1 == "==" { settle(); name = $2; next }
+        $1 == "logic=proved" { verdict = 1 }
+        $1 != "rt:" { said = 1 }
+        END { settle(); print proved + 0, all + 0, spent + 0, left + 0 }' reading=plan - reading=log "$1"
 }
 
 # About how long is left (remaining), by the time that the crates so far took; nothing while that is too little to go by.
@@ -174,13 +203,24 @@ end_line() {
     line=''
 }
 
-# Runs a command that proves NAME and all that it needs, and shows how far it is. Twice as many crates at a time as there are
-# processors keep these busy while one crate takes long.
-prove() { # NAME LOG COMMAND...
-    planned=$(plan "$1") log=$2
-    shift 2
+# How many crates are checked at a time: JOBS, or else twice as many as there are processors, which keeps these busy while one crate
+# takes long and others wait for it, as far as memory goes: rt itself, given a number, does not look at that.
+at_once() {
+    free=$(sed -n 's/^MemAvailable: *\([0-9]*\) kB$/\1/p' /proc/meminfo 2> /dev/null)
+    room_for=$((${free:-3000000} / 3000000))
+    most=$((2 * $(processors)))
+    [ "$room_for" -ge "$most" ] || most=$room_for
+    echo "${JOBS:-$((most > 1 ? most : 1))}"
+}
+
+# Proves the crate NAME and all that it needs, shows how far that is, and makes by rt VERB what is built of it, in its out/. `rt all`
+# in the crate's folder proves these crates and no other, some at a time; rt VERB alone would prove one after the other, and
+# `rt ci NAME`, which keeps what it proves for the gate, tries every edit too and builds no library.
+prove() { # NAME VERB LOG
+    planned=$(plan "$1") log=$3
     began=$(date +%s) shown='' spent=0 spent_at=0 tenth=0
-    start "$log" env RT_JOBS="${RT_JOBS:-$(($(processors) > 1 ? 4 : 2))}" "$@"
+    # shellcheck disable=SC2016
+    start "$log" sh -c 'cd "crates/$1" && rt all check --jobs "$3" && exec rt "$2"' sh "$1" "$2" "$(at_once)"
     while kill -0 "$pid" 2> /dev/null; do
         sleep 0.2
         now=$(date +%s)
@@ -194,4 +234,18 @@ prove() { # NAME LOG COMMAND...
     end_line
     [ $status -ne 0 ] || say "proved: $(printf '%s\n' "$planned" | wc -l) crates, in $(($(date +%s) - began)) seconds"
     return $status
+}
+
+# ---- the library
+
+# What C and Rust link: the static library of the crate pti_c, under the name that callers know.
+proved() { current target/staticlib/libpti.a crates crates.txt; }
+
+make_library() { # LOG
+    prove pti_c lib "$1" && cp "$top/crates/pti_c/out/libpti_c.a" "$top/target/staticlib/libpti.a.new" &&
+        mv -f "$top/target/staticlib/libpti.a.new" "$top/target/staticlib/libpti.a"
+}
+
+build_library() { # LOG
+    make_file "$top/target/staticlib/libpti.a" make_library "$1" || failed "rt, which proves and builds the library," "$1"
 }

@@ -1,4 +1,4 @@
-/* Run records of PTI-nets: the C interface of the verified library (libpti.a, made by `rt staticlib pti`).
+/* Run records of PTI-nets: the C interface of the verified library (libpti.a, made by `./library`).
  *
  * Texts and buffers are lent for the length of a call: a pointer and a length. No pointer is null; an empty text is any
  * pointer that is not null with length 0. A buffer may overlap no text and no other buffer. A refused call writes to no

@@ -1,7 +1,8 @@
 #!/usr/bin/env bash
-# The table of bytes that the source keeps is, byte for byte, what the program byte_table prints. Exits non-zero on any failure.
+# The table of bytes that the source keeps is, byte for byte, what the program byte_table prints, in the layout of rt fmt, which the
+# gate asks of every source. Exits non-zero on any failure.
 #
-#   tests/byte_table.sh [PROGRAM]     PROGRAM is target/bin/byte_table, which rt proves and builds first, unless named
+#   tests/byte_table.sh [PROGRAM]     PROGRAM is crates/byte_table/out/byte_table, which rt proves and builds first, unless named
 set -euo pipefail
 top=$(cd "$(dirname "$0")/.." && pwd)
 kept=crates/byte_classes/src/table.rt
@@ -11,17 +12,16 @@ trap 'rm -rf "$work"' EXIT
 # The program stands on the rule alone, so that it can be built while the table that is kept is an old one.
 renewing() {
   cat << END
-What $kept keeps has to be what the program prints. To renew it, and the output that rt holds the program to:
-    rt check byte_table; target/bin/byte_table > crates/byte_table/stdout && cp crates/byte_table/stdout $kept
+What $kept keeps has to be what the program prints, laid out by rt fmt. To renew it, and the output that rt holds the program to:
+    (cd crates/byte_table && rt run > stdout) && cp crates/byte_table/stdout $kept && (cd crates/byte_classes && rt fmt)
 END
 }
 
 if [ $# -eq 0 ]; then
-  cd "$top"
-  rt check byte_table > "$work/log" 2>&1 || { tail -n 20 "$work/log"; renewing; echo "tests/byte_table.sh: rt check byte_table failed"; exit 1; }
+  (cd "$top/crates/byte_table" && rt run < /dev/null) > "$work/log" 2>&1 || { tail -n 20 "$work/log"; renewing; echo "tests/byte_table.sh: rt run in crates/byte_table failed"; exit 1; }
 fi
-program=${1:-$top/target/bin/byte_table}
-[ -x "$program" ] || { echo "tests/byte_table.sh: there is no program $program; rt check byte_table makes it" >&2; exit 2; }
+program=${1:-$top/crates/byte_table/out/byte_table}
+[ -x "$program" ] || { echo "tests/byte_table.sh: there is no program $program; rt run in crates/byte_table makes it" >&2; exit 2; }
 program=$(readlink -f "$program")
 . "$top/tests/lib.sh"
 cd "$work"
@@ -32,6 +32,10 @@ differs() { ! cmp -s "$1" "$2"; }
 printed() {
   timeout 20 "$program" > printed 2> error < /dev/null || true
   holds "nothing on standard error" test ! -s error
+  mkdir -p crate/src
+  cp printed crate/src/table.rt
+  (cd crate && rt fmt > ../layout 2>&1) || cat layout
+  mv crate/src/table.rt printed
   holds "$kept is what the program prints" cmp "$top/$kept" printed
 }
 

@@ -33,6 +33,29 @@ silent() { holds "nothing on standard output" test ! -s "$work/out"; }
 quiet() { holds "nothing on standard error" test ! -s "$work/err"; }
 mentions() { holds "standard error mentions: $1" grep -qF -e "$1" "$work/err"; }
 
+# ---- copies
+
+# A copy of the repository's crates, all of them or those named: their files, without what rt keeps. Checks in it begin with what
+# others on this machine have kept of the same crates, and prove what is new.
+copy_crates() { # FOLDER [CRATE...]
+  mkdir -p "$1"
+  tar -C "$top" -c --anchored --no-wildcards-match-slash --exclude='crates/*/out' crates | tar -x -C "$1"
+  if [ $# -eq 1 ]; then cp "$top/crates.txt" "$1/"; return; fi
+  local dir=$1 path name
+  shift
+  for path in "$dir"/crates/*; do
+    case " $* " in *" ${path##*/} "*) ;; *) rm -rf "$path" ;; esac
+  done
+  for name; do grep -E "^$name( [a-z]+)?:" "$top/crates.txt"; done > "$dir/crates.txt"
+}
+
+# Checks a crate and all that it needs, in a copy, some crates at a time; how each came out stands at the end of what is printed.
+check() { # FOLDER CRATE AT-ONCE
+  (cd "$1/crates/$2" && rt all check --jobs "$3")
+}
+
+at_once() { echo "${JOBS:-$(nproc)}"; }
+
 # ---- the simulator
 
 # The independent simulator behind the library's interface. Not with panic=abort: some of the Rust crate's tests are panics that

@@ -3,13 +3,13 @@
 # simulator (`compare print`), to the outputs stored in examples/ and to bytes that document 01 prints. Exits non-zero on any
 # failure.
 #
-#   tests/program.sh [PROGRAM]     PROGRAM is target/bin/run_record (made by `rt check run_record`) unless named
+#   tests/program.sh [PROGRAM]     PROGRAM is crates/run_record/out/run_record (made by rt ci, or by `rt run` there) unless named
 #
 # With PTI_COMPARE set, that `compare` is the simulator's; else it is built from tests/compare.
 set -euo pipefail
 top=$(cd "$(dirname "$0")/.." && pwd)
-program=${1:-$top/target/bin/run_record}
-[ -x "$program" ] || { echo "tests/program.sh: there is no program $program; rt check run_record makes it" >&2; exit 2; }
+program=${1:-$top/crates/run_record/out/run_record}
+[ -x "$program" ] || { echo "tests/program.sh: there is no program $program; rt ci makes it, or rt run in crates/run_record" >&2; exit 2; }
 program=$(readlink -f "$program")
 cd "$top"
 
@@ -303,11 +303,11 @@ tree=$work/tree
 
 # A tree like this one, with the program that is tested.
 make_tree() { # DIR
-  mkdir -p "$1/crates" "$1/target/bin"
+  mkdir -p "$1/crates/run_record/out"
   cp record setup.sh crates.txt "$1/"
   ln -s "$top/docs" "$top/examples" "$1/"
-  cp "$program" "$1/target/bin/run_record"
-  touch "$1/target/bin/run_record"
+  cp "$program" "$1/crates/run_record/out/run_record"
+  touch "$1/crates/run_record/out/run_record"
 }
 
 says() { has "standard error: $*" "$work/err" "${@/#/record: }"; }
@@ -443,7 +443,7 @@ stand_in_rt() { # EXIT-STATUS
 echo "\$*" >> "$work/rt/calls"
 echo "what rt says"
 cat > /dev/null
-mkdir -p target/bin && cp "$program" target/bin/run_record
+mkdir -p out && cp "$program" out/run_record
 exit $1
 EOF
   chmod +x "$work/rt/rt"
@@ -454,21 +454,21 @@ calls() { holds "rt was called $1 times" test "$(wc -l < "$work/rt/calls")" -eq 
 
 script_builds() {
   local tool PATH=$work/rt:$PATH
-  rm -r "$tree/target"
+  rm -r "$tree/crates/run_record/out"
   stand_in_rt 1
-  runs 2 ./record examples/drive/net examples/drive/a.log; silent; mentions "rt check run_record failed"; calls 1
+  runs 2 ./record examples/drive/net examples/drive/a.log; silent; mentions "which proves and builds the program, failed"; calls 1
   stand_in_rt 0
   whole examples/drive/net examples/drive/a.log > "$input"
-  runs 0 ./record < "$input"; same "after building" examples/drive/a.out "$work/out"; mentions "proving and building"; mentions "record: proved: "; calls 1
-  has "what rt was asked" "$work/rt/calls" "check run_record"
-  has "what rt said" "$tree/target/record.log" "what rt says"
-  runs 0 ./record < "$input"; quiet; calls 1
-  touch "$tree/crates/changed"
-  runs 0 ./record < "$input"; mentions "proving and building"; calls 2
+  JOBS=3 runs 0 ./record < "$input"; same "after building" examples/drive/a.out "$work/out"; mentions "proving and building"; mentions "record: proved: "; calls 2
+  has "what rt was asked" "$work/rt/calls" "all check --jobs 3" run
+  has "what rt said" "$tree/target/record.log" "what rt says" "what rt says"
   runs 0 ./record < "$input"; quiet; calls 2
+  touch "$tree/crates/changed"
+  runs 0 ./record < "$input"; mentions "proving and building"; calls 4
+  runs 0 ./record < "$input"; quiet; calls 4
   mkdir "$work/tools"
   for tool in sh dirname readlink find head mktemp rm; do ln -s "$(command -v "$tool")" "$work/tools/"; done
-  rm -r "$tree/target"
+  rm -r "$tree/crates/run_record/out"
   PATH=$work/tools runs 2 ./record < "$input"; silent; mentions "not on the PATH"
 }
 

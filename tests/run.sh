@@ -17,8 +17,8 @@
 #   tests/run.sh --bench   the benchmarks besides
 #   tests/run.sh --alone   without the library: unit tests, and the simulator by brute force and on guarded pages
 #
-# With PTI_LIB_DIR set, the libpti.a of that folder is tested; else rt proves and builds it first. What the tests of the tests
-# see is tried apart from this, by tests/compare/mutants.sh.
+# With PTI_LIB_DIR set, the libpti.a of that folder is tested; else ./library proves and builds it first. With PTI_BYTE_TABLE set,
+# that program prints the table of bytes. What the tests of the tests see is tried apart from this, by tests/compare/mutants.sh.
 set -euo pipefail
 top=$(cd "$(dirname "$0")/.." && pwd)
 cd "$top"
@@ -43,7 +43,7 @@ if [ "$alone" = yes ]; then
 else
   features=(--features lib)
   if [ -z "${PTI_LIB_DIR:-}" ]; then
-    rt staticlib pti
+    ./library
     PTI_LIB_DIR=$top/target/staticlib
   fi
   export PTI_LIB_DIR
@@ -90,7 +90,7 @@ if [ "$alone" = yes ]; then
   stage "brute force" brute
   stage "guarded" guarded
 else
-  stage "byte table" tests/byte_table.sh
+  stage "byte table" tests/byte_table.sh ${PTI_BYTE_TABLE:+"$PTI_BYTE_TABLE"}
   # The brute force takes the second processor meanwhile.
   brute_log=$(mktemp)
   stage "brute force" brute > "$brute_log" 2>&1 &

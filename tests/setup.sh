@@ -1,6 +1,6 @@
 #!/usr/bin/env bash
-# The set-up of the command pti, as the script `pti` does it: what it proves and builds, when, and what it says of that; and that
-# the command then gets what the script was given. Stand-ins for rt and cargo note their calls, so that nothing is proved here.
+# The set-up of the command pti, as the scripts `pti` and `library` do it: what it proves and builds, when, and what it says of that;
+# and that the command then gets what the script was given. Stand-ins for rt and cargo note their calls, so that nothing is proved here.
 # Exits non-zero on any failure.
 set -euo pipefail
 # A signal that is ignored around this would be ignored in the scripts that it tries, where ^C and others must be heard.
@@ -16,11 +16,11 @@ tree="$work/a tree"
 make_tree() {
   local name
   mkdir -p "$tree/rust/command" "$tree/docs" "$work/tmp"
-  cp pti setup.sh "$tree/"
+  cp pti library setup.sh "$tree/"
   cp rust/command/Cargo.toml "$tree/rust/command/"
   cp docs/REFUSALS.txt "$tree/docs/"
-  printf '%s\n' '# what: this is' spec: 'one: spec' 'two: spec io' 'three: one two # both' 'four: three' 'other: pti' 'pti: four libc' > "$tree/crates.txt"
-  for name in spec one two three four other pti; do
+  printf '%s\n' '# what: this is' spec: 'one: spec' 'two: spec json' 'three: one two # both' 'four: three' 'other: pti' 'pti: four' 'pti_c staticlib: pti spec' > "$tree/crates.txt"
+  for name in spec one two three four other pti pti_c; do
     mkdir -p "$tree/crates/$name/src"
     echo "$name" > "$tree/crates/$name/src/lib.rt"
   done
@@ -31,18 +31,22 @@ make_tools() {
   mkdir "$work/bin"
   printf '#!/bin/sh\nwork=%q\n' "$work" | tee "$work/bin/rt" "$work/bin/cargo" "$work/bin/rustc" "$work/bin/cc" > "$work/command"
   cat >> "$work/bin/rt" <<'EOT'
-echo "rt $*" >> "$work/calls"
+echo "rt $* in ${PWD##*/}" >> "$work/calls"
 cat > /dev/null
 mode=$(cat "$work/mode")
 hang() { sleep 30 & echo "$$ $!" > "$work/pids"; mktemp > /dev/null; wait; }
+all="spec one two three four pti pti_c"
 case $1-$mode in
   *-hang) hang ;;
-  check-refused) echo "crates/one/src/lib.rt:3:5: error: not so"; echo "rt: one NOT PROVED (exit 1, 0 s)"; exit 1 ;;
-  check-slow) shift; for name; do sleep 0.5; echo "rt: $name proved (1 s)"; done ;;
-  check-brief) sleep 0.7 ;;
-  check-*) shift; for name; do echo "rt: $name proved (unchanged since it was last proved)"; done ;;
-  staticlib-cut) mkdir -p target/staticlib; echo cut > target/staticlib/libpti.a; exit 2 ;;
-  staticlib-*) mkdir -p target/staticlib; echo whole > target/staticlib/libpti.a ;;
+  all-refused)
+    printf '%s\n' "== spec" "== one" "src/lib.rt:3:5: error: not so" "fn one::it: no proof: \`search\` did not prove" logic=not-proved
+    printf '%s\n' "== summary" "spec: ok" "one: failed (1)" "two: not run, since one failed" "1 of 7 crates ok"
+    exit 1 ;;
+  all-slow) for name in $all; do sleep 0.5; printf '%s\n' "== $name" "fn $name::it: proved" "logic=proved functions=1"; done ;;
+  all-brief) sleep 0.7 ;;
+  all-*) for name in $all; do echo "== $name"; done ;;
+  lib-cut) mkdir -p out; echo cut > out/libpti_c.a; exit 2 ;;
+  lib-*) mkdir -p out; echo whole > out/libpti_c.a ;;
 esac
 EOT
   cat >> "$work/bin/cargo" <<'EOT'
@@ -71,7 +75,7 @@ called() { # WORD...: rt and cargo were called so, and no more often
   if [ $# -eq 0 ]; then holds "nothing was called" test ! -s "$work/words"; else has "called: $*" "$work/words" "$@"; fi
 }
 left_behind() { holds "nothing is left in the folder of temporary files" test -z "$(ls -A "$work/tmp")"; }
-afresh() { rm -rf "$tree/target"; mode "$1"; }
+afresh() { rm -rf "$tree/target" "$tree"/crates/*/out; mode "$1"; }
 
 # ---- when it proves and builds
 
@@ -81,10 +85,12 @@ first_use() {
   runs 0 ./pti word < "$work/input"
   { echo '[word]'; cat "$work/input"; } > "$work/wanted"
   same "the command's output, and standard input" "$work/wanted" "$work/out"
-  mentions "pti: proving and building the command"; mentions "pti: proved: 6 crates"; mentions "$tree/target/setup.log"
-  called check staticlib cargo
-  holds "the crates that it needs, and no other" grep -qx 'rt check spec one two three four *' "$work/calls"
-  holds "what rt said" grep -q '^rt: four proved' "$tree/target/setup.log"
+  mentions "pti: proving and building the command"; mentions "pti: proved: 7 crates"; mentions "$tree/target/setup.log"
+  called all lib cargo
+  holds "the crates that it needs, and no other" grep -qxE 'rt all check --jobs [1-9][0-9]* in pti_c' "$work/calls"
+  holds "the library of that crate" grep -qx 'rt lib in pti_c' "$work/calls"
+  has "the library" "$tree/target/staticlib/libpti.a" whole
+  holds "what rt said" grep -qx '== four' "$tree/target/setup.log"
   mode plain
   runs 0 ./pti word < "$work/input"; same "the same again" "$work/wanted" "$work/out"; quiet; called
   left_behind
@@ -94,22 +100,37 @@ changes() {
   local file
   for file in crates/one/src/lib.rt crates/two/src/new.rt crates.txt; do
     mode plain; touch "$tree/$file"
-    runs 0 ./pti < /dev/null; mentions proving; called check staticlib cargo
+    runs 0 ./pti < /dev/null; mentions proving; called all lib cargo
   done
   mode plain; rm "$tree/crates/two/src/new.rt"
-  runs 0 ./pti < /dev/null; called check staticlib cargo
+  runs 0 ./pti < /dev/null; called all lib cargo
   for file in rust/command/main.rs rust/command/Cargo.toml docs/REFUSALS.txt; do
     mode plain; touch "$tree/$file"
     runs 0 ./pti < /dev/null; mentions "building the command"; called cargo
   done
-  mode plain; touch "$tree/README.md"
+  mode plain; touch "$tree/README.md" "$tree/crates/pti_c/out/libpti_c.a" "$tree/crates/pti_c/out" "$tree/crates/pti_c"
   runs 0 ./pti < /dev/null; quiet; called
+}
+
+# The script `library` makes the library alone, and the command is then built over it.
+library_alone() {
+  afresh plain
+  runs 0 ./library; silent; mentions "library: proving and building the library"; mentions "library: proved: 7 crates"; called all lib
+  has "the library" "$tree/target/staticlib/libpti.a" whole
+  mode plain
+  runs 0 ./library; silent; quiet; called
+  runs 0 ./pti < /dev/null; called cargo
+  mode cut; touch "$tree/crates/one/src/lib.rt"
+  runs 2 ./library; silent; called all lib; mentions "$tree/target/library.log"
+  mode plain
+  runs 0 ./library; called all lib
+  left_behind
 }
 
 # In a pipe both are started at once.
 two_at_once() {
   afresh brief
-  runs 0 sh -c './pti first < /dev/null | ./pti second'; prints '[second]' '[first]'; called check staticlib cargo
+  runs 0 sh -c './pti first < /dev/null | ./pti second'; prints '[second]' '[first]'; called all lib cargo
   mentions "waiting for another set-up"
 }
 
@@ -117,11 +138,11 @@ two_at_once() {
 
 failures() {
   afresh refused
-  runs 2 ./pti word; silent; mentions "$tree/target/setup.log"; mentions "lib.rt:3:5: error: not so"; mentions "one NOT PROVED"; called check
+  runs 2 ./pti word; silent; mentions "$tree/target/setup.log"; mentions "lib.rt:3:5: error: not so"; mentions "one: failed (1)"; called all
   mode cut
-  runs 2 ./pti word; silent; mentions "$tree/target/setup.log"; called check staticlib
+  runs 2 ./pti word; silent; mentions "$tree/target/setup.log"; called all lib
   mode broken
-  runs 2 ./pti word; silent; mentions "cargo build failed: see $tree/target/setup.log"; mentions "expected a semicolon"; called check staticlib cargo
+  runs 2 ./pti word; silent; mentions "cargo build failed: see $tree/target/setup.log"; mentions "expected a semicolon"; called all lib cargo
   mode plain
   runs 0 ./pti < /dev/null; called cargo
   mode broken; touch "$tree/rust"
@@ -175,14 +196,14 @@ progress() {
   afresh slow
   runs 0 ./pti < /dev/null
   grep -o 'pr[a-z]*: [0-9].*crates' "$work/err" > "$work/lines"
-  holds "lines on the way" grep -qxE 'proving: [1-4] of 6 crates' "$work/lines"
+  holds "lines on the way" grep -qxE 'proving: [1-5] of 7 crates' "$work/lines"
   holds "no line twice" test -z "$(sort "$work/lines" | uniq -d)"
-  holds "the last line" test "$(tail -n 1 "$work/lines")" = "proved: 6 crates"
+  holds "the last line" test "$(tail -n 1 "$work/lines")" = "proved: 7 crates"
   holds "no byte 13" test "$(grep -c $'\r' "$work/err")" -eq 0
   afresh slow
   # On a terminal of its own, which `script` makes.
   runs 0 script -qec './pti < /dev/null' /dev/null < /dev/null
-  holds "one line, written again" grep -qE $'\rpti: proving: [1-4] of 6 crates *\rpti: proving: [2-5] of 6 crates' "$work/out"
+  holds "one line, written again" grep -qE $'\rpti: proving: [1-5] of 7 crates *\rpti: proving: [2-6] of 7 crates' "$work/out"
 }
 
 # About how long is left, of given crates: $1 is the time that took, and the others are parts in it.
@@ -197,7 +218,8 @@ estimates() {
   holds "half, and a while later" test "$(time_left 120 500 500 60)" = "about a minute left"
   holds "nearly all" test "$(time_left 300 900 100 0)" = "less than a minute left"
   holds "later than was said" test "$(time_left 300 900 100 999)" = "less than a minute left"
-  printf '%s\n' 'rt: spec proved (9 s)' 'rt: one proved (unchanged since it was last proved)' 'rt: other proved (1 s)' 'rt: one proved (1 s)' 'rt: two NOT PROVED (exit 1, 3 s)' > "$work/log"
+  printf '%s\n' 'only=0 proved=0' '== spec' 'fn spec::it: proved' 'logic=proved functions=1' '== one' 'rt: one: begins with what a check kept in /a/folder' '== other' 'logic=proved functions=1' '== one' 'logic=proved functions=1' \
+    '== two' 'fn two::it: no proof' 'logic=not-proved' '== summary' 'pti: not run, since two failed' > "$work/log"
   (me=pti top=$tree; . ./setup.sh; planned=$(printf '%s\n' 'spec 30' 'one 20' 'two 7' 'pti 5'); counted "$work/log") > "$work/out"
   prints '2 4 30 12'
 }
@@ -229,7 +251,7 @@ interrupted() { # SIGNAL STATUS
   silent; mentions "interrupted"; left_behind
   holds "$1 ends what rt has started" all_gone
   mode plain
-  runs 0 ./pti < /dev/null; called check staticlib cargo
+  runs 0 ./pti < /dev/null; called all lib cargo
 }
 
 on_terminal() {
@@ -245,7 +267,7 @@ on_terminal() {
 unread() {
   afresh slow
   runs 0 sh -c './pti 2>&1 < /dev/null | head -n 1'; holds "the first line" grep -q '^pti: proving' "$work/out"
-  called check
+  called all
   left_behind
 }
 
@@ -264,7 +286,7 @@ passes_on() {
   runs 0 sh -c 'cd / && "$1" where' sh "$work/link"; prints /
   runs 0 sh -c 'cd .. && "./a tree/pti" where'; prints "$(cd "$work" && pwd -P)"
   afresh plain
-  runs 0 sh -c 'cd / && "$1" where' sh "$work/link"; prints /; called check staticlib cargo
+  runs 0 sh -c 'cd / && "$1" where' sh "$work/link"; prints /; called all lib cargo
   "$tree/pti" ready > "$work/said" & id=$!
   holds "the command is under way" await "$work/said"
   kill -TERM "$id"
@@ -278,6 +300,7 @@ make_tools
 export PATH=$work/bin:$PATH TMPDIR=$work/tmp
 first_use
 changes
+library_alone
 two_at_once
 failures
 missing_tools

@@ -1,4 +1,4 @@
-//! Links libpti.a from the folder PTI_LIB_DIR, or from target/staticlib of this repository, where `rt staticlib pti` writes it.
+//! Links libpti.a from the folder PTI_LIB_DIR, or from target/staticlib of this repository, where `./library` writes it.
 
 use std::env;
 use std::path::{Path, PathBuf};
@@ -13,6 +13,6 @@ fn main() {
     println!("cargo:rustc-link-lib=static=pti");
     // `cargo doc` and `cargo check` do without it.
     if !library.exists() {
-        println!("cargo:warning=there is no {}: `rt staticlib pti` makes it, and PTI_LIB_DIR names another folder of it", library.display());
+        println!("cargo:warning=there is no {}: `./library` makes it, and PTI_LIB_DIR names another folder of it", library.display());
     }
 }

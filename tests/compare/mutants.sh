@@ -5,7 +5,7 @@
 #
 #   tests/compare/mutants.sh [--alone] [NAME...]     all mutants, or those named; JOBS at a time (2)
 #
-# With PTI_LIB_DIR set, the libpti.a of that folder is taken; else rt proves and builds it first. With --alone the simulator as
+# With PTI_LIB_DIR set, the libpti.a of that folder is taken; else ./library proves and builds it first. With --alone the simulator as
 # it stands takes the library's place, so that what the cases see can be tried where there is no library.
 set -euo pipefail
 here=$(cd "$(dirname "$0")" && pwd)
@@ -20,7 +20,7 @@ features=(--features lib) subject=
 if [ "$alone" = yes ]; then
   features=() subject="--subject $work/unchanged/libpti.so"
 elif [ -z "${PTI_LIB_DIR:-}" ]; then
-  (cd "$top" && rt staticlib pti)
+  "$top/library"
   PTI_LIB_DIR=$top/target/staticlib
 fi
 export PTI_LIB_DIR CARGO_TARGET_DIR=$top/target/compare

@@ -4,7 +4,7 @@
 # the C tour are also linked with the independent simulator behind the same interface, so that what is written out and stored
 # rests on more than the library. Exits non-zero on any failure.
 #
-# With PTI_LIB_DIR set, the libpti.a of that folder is linked; else rt proves and builds it first.
+# With PTI_LIB_DIR set, the libpti.a of that folder is linked; else ./library proves and builds it first.
 set -euo pipefail
 top=$(cd "$(dirname "$0")/../.." && pwd)
 cd "$top"
@@ -12,7 +12,7 @@ work=$(mktemp -d)
 trap 'rm -rf "$work"' EXIT
 
 if [ -z "${PTI_LIB_DIR:-}" ]; then
-  rt staticlib pti
+  ./library
   PTI_LIB_DIR=$top/target/staticlib
 fi
 [ -f "$PTI_LIB_DIR/libpti.a" ] || { echo "tests/link/run.sh: there is no $PTI_LIB_DIR/libpti.a" >&2; exit 2; }
