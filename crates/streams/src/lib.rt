@@ -28,6 +28,7 @@ pub enum Output {
 // One read, made again where a signal interrupts it. A proved loop has to end, so the turns are counted up to a number
 // that no run uses up.
 fn read_once<R: Read>(from: &mut R, buf: &mut [u8]) -> io::Result<usize>
+    ensures same { length buf.new ≡ length buf.old }
     ensures bound { ReadsAtMost result buf.new }
     ensures ok { IfOk result (λ n. Consumes (R.remaining from.old) (R.remaining from.new) (take n buf.new)) }
     ensures end { IfOk result (λ n. n ≡ 0 → 0 < length buf.old → IsAtEnd (R.remaining from.new)) }
@@ -49,12 +50,12 @@ fn read_once<R: Read>(from: &mut R, buf: &mut [u8]) -> io::Result<usize>
 
 // The same into the buffer from `at` on.
 fn read_some<R: Read>(from: &mut R, buf: &mut [u8], at: usize) -> io::Result<usize>
-    requires { at < length buf.old }
+    requires { at ≤ length buf.old }
     ensures same { length buf.new ≡ length buf.old }
     ensures front { take at buf.new ≡ take at buf.old }
     ensures fits { IfOk result (λ n. at + n ≤ length buf.new) }
     ensures ok { IfOk result (λ n. Consumes (R.remaining from.old) (R.remaining from.new) (take n (drop at buf.new))) }
-    ensures end { IfOk result (λ n. n ≡ 0 → IsAtEnd (R.remaining from.new)) }
+    ensures end { IfOk result (λ n. n ≡ 0 → at < length buf.old → IsAtEnd (R.remaining from.new)) }
     ensures err { OnErr result (Keeps (R.remaining from.old) (R.remaining from.new)) }
     ensures retried { IfErr result (λ e. error_kind e ≢ ErrorKind.Interrupted) }
 {
