@@ -16,9 +16,11 @@ use Rattle.reach.specs.declared.Row.{Row}
 use Rattle.reach.specs.Rows.{row_of, cell_of}
 use Rattle.row_facts.specs.Counts.{Ready}
 use Rattle.row_independence.specs.Pairs.{independent_pairs, ordered, synchronous_pairs}
-use Rattle.row_independence.specs.Ordered.{path-bit, path-size}
-use Rattle.row_independence.specs.Balance.{pairs_of, in_rows, loops_of, balance, none_below, none-synchronous}
-use Rattle.row_independence.specs.Alike.{ByRows, Counted, alike_size}
+use Rattle.row_independence.proofs.Ordered.{path-bit, path-size}
+use Rattle.row_independence.specs.Balance.{pairs_of, in_rows, loops_of}
+use Rattle.row_independence.proofs.Balance.{balance, none_below, none-synchronous}
+use Rattle.row_independence.specs.Alike.{ByRows, Counted}
+use Rattle.row_independence.proofs.Alike.{alike_size}
 
 -- ---- the events synchronous with e
 

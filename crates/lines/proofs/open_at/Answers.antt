@@ -1,5 +1,6 @@
 -- `lines::open_at` meets its contract: where two bytes stand in front of the last line end, each has the entry that the
 -- table gives; else the answer tells nothing.
+use Prim.Native.Nat.{◌+◌}
 use mathlib.Core.Path.{sym}
 use native.Mathlib.Omega.{arith}
 use borrow.Author.Tests.{lt-ltb, le-ltb}
@@ -18,10 +19,10 @@ pub entry_of-requires : goal.entry_of-requires
 entry_of-requires c = c.requires.0
 
 pub bounds-s-second : goal.bounds-s-second
-bounds-s-second c = omega (arith, c.requires.2, c.if-c-second.false)
+bounds-s-second c = omega (arith, c.requires.2)
 
 pub entry_of-requires-2 : goal.entry_of-requires-2
 entry_of-requires-2 c = c.requires.0
 
 pub returns : goal.returns
-returns c = rw (lt-ltb _ _ c.if-c-second.false, c.entry_of.ensures, c.entry_of-2.ensures)
+returns c = rw (lt-ltb (c.args.c.at + 1) c.args.c.ended (omega arith), c.entry_of.ensures, c.entry_of-2.ensures)
