@@ -42,7 +42,8 @@ try() { # EDIT
   grep -qx 'spec: ok' "$log" || { echo "mutant $name: the edit is no definition"; tail -n 3 "$log"; return 1; }
   # refused by the prover, and not stopped for another reason
   grep -qxE '(lists|order|runs|rounding|energies): failed \(1\)' "$log" || { echo "mutant $name: the theorems were not tried"; tail -n 3 "$log"; return 1; }
-  echo "mutant $name: refused, as it must be"
+  # by what: the first file and theorem that fail
+  echo "mutant $name: refused, as it must be: $(grep -m 1 -oE '^[^ ]+\.antt:[0-9]+:[0-9]+: error: `[^`]*`' "$log" || true)"
   rm -rf "$dir"
 }
 export -f copy copy_crates check try

@@ -228,24 +228,31 @@ each_return() { # byte 13 at every place of an input
 
 # ---- reading and writing
 
-# Where standard input cannot be read nothing is printed, and standard error says why.
+# Where standard input cannot be read nothing is printed, standard error says why, and the exit status is 1.
 unreadable() {
-  local printed
-  printed=$(timeout 20 "$program" < / 2> "$work/error") || true
+  local printed status=0
+  printed=$(timeout 20 "$program" < / 2> "$work/error") || status=$?
   holds "a directory: nothing printed" test -z "$printed"
   holds "a directory: said so" grep -q '^run_record: standard input: ' "$work/error"
-  printed=$(timeout 20 "$program" <&- 2> "$work/error") || true
+  holds "a directory: status 1" test "$status" -eq 1
+  status=0
+  printed=$(timeout 20 "$program" <&- 2> "$work/error") || status=$?
   holds "standard input closed: nothing printed" test -z "$printed"
   holds "standard input closed: said so" grep -q '^run_record: standard input: ' "$work/error"
+  holds "standard input closed: status 1" test "$status" -eq 1
 }
 
 unwritable() {
   local status=0
   whole examples/drive/net examples/drive/a.log > "$input"
-  timeout 20 "$program" < "$input" > /dev/full 2> "$work/error" || true
+  timeout 20 "$program" < "$input" > /dev/full 2> "$work/error" || status=$?
   holds "a full device: said so" grep -q '^run_record: standard output: ' "$work/error"
-  timeout 20 "$program" < "$input" 2> "$work/error" >&- || true
+  holds "a full device: status 1" test "$status" -eq 1
+  status=0
+  timeout 20 "$program" < "$input" 2> "$work/error" >&- || status=$?
   holds "standard output closed: said so" grep -q '^run_record: standard output: ' "$work/error"
+  holds "standard output closed: status 1" test "$status" -eq 1
+  status=0
   # A pipe that nobody reads: its writer is ended by the system or, where that signal is ignored, says so.
   { sleep 0.2; timeout 20 "$program" < "$input" 2> "$work/error" || status=$?; echo "$status" > "$work/status"; } | true
   holds "a closed pipe: ended" grep -qxE '0|141' "$work/status"
