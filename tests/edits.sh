@@ -3,8 +3,36 @@
 # the crates. The prover must refuse each.
 #
 #   tests/edits.sh [CRATE...]     all of them, or those of the crates named
+#   tests/edits.sh --fit          only whether each still fits: each old text stands once, with those before it replaced
 set -euo pipefail
 top=$(cd "$(dirname "$0")/.." && pwd)
+
+fit() {
+  cd "$top/crates"
+  perl -e '
+    my $misfits = 0;
+    for my $edit (@ARGV) {
+      my ($crate, $file, %text) = $edit =~ m{^(.*)/more-edits/};
+      open my $lines, "<", $edit or die "$edit: $!\n";
+      while (my $line = <$lines>) {
+        if ($line =~ /^file: (.*)/) {
+          $file = $1;
+          $text{$file} //= do { local $/; open my $in, "<", "$crate/$file" or die "$edit: $crate/$file: $!\n"; <$in> };
+        } elsif ($line =~ /^old: (.*)/) {
+          my $old = $1;
+          my ($new) = <$lines> =~ /^new: ?(.*)/ or die "$edit: no new text\n";
+          my $times = () = $text{$file} =~ /\Q$old\E/g;
+          $text{$file} =~ s/\Q$old\E/$new/;
+          if ($times != 1) { print "$edit: an old text stands $times times in $file\n"; $misfits++ }
+        }
+      }
+    }
+    printf "tests/edits.sh: %d edits, %d of them do not fit\n", scalar @ARGV, $misfits;
+    exit($misfits ? 1 : 0)' */more-edits/*.edit
+}
+
+if [ "${1:-}" = --fit ]; then fit; exit; fi
+
 work=$(mktemp -d)
 trap 'rm -rf "$work"' EXIT
 . "$top/tests/lib.sh"
