@@ -253,9 +253,10 @@ unwritable() {
   holds "standard output closed: said so" grep -q '^run_record: standard output: ' "$work/error"
   holds "standard output closed: status 1" test "$status" -eq 1
   status=0
-  # A pipe that nobody reads: its writer is ended by the system or, where that signal is ignored, says so.
+  # A pipe that nobody reads: its writer is not ended by a signal, and says so.
   { sleep 0.2; timeout 20 "$program" < "$input" 2> "$work/error" || status=$?; echo "$status" > "$work/status"; } | true
-  holds "a closed pipe: ended" grep -qxE '0|141' "$work/status"
+  holds "a closed pipe: said so" grep -q '^run_record: standard output: ' "$work/error"
+  holds "a closed pipe: status 1" grep -qx 1 "$work/status"
   (trap '' PIPE; { sleep 0.2; timeout 20 "$program" < "$input" 2> "$work/error"; } | true) || true
   holds "a closed pipe, signal ignored: said so" grep -q '^run_record: standard output: ' "$work/error"
 }
