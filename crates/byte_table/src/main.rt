@@ -1,5 +1,5 @@
-// Prints the text that byte_classes keeps as its table, so that no hand writes it: every number comes from the range rule
-// of `entry_of`, and none from the table.
+// Prints the text that byte_classes keeps, laid out by `rt fmt`, as its table, so that no hand writes it: every number comes
+// from the range rule of `entry_of`, and none from the table.
 #![tactic(auto)]
 
 ghost use Rattle.std.specs.Prelude.{◌≡◌, ◌+◌, ◌≤◌, length, take};
