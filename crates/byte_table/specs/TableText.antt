@@ -1,5 +1,5 @@
--- The text of the table of bytes, which the source keeps as `rt fmt` lays it out: a line for each byte with its entry, and behind them the byte
--- that ends a line.
+-- The text of the table of bytes, which the source keeps as `rt fmt` lays it out: a line for each byte with its entry, and
+-- behind them the byte that ends a line.
 use Rattle.std.specs.Prelude.{ℕ, List, ◌++◌, map}
 use Rattle.spec.specs.Lists.{up_to, flat}
 use Rattle.spec.specs.Text.{digits}
