@@ -55,10 +55,8 @@ pub fn sizes_all(step: &[u8; STEP], count: usize, sets: &[u64; SETS], at: usize)
     ensures { (result ≡ sum_of (size_of sets.now at) (take count step.now)) × (result ≤ 512 * count) }
 {
     let mut r: usize = 0;
-    let mut i: usize = 0;
-    while i < count {
-        r += row_size(sets, at + wide(step[i]));
-        i += 1;
+    for &t in &step[..count] {
+        r += row_size(sets, at + wide(t));
     }
     r
 }
@@ -69,11 +67,9 @@ pub fn own_all(step: &[u8; STEP], count: usize, sets: &[u64; SETS]) -> usize
     ensures { (result ≡ sum_of (both_of sets.now) (take count step.now)) × (result ≤ 512 * count) }
 {
     let mut r: usize = 0;
-    let mut i: usize = 0;
-    while i < count {
-        let t = wide(step[i]);
+    for &id in &step[..count] {
+        let t = wide(id);
         r += weights_in(sets, MADE + t, sets[MADE + t] & sets[GUARDS + t]);
-        i += 1;
     }
     r
 }
@@ -84,10 +80,8 @@ pub fn products(counts: &[u32; COUNTS], m: usize) -> usize
     ensures { (result ≡ products_of counts.now m) × (result ≤ 6553600 * m) }
 {
     let mut r: usize = 0;
-    let mut p: usize = 0;
-    while p < m {
+    for p in 0..m {
         r += wide_word(counts[p]) * wide_word(counts[WATCHED + p]);
-        p += 1;
     }
     r
 }
