@@ -10,7 +10,8 @@ ghost use Rattle.conditions.specs.Conditions.{tokens_of, taken_next, made_next, 
 ghost use Rattle.conditions.specs.Conditions.{free_at, FirstFree, fresh, ReadyAt, TookAt, MadeAt};
 ghost use Rattle.record_columns.specs.Layout.{record_bytes};
 
-use arc_sets::{MADE, SETS, lowest, set_at, weight};
+use arc_sets::{MADE, SETS, set_at, weight};
+use bit_sets::members;
 use machine_numbers::{wide, wide_word};
 use record_columns::{CONSUMERS, NO_EVENT, PLACES, PRODUCERS};
 use run_counts::COUNTS;
@@ -94,11 +95,8 @@ fn take_event(
     ensures { TookAt (tokens_of sets.now row e 64) n rec.old counts.old
         rec.new counts.new }
 {
-    let mut bits = set_at(sets, row);
-    while bits != 0 {
-        let p = lowest(bits);
+    for p in members(set_at(sets, row)) {
         take_times(e, p, weight(sets, row, p), n, rec, counts);
-        bits = bits & (bits ^ (1 << p));
     }
 }
 
@@ -146,11 +144,8 @@ fn make_event(e: usize, sets: &[u64; SETS], row: usize, n: usize, rec: &mut [u8]
         rec.old result rec.new }
 {
     let mut r = n;
-    let mut bits = set_at(sets, row);
-    while bits != 0 {
-        let p = lowest(bits);
+    for p in members(set_at(sets, row)) {
         r = make_times(e as u8, p, weight(sets, row, p), r, rec);
-        bits = bits & (bits ^ (1 << p));
     }
     r
 }

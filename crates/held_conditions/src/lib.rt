@@ -8,7 +8,7 @@ ghost use Rattle.condition_sets.specs.Sets.{InPlaces};
 ghost use Rattle.held_conditions.specs.Held.{earlier_at, consumer_in, producer_in, Coded, left_at, held_at};
 ghost use Rattle.held_conditions.specs.Held.{FirstOf, Joins, Passed, Readable, ReadsPlace, ReadsOf};
 
-use arc_sets::lowest;
+use bit_sets::members;
 use condition_sets::{SET, WORD};
 use machine_numbers::{wide, wide_half};
 use record_columns::{CONSUMERS, EVENTS, NO_EVENT, PLACES, PRODUCERS};
@@ -59,14 +59,7 @@ fn first_left(rec: &[u8], steps: &[u8; EVENTS], p: usize, e: usize, start: usize
     requires { (e < 128) × (start ≤ n) × (n ≤ conditions_most) × (record_bytes ≤ length rec.now) × Coded rec.now n }
     ensures { FirstOf (left_at rec.now steps.now p e) start n result }
 {
-    let mut c = start;
-    while c < n {
-        if left(rec, steps, p, e, c) {
-            return c;
-        }
-        c += 1;
-    }
-    c
+    (start..n).find(|&c| left(rec, steps, p, e, c)).unwrap_or(n)
 }
 
 // The first one that held, or n.
@@ -74,14 +67,7 @@ fn first_held(rec: &[u8], steps: &[u8; EVENTS], p: usize, e: usize, start: usize
     requires { (e < 128) × (start ≤ n) × (n ≤ conditions_most) × (record_bytes ≤ length rec.now) × Coded rec.now n }
     ensures { FirstOf (held_at rec.now steps.now p e) start n result }
 {
-    let mut c = start;
-    while c < n {
-        if held(rec, steps, p, e, c) {
-            return c;
-        }
-        c += 1;
-    }
-    c
+    (start..n).find(|&c| held(rec, steps, p, e, c)).unwrap_or(n)
 }
 
 // Condition c joins a set.
@@ -131,11 +117,8 @@ pub fn reads_of(
         × Passed rec.now steps.now e n nexts.new }
 {
     let mut reads = [0u64; SET];
-    let mut bits = places;
-    while bits != 0 {
-        let p = lowest(bits);
+    for p in members(places) {
         read_place(&mut reads, nexts, rec, steps, p, e, n);
-        bits = bits & (bits ^ (1 << p));
     }
     reads
 }

@@ -8,7 +8,8 @@ ghost use Rattle.arc_sets.specs.Sets.{row_count, read_at, weight_at, Within};
 ghost use Rattle.steps.specs.StepArrays.{IsStep, Within32};
 ghost use Rattle.run_counts.specs.Tally.{weighed, size_of, both_of, Countable, products_of};
 
-use arc_sets::{GUARDS, MADE, SETS, WEIGHTS, lowest, size, weight};
+use arc_sets::{GUARDS, MADE, SETS, WEIGHTS, size, weight};
+use bit_sets::members;
 use machine_numbers::{wide, wide_word};
 use steps::STEP;
 
@@ -25,11 +26,8 @@ fn weights_in(sets: &[u64; SETS], row: usize, set: u64) -> usize
     ensures { (result ≡ sum_of (weighed sets.now row set) (up_to 64)) × (result ≤ 512) }
 {
     let mut r: usize = 0;
-    let mut bits = set;
-    while bits != 0 {
-        let p = lowest(bits);
+    for p in members(set) {
         r += weight(sets, row, p);
-        bits = bits & (bits ^ (1 << p));
     }
     r
 }

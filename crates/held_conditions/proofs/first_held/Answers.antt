@@ -1,22 +1,14 @@
-use mathlib.Core.Path.{sym, ◌∙◌}
-use native.Mathlib.Omega.{arith}
+use mathlib.Core.Path.{◌≡◌}
+use mathlib.Core.Bool.{true, false}
+use Rattle.std.proofs.Common.{rules, tests}
+use Rattle.std.proofs.lemmas.Iterator.{first_from_Range}
 use Rattle.held_conditions.specs.Held.{held_at}
-use Rattle.held_conditions.proofs.Reading.{none_more}
+use Rattle.held_conditions.proofs.Finding.{first-found}
 use Rattle.held_conditions.proofs.first_held.Goals as goal
 
-pub loop-c-init : goal.loop-c-init
-loop-c-init c = (omega arith, omega arith, λ j l m. absurd (omega arith))
-
-pub held-requires : goal.held-requires
-held-requires c = (c.requires.0, omega (arith, c.requires.2), c.requires.3, c.requires.4.consumer c.loop-c.c (omega arith), c.requires.4.producer c.loop-c.c (omega arith))
-
-pub returns-then-held : goal.returns-then-held
-returns-then-held c =
-    record { from = omega arith; to = omega arith; none = c.loop-c.invariant.2; found = λ m. sym c.held.ensures ∙ c.if-held.true }
-
-pub loop-c-preserved : goal.loop-c-preserved
-loop-c-preserved c =
-    (omega arith, omega arith, none_more (held_at c.args.rec.now c.args.steps.now c.args.p c.args.e) c.args.start c.loop-c.c c.loop-c.invariant.2 (sym c.held.ensures ∙ c.if-held.false))
-
 pub returns : goal.returns
-returns c = record { from = omega arith; to = omega arith; none = c.loop-c.invariant.2; found = λ m. absurd (omega arith) }
+returns c =
+    let q = held_at c.args.rec.now c.args.steps.now c.args.p c.args.e in
+    first-found q _ c.requires.1 (first_from_Range _ _ _ _ (λ i. q i ≡ true) (λ i. q i ≡ false) c.find.ensures.ran
+    (λ x f m. search (rules, tests))
+    (λ x f m. (search (rules, tests), search (rules, tests)))) c.unwrap_or.ensures
