@@ -16,10 +16,10 @@ ghost use Rattle.record_writer.specs.Notes.{Consumer, SpotConsumer, PartConsumer
 ghost use Rattle.record_writer.specs.Notes.{run_notes, run_bytes, unmarked, Recorded};
 
 use arc_sets::{READ, SETS};
+use bit_sets::members;
 use condition_sets::{KNOWN, SET, WORD, WORDS, enter_places, ready};
 use held_conditions::{NEXTS, earlier, reads_of};
 use line_writer::{put_condition, put_event, put_mark};
-use machine_numbers::wide_word;
 use reach::raise;
 use record_columns::{
     CONSUMERS, Counts, EVENTS, MARK_WORDS, PLACES, PRODUCERS, is_after, mark_row, slot_of,
@@ -40,10 +40,8 @@ fn put_events(out: &mut [u8], at: usize, rec: &[u8], n: usize) -> usize
     ensures { Wrote out.old at (event_lines rec.now n) result out.new }
 {
     let mut next = at;
-    let mut e: usize = 0;
-    while e < n {
-        next = put_event(out, next, rec[e]);
-        e += 1;
+    for &t in &rec[..n] {
+        next = put_event(out, next, t);
     }
     next
 }
@@ -55,8 +53,7 @@ fn put_conditions(out: &mut [u8], at: usize, rec: &[u8], n: usize) -> usize
     ensures { Wrote out.old at (condition_lines rec.now n) result out.new }
 {
     let mut next = at;
-    let mut c: usize = 0;
-    while c < n {
+    for c in 0..n {
         next = put_condition(
             out,
             next,
@@ -64,7 +61,6 @@ fn put_conditions(out: &mut [u8], at: usize, rec: &[u8], n: usize) -> usize
             rec[PRODUCERS + c],
             rec[CONSUMERS + c],
         );
-        c += 1;
     }
     next
 }
@@ -197,16 +193,13 @@ fn put_part(
         out.old marks.old result out.new marks.new }
 {
     let mut next = ends;
-    let mut bits = part.guards | part.reads;
-    while bits != 0 {
-        let i = wide_word(u64::trailing_zeros(bits));
+    for i in members(part.guards | part.reads) {
         let spot = Spot {
             guard: is_set(part.guards, i),
             read: is_set(part.reads, i),
             condition: part.first + i,
         };
         next = put_spot(out, marks, rec, next, steps, e, spot);
-        bits = bits & (bits ^ (1 << i));
     }
     next
 }
@@ -239,15 +232,13 @@ fn put_row(
     let e = turn.event;
     let t = rec[e] as usize;
     let mut next = turn.ends;
-    let mut w: usize = 0;
-    while w < SET {
+    for w in 0..SET {
         let part = Part {
             guards: watched[SET * t + w],
             reads: reads[w],
             first: WORD * w,
         };
         next = put_part(out, marks, rec, next, steps, e, part);
-        w += 1;
     }
     next
 }
@@ -273,8 +264,7 @@ fn put_marks(
     let mut known = [0u8; KNOWN];
     let mut nexts = [0u16; NEXTS];
     let mut next = Ends { at, marks: 0 };
-    let mut e: usize = 0;
-    while e < s.events {
+    for e in 0..s.events {
         let t = rec[e] as usize;
         ready(&mut watched, &mut known, t, &places, arcs);
         let reads = reads_of(&mut nexts, arcs[READ + t], rec, steps, e, s.conditions);
@@ -283,7 +273,6 @@ fn put_marks(
             event: e,
         };
         next = put_row(out, marks, rec, steps, turn, &watched, &reads);
-        e += 1;
     }
     next
 }

@@ -7,7 +7,7 @@ pub overflow_cast-t : goal.overflow_cast-t
 overflow_cast-t c = omega (arith, c.requires.2)
 
 pub loop-w-init : goal.loop-w-init
-loop-w-init c = (omega arith, row-none _ _ _ _ _ _ _ _ _)
+loop-w-init c = row-none _ _ _ _ _ _ _ _ _
 
 pub overflow_mul-part : goal.overflow_mul-part
 overflow_mul-part c = omega (arith, c.requires.2)
@@ -27,14 +27,12 @@ put_part-next-requires c = (
   omega arith,
   c.requires.1,
   row-consumer c.args.watched.now c.args.reads.now c.args.rec.now c.args.steps.now c.args.turn.event (get_or c.args.rec.now c.args.turn.event 0) c.loop-w.w (omega arith) c.requires.3,
-  row_room c.args.watched.now c.args.reads.now c.args.rec.now c.args.steps.now c.args.turn.event (get_or c.args.rec.now c.args.turn.event 0) c.loop-w.w (omega arith) c.loop-w.invariant.1 c.requires.4,
+  row_room c.args.watched.now c.args.reads.now c.args.rec.now c.args.steps.now c.args.turn.event (get_or c.args.rec.now c.args.turn.event 0) c.loop-w.w (omega arith) c.loop-w.invariant c.requires.4,
 )
 
 pub loop-w-preserved : goal.loop-w-preserved
-loop-w-preserved c = (
-  omega arith,
-  row_next c.args.watched.now c.args.reads.now c.args.rec.now c.args.steps.now c.args.turn.event (get_or c.args.rec.now c.args.turn.event 0) c.loop-w.w (omega arith) c.loop-w.invariant.1 c.put_part-next.ensures,
-)
+loop-w-preserved c =
+    row_next c.args.watched.now c.args.reads.now c.args.rec.now c.args.steps.now c.args.turn.event (get_or c.args.rec.now c.args.turn.event 0) c.loop-w.w (omega arith) c.loop-w.invariant c.put_part-next.ensures
 
 pub returns : goal.returns
-returns c = let v = c.loop-w.invariant in row-end _ _ _ _ _ _ (omega arith) v.1
+returns c = row-end _ _ _ _ _ _ (omega arith) c.loop-w.invariant
