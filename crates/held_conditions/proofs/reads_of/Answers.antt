@@ -9,7 +9,7 @@ use Rattle.held_conditions.proofs.reads_of.Goals as goal
 use Rattle.held_conditions.proofs.reads_of.Goals.{In-Some}
 
 pub loop-p-init : goal.loop-p-init
-loop-p-init c = (0, rw (c.into_iter-p-iterator.ensures.into_iter_gives, c.members-p-items.ensures) (left-all _ (omega arith)), read-start (length-replicate {A = ℕ} 8 0) (λ i k. at_none _ (blank 8) 0 i), c.requires.2)
+loop-p-init c = (0, rw (c.into_iter-p-iterator.ensures.into_iter_gives, c.members-p-items.ensures) (left-all _ (omega arith)), read-start (length-replicate {A = ℕ} 8 0) (λ i k. at_none _ (blank 8) 0 i), c.requires.1)
 
 -- what a turn of the loop goes by: the lowest place that is left
 turn : (c : In-Some) → Lowest c.args.places c.loop-p.p-iterator.left c.loop-p.invariant.0 c.in-Some.p
@@ -18,7 +18,7 @@ turn c = at-lowest c.loop-p.invariant.1 c.in-Some.ensures.steps.1 c.in-Some.ensu
 pub read_place-requires : goal.read_place-requires
 read_place-requires c =
     let v = c.loop-p.invariant in
-    (low-place c.args.places _ c.requires.0 (turn (goal.at.read_place-requires c).In-Some).set, v.2.long, c.requires.1, v.3)
+    (low-place c.args.places _ c.requires.0 (turn (goal.at.read_place-requires c).In-Some).set, v.2.long, v.3)
 
 pub loop-p-preserved : goal.loop-p-preserved
 loop-p-preserved c =

@@ -6,4 +6,4 @@ use Rattle.held_conditions.proofs.Reading.{ReadTo}
 use Rattle.held_conditions.proofs.reads_of.Given as goal
 
 abbrev pub invariant-loop-p : goal.invariant-loop-p
-invariant-loop-p l = (d : ℕ) × Left l.places l.p-iterator.left d × ReadTo l.rec l.steps l.places l.e l.n d l.reads × Passed l.rec l.steps l.e l.n l.nexts
+invariant-loop-p l = (d : ℕ) × Left l.places l.p-iterator.left d × ReadTo l.m.rec.now l.m.steps.now l.places l.m.event l.m.conditions d l.reads × Passed l.m.rec.now l.m.steps.now l.m.event l.m.conditions l.nexts

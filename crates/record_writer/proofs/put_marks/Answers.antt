@@ -53,14 +53,11 @@ bounds-arcs-t c = omega (arith, low-row (goal.at.bounds-arcs-t c).In-loop-e)
 pub reads_of-reads-requires : goal.reads_of-reads-requires
 reads_of-reads-requires c = (
   in-places c.args.arcs.now c.requires.1 _ (omega (arith, low-row (goal.at.reads_of-reads-requires c).In-loop-e)),
-  record { event = omega (arith, c.requires.0.events, c.loop-e-test.true); few = c.requires.0.conditions; long = c.requires.0.long; coded = c.requires.0.coded },
   c.loop-e.invariant.1 c.loop-e-test.true,
 )
 
 pub put_row-next-requires : goal.put_row-next-requires
 put_row-next-requires c = (
-  omega (arith, c.requires.0.events, c.loop-e-test.true),
-  c.requires.0.long,
   low-row (goal.at.put_row-next-requires c).In-loop-e,
   λ d h b. c.requires.0.coded.consumer d (watched-low c.args.arcs.now c.loop-e.e c.enter_places.ensures c.requires.0.conditions c.requires.0.place c.ready.ensures.1 c.reads_of-reads.ensures.0 (λ p. low-place _ p (in-places c.args.arcs.now c.requires.1 _ (omega (arith, low-row (goal.at.put_row-next-requires c).In-loop-e)))) d h b),
   marks-room c.args.arcs.now c.args.rec.now c.args.steps.now c.args.s.conditions c.loop-e.e c.loop-e-test.true (row-notes c.args.arcs.now c.loop-e.e c.enter_places.ensures c.requires.0.conditions c.requires.0.place c.ready.ensures.1 c.reads_of-reads.ensures.0 (λ p. low-place _ p (in-places c.args.arcs.now c.requires.1 _ (omega (arith, low-row (goal.at.put_row-next-requires c).In-loop-e))))) c.loop-e.invariant.2 c.requires.2,

@@ -10,28 +10,26 @@ loop-i-init c =
 
 pub is_set-requires : goal.is_set-requires
 is_set-requires c =
-    (part_low c.args.part.guards c.args.part.reads c.args.rec.now c.args.steps.now c.args.e c.args.part.first c.requires.1 c.loop-i.invariant.2 c.in-Some.ensures.steps.1 c.in-Some.ensures.steps.0 c.loop-i.invariant.3).0
+    (part_low c.args.part.guards c.args.part.reads c.args.m.now.rec.now c.args.m.now.steps.now c.args.m.now.event c.args.part.first c.requires.0 c.loop-i.invariant.2 c.in-Some.ensures.steps.1 c.in-Some.ensures.steps.0 c.loop-i.invariant.3).0
 
 pub is_set-requires-in-loop-i : goal.is_set-requires-in-loop-i
 is_set-requires-in-loop-i c =
-    (part_low c.args.part.guards c.args.part.reads c.args.rec.now c.args.steps.now c.args.e c.args.part.first c.requires.1 c.loop-i.invariant.2 c.in-Some.ensures.steps.1 c.in-Some.ensures.steps.0 c.loop-i.invariant.3).0
+    (part_low c.args.part.guards c.args.part.reads c.args.m.now.rec.now c.args.m.now.steps.now c.args.m.now.event c.args.part.first c.requires.0 c.loop-i.invariant.2 c.in-Some.ensures.steps.1 c.in-Some.ensures.steps.0 c.loop-i.invariant.3).0
 
 pub overflow_add-spot : goal.overflow_add-spot
 overflow_add-spot c =
-    omega (arith, (part_low c.args.part.guards c.args.part.reads c.args.rec.now c.args.steps.now c.args.e c.args.part.first c.requires.1 c.loop-i.invariant.2 c.in-Some.ensures.steps.1 c.in-Some.ensures.steps.0 c.loop-i.invariant.3).1)
+    omega (arith, (part_low c.args.part.guards c.args.part.reads c.args.m.now.rec.now c.args.m.now.steps.now c.args.m.now.event c.args.part.first c.requires.0 c.loop-i.invariant.2 c.in-Some.ensures.steps.1 c.in-Some.ensures.steps.0 c.loop-i.invariant.3).1)
 
 pub put_spot-next-requires : goal.put_spot-next-requires
 put_spot-next-requires c = (
-  c.requires.0,
-  (part_low c.args.part.guards c.args.part.reads c.args.rec.now c.args.steps.now c.args.e c.args.part.first c.requires.1 c.loop-i.invariant.2 c.in-Some.ensures.steps.1 c.in-Some.ensures.steps.0 c.loop-i.invariant.3).1,
-  c.requires.2,
-  part-consumer c.args.part.guards c.args.part.reads c.args.rec.now c.args.steps.now c.args.e c.args.part.first c.requires.1 c.loop-i.invariant.2 c.in-Some.ensures.steps.1 c.in-Some.ensures.steps.0 c.loop-i.invariant.3 c.is_set.ensures c.is_set-in-loop-i.ensures c.requires.3,
-  part_room c.args.part.guards c.args.part.reads c.args.rec.now c.args.steps.now c.args.e c.args.part.first c.requires.1 c.loop-i.invariant.2 c.in-Some.ensures.steps.1 c.in-Some.ensures.steps.0 c.loop-i.invariant.3 c.is_set.ensures c.is_set-in-loop-i.ensures c.requires.4,
+  (part_low c.args.part.guards c.args.part.reads c.args.m.now.rec.now c.args.m.now.steps.now c.args.m.now.event c.args.part.first c.requires.0 c.loop-i.invariant.2 c.in-Some.ensures.steps.1 c.in-Some.ensures.steps.0 c.loop-i.invariant.3).1,
+  part-consumer c.args.part.guards c.args.part.reads c.args.m.now.rec.now c.args.m.now.steps.now c.args.m.now.event c.args.part.first c.requires.0 c.loop-i.invariant.2 c.in-Some.ensures.steps.1 c.in-Some.ensures.steps.0 c.loop-i.invariant.3 c.is_set.ensures c.is_set-in-loop-i.ensures c.requires.1,
+  part_room c.args.part.guards c.args.part.reads c.args.m.now.rec.now c.args.m.now.steps.now c.args.m.now.event c.args.part.first c.requires.0 c.loop-i.invariant.2 c.in-Some.ensures.steps.1 c.in-Some.ensures.steps.0 c.loop-i.invariant.3 c.is_set.ensures c.is_set-in-loop-i.ensures c.requires.2,
 )
 
 pub loop-i-preserved : goal.loop-i-preserved
 loop-i-preserved c =
-    rw c.in-Some.ensures.steps.2 (part-next c.args.part.guards c.args.part.reads c.args.rec.now c.args.steps.now c.args.e c.args.part.first c.requires.1 c.loop-i.invariant.2 c.in-Some.ensures.steps.1 c.in-Some.ensures.steps.0 c.loop-i.invariant.3 c.is_set.ensures c.is_set-in-loop-i.ensures c.put_spot-next.ensures)
+    rw c.in-Some.ensures.steps.2 (part-next c.args.part.guards c.args.part.reads c.args.m.now.rec.now c.args.m.now.steps.now c.args.m.now.event c.args.part.first c.requires.0 c.loop-i.invariant.2 c.in-Some.ensures.steps.1 c.in-Some.ensures.steps.0 c.loop-i.invariant.3 c.is_set.ensures c.is_set-in-loop-i.ensures c.put_spot-next.ensures)
 
 pub returns : goal.returns
 returns c = let v = c.loop-i.invariant in part_end _ _ _ _ _ _ v.2 v.1 c.in-None.ensures.steps.0 v.3

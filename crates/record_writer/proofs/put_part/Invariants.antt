@@ -8,4 +8,4 @@ use Rattle.record_writer.proofs.put_part.Given as goal
 
 abbrev pub invariant-loop-i : goal.invariant-loop-i
 invariant-loop-i l = (d : ℕ) × (d ≤ 64) × Left (bit_or l.part.guards l.part.reads) l.i-iterator.left d
-    × Puts (notes_if (bit l.part.guards) (bit l.part.reads) l.rec l.steps l.e (λ i. l.part.first + i) d) l.initial.next l.initial.out l.initial.marks l.next l.out l.marks
+    × Puts (notes_if (bit l.part.guards) (bit l.part.reads) l.m.rec.now l.m.steps.now l.m.event (λ i. l.part.first + i) d) l.initial.next l.initial.out l.initial.marks l.next l.out l.marks
