@@ -32,12 +32,9 @@ fn add_events(
     ensures { AddedAt k (take count step.now) n rec.old steps.old
         (n + count) rec.new steps.new }
 {
-    let mut i: usize = 0;
-    while i < count {
-        let at = n + i;
-        rec[at] = step[i];
-        steps[at] = k as u8;
-        i += 1;
+    for (i, &t) in step[..count].iter().enumerate() {
+        rec[n + i] = t;
+        steps[n + i] = k as u8;
     }
 }
 
@@ -69,10 +66,8 @@ pub fn start(tokens: &[u16; TOKENS], m: usize, rec: &mut [u8]) -> usize
     ensures { MadeAt (initial_of 0 (take m tokens.now)) 0 rec.old result rec.new }
 {
     let mut r: usize = 0;
-    let mut p: usize = 0;
-    while p < m {
-        r = make_times(NO_EVENT, p, wide_half(tokens[p]), r, rec);
-        p += 1;
+    for (p, &count) in tokens[..m].iter().enumerate() {
+        r = make_times(NO_EVENT, p, wide_half(count), r, rec);
     }
     r
 }

@@ -5,6 +5,7 @@ use mathlib.Core.List.{List}
 use native.Mathlib.Omega.{arith}
 use lib.ListN.{length, get_or, take}
 use lib.Seq.{length-take-le}
+use Rattle.std.specs.Prelude.{Err}
 use Rattle.spec.specs.Answer.{gives, refuses}
 use Rattle.spec.specs.Lists.{In, up_to, sum_of}
 use Rattle.spec.specs.Net.{Net}
@@ -27,7 +28,6 @@ use Rattle.history.specs.HistoryColumns.{History, event_in, events_in, events_of
 use Rattle.history.proofs.Held.{flows-length}
 use Rattle.log_steps.specs.RunArrays.{Run, run_at, HoldsRun, Reached, Buildable, BuiltOn, log_refused, build_step}
 use Rattle.log_steps.specs.declared.LogRefusal.{LogRefusal}
-use Rattle.log_steps.specs.declared.LogAnswer.TheVariants.{Goes, Refused}
 
 pub events-length : (h : History) → length (events_of h) ≡ h.events
 unfolding events_of events_in
@@ -62,16 +62,13 @@ module _ {xs : List ℕ} {count : ℕ} {sets : List ℕ} {x : Extent} {rec steps
   -- a refusal says nothing of the arrays
   pub refuses-on : (w : LogRefusal) (n : ℕ) {steps' counts' : List ℕ} → log_refused {A = Unit {0}} w ≡ refuses n x.line → length counts' ≡ length counts
       → ((N : Net) (ts : List ℕ) (r : RunD) → HoldsArcs N sets x.places → HoldsStep xs count ts → ((t : ℕ) → In t ts → t < N.transitions) → judge_step N x.line r.marking ts ≡ gives tt → HoldsRun N x.line (run_at x rec steps counts) r → build_step N x.line ts r ≡ refuses n x.line)
-      → BuiltOn xs count sets x rec steps counts (record { answer = Refused w; run = x }) rec steps' counts'
+      → BuiltOn xs count sets x rec steps counts (Err w) rec steps' counts'
   refuses-on w n e l f = record {
     answers = λ N ts r A S K E H. refusing n x.line (f N ts r A S K E H) e;
-    passes = record { places = refl; transitions = refl; line = λ t. not-goes t };
+    passes = tt;
     long = refl;
     wide = l;
   }
-    where
-      not-goes : {B : Type 0} → Refused w ≡ Goes → B
-      not-goes t = let z : ◌≡◌ {A = ℕ} 0 1 = cc in absurd (omega arith)
 
   -- what is counted can grow
   pub held-summable : Summable 32 0 sets counts

@@ -8,7 +8,8 @@ ghost use Rattle.arc_sets.specs.Sets.{row_count, read_at, weight_at, Within};
 ghost use Rattle.steps.specs.StepArrays.{IsStep, Within32};
 ghost use Rattle.run_counts.specs.Tally.{weighed, size_of, both_of, Countable, products_of};
 
-use arc_sets::{GUARDS, MADE, SETS, WEIGHTS, lowest, size, weight};
+use arc_sets::{GUARDS, MADE, SETS, WEIGHTS, size, weight};
+use bit_sets::members;
 use machine_numbers::{wide, wide_word};
 use steps::STEP;
 
@@ -25,11 +26,8 @@ fn weights_in(sets: &[u64; SETS], row: usize, set: u64) -> usize
     ensures { (result ≡ sum_of (weighed sets.now row set) (up_to 64)) × (result ≤ 512) }
 {
     let mut r: usize = 0;
-    let mut bits = set;
-    while bits != 0 {
-        let p = lowest(bits);
+    for p in members(set) {
         r += weight(sets, row, p);
-        bits = bits & (bits ^ (1 << p));
     }
     r
 }
@@ -55,10 +53,8 @@ pub fn sizes_all(step: &[u8; STEP], count: usize, sets: &[u64; SETS], at: usize)
     ensures { (result ≡ sum_of (size_of sets.now at) (take count step.now)) × (result ≤ 512 * count) }
 {
     let mut r: usize = 0;
-    let mut i: usize = 0;
-    while i < count {
-        r += row_size(sets, at + wide(step[i]));
-        i += 1;
+    for &t in &step[..count] {
+        r += row_size(sets, at + wide(t));
     }
     r
 }
@@ -69,11 +65,9 @@ pub fn own_all(step: &[u8; STEP], count: usize, sets: &[u64; SETS]) -> usize
     ensures { (result ≡ sum_of (both_of sets.now) (take count step.now)) × (result ≤ 512 * count) }
 {
     let mut r: usize = 0;
-    let mut i: usize = 0;
-    while i < count {
-        let t = wide(step[i]);
+    for &id in &step[..count] {
+        let t = wide(id);
         r += weights_in(sets, MADE + t, sets[MADE + t] & sets[GUARDS + t]);
-        i += 1;
     }
     r
 }
@@ -84,10 +78,8 @@ pub fn products(counts: &[u32; COUNTS], m: usize) -> usize
     ensures { (result ≡ products_of counts.now m) × (result ≤ 6553600 * m) }
 {
     let mut r: usize = 0;
-    let mut p: usize = 0;
-    while p < m {
+    for p in 0..m {
         r += wide_word(counts[p]) * wide_word(counts[WATCHED + p]);
-        p += 1;
     }
     r
 }

@@ -14,7 +14,7 @@ pub overflow_add-x : goal.overflow_add-x
 overflow_add-x c = omega (arith, c.sizes_all.ensures.1, c.requires.step.few, c.requires.reached.holds.whole.conditions)
 
 pub returns-then-x-sizes_all-gt-MOST_CONDITIONS : goal.returns-then-x-sizes_all-gt-MOST_CONDITIONS
-returns-then-x-sizes_all-gt-MOST_CONDITIONS c = rw c.refused.ensures (refuses-on c.requires _ 26 refl refl (λ N ts r A S K E H. answers-26 N ts r A S K E H c.sizes_all.ensures.0 c.if-x-sizes_all-gt-MOST_CONDITIONS.true))
+returns-then-x-sizes_all-gt-MOST_CONDITIONS c = (refuses-on c.requires _ 26 refl refl (λ N ts r A S K E H. answers-26 N ts r A S K E H c.sizes_all.ensures.0 c.if-x-sizes_all-gt-MOST_CONDITIONS.true))
 
 pub add_all-requires : goal.add_all-requires
 add_all-requires c = (c.requires.step, held-summable c.requires)
@@ -44,7 +44,7 @@ pub overflow_add-products : goal.overflow_add-products
 overflow_add-products c = omega (arith, c.products.ensures.1, c.requires.reached.arcs.few, c.sizes_all-2.ensures.1, c.requires.step.few, (tally-small c.requires.reached).reads)
 
 pub returns-then-own-products : goal.returns-then-own-products
-returns-then-own-products c = rw c.refused-then-own-products.ensures (refuses-on c.requires _ 27 refl (grown-wide c.requires c.add_all.ensures c.add_all-2.ensures) (λ N ts r A S K E H. answers-27 N ts r A S K E H c.sizes_all.ensures.0 c.if-x-sizes_all-gt-MOST_CONDITIONS.false (tally-grows c.requires c.add_all.ensures c.add_all-2.ensures c.own_all.ensures.0 c.sizes_all-2.ensures.0) c.products.ensures.0 c.if-own-products.true))
+returns-then-own-products c = (refuses-on c.requires _ 27 refl (grown-wide c.requires c.add_all.ensures c.add_all-2.ensures) (λ N ts r A S K E H. answers-27 N ts r A S K E H c.sizes_all.ensures.0 c.if-x-sizes_all-gt-MOST_CONDITIONS.false (tally-grows c.requires c.add_all.ensures c.add_all-2.ensures c.own_all.ensures.0 c.sizes_all-2.ensures.0) c.products.ensures.0 c.if-own-products.true))
 
 pub grow-conditions-requires : goal.grow-conditions-requires
 grow-conditions-requires c = (c.requires.step, sets-within c.requires, growable c.requires c.add_all.ensures c.add_all-2.ensures c.sizes_all.ensures.0 c.if-x-sizes_all-gt-MOST_CONDITIONS.false)
@@ -59,7 +59,7 @@ pub returns : goal.returns
 returns c = let W = tally-grows c.requires c.add_all.ensures c.add_all-2.ensures c.own_all.ensures.0 c.sizes_all-2.ensures.0 in let G = c.grow-conditions.ensures in record {
   answers = λ N ts r A S K E H. giving _ (answers-run N ts r A S K E H c.sizes_all.ensures.0 c.if-x-sizes_all-gt-MOST_CONDITIONS.false W c.products.ensures.0 c.if-own-products.false) refl
       (counts-kept _ _ G.counted (run-after N ts r A S K E H c.sizes_all.ensures.0 c.if-x-sizes_all-gt-MOST_CONDITIONS.false W c.requires.some (rw (cursors-grown c.requires c.add_all.ensures c.add_all-2.ensures) at G.grown)), refl);
-  passes = record { places = refl; transitions = refl; line = λ t. refl };
+  passes = record { places = refl; transitions = refl; line = refl };
   long = G.long;
   wide = G.wide ∙ grown-wide c.requires c.add_all.ensures c.add_all-2.ensures;
 }
