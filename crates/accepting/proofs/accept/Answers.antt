@@ -3,6 +3,7 @@ use mathlib.Core.Path.{refl}
 use Rattle.net_reader.proofs.Reading.{accepted-into, read_found}
 use Rattle.accepting.proofs.Fresh.{fresh-few, fresh-all}
 use Rattle.accepting.proofs.Accepting.{net-stop, refused-both, accepted-both}
+use Rattle.accepting.specs.declared.Refusal.TheVariants.{Net}
 use Rattle.accepting.proofs.accept.Goals as goal
 
 pub read_into-requires : goal.read_into-requires
@@ -22,7 +23,7 @@ accept_record-requires-in-Accepted c = let f = read_found _ _ _ _ _ (accepted-in
 
 pub returns-in-Refused : goal.returns-in-Refused
 returns-in-Refused c = let r = c.read_into in
-    refused-both refl _ _ _ _ _ _ _ _ (rw c.refused.ensures (net-stop _ _ _ r.result _ r.ensures.answer c.in-Refused.is))
+    refused-both refl c.args.limits c.args.net.now c.args.text.now (Net c.in-Refused.why) r.new.tokens r.new.arcs c.args.rec.now c.args.w.now (net-stop _ _ _ r.result _ r.ensures.answer c.in-Refused.is)
 
 pub returns-else-text-le-SHORT_TEXT : goal.returns-else-text-le-SHORT_TEXT
 returns-else-text-le-SHORT_TEXT c = let f = read_found _ _ _ _ _ (accepted-into _ _ c.in-Accepted.is c.read_into.ensures) in let e = c.accept_record-in-Accepted.ensures in
