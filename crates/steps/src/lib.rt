@@ -9,6 +9,7 @@ ghost use Rattle.steps.specs.StepArrays.{Payable, Paid, Within32, falls, Joined,
 ghost use Rattle.steps.specs.Judged.{IsShort, Judges};
 
 use arc_sets::{GUARDS, MADE, READ, SETS, lowest, set_at, weight};
+use bit_sets::members;
 use machine_numbers::wide;
 use net::TOKENS;
 
@@ -50,11 +51,8 @@ fn add_row(xs: &mut [u32], from: usize, sets: &[u64; SETS], row: usize)
     requires { (row < row_count) × Addable from (weight_at sets.now row) xs.old }
     ensures { AddedRow from (weight_at sets.now row) xs.old xs.new }
 {
-    let mut bits = set_at(sets, row);
-    while bits != 0 {
-        let p = lowest(bits);
+    for p in members(set_at(sets, row)) {
         xs[from + p] += weight(sets, row, p) as u32;
-        bits = bits & (bits ^ (1 << p));
     }
 }
 
