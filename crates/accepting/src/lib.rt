@@ -15,7 +15,7 @@ ghost use Rattle.record_columns.specs.Layout.{record_bytes};
 
 use arc_rules::{wrong_arcs, wrong_initial};
 use mark_rules::{wrong_kind, wrong_marks};
-use net::{ARCS, NetAnswer, NetRefusal, TOKENS};
+use net::{ARCS, NetRefusal, TOKENS};
 use net_reader::read_into;
 use reach::{WORDS, close};
 use record_columns::{Bounds, Counts, MARK_WORDS, RecordRefusal};
@@ -173,20 +173,16 @@ pub fn accept(
         × Keeps limits net.now text.now result
         tokens.new arcs.new rec.new }
 {
-    match read_into(net, tokens, arcs) {
-        NetAnswer::Refused(why) => Err(Refusal::Net(why)),
-        NetAnswer::Accepted(places, transitions) => {
-            let b = Bounds {
-                limits,
-                places,
-                transitions,
-            };
-            if text.len() <= SHORT_TEXT {
-                let mut marks = [0u64; SHORT_MARKS];
-                return accept_record(b, text, tokens, arcs, rec, &mut marks, w);
-            }
-            let mut marks = [0u64; MARK_WORDS];
-            accept_record(b, text, tokens, arcs, rec, &mut marks, w)
-        }
+    let size = read_into(net, tokens, arcs)?;
+    let b = Bounds {
+        limits,
+        places: size.places,
+        transitions: size.transitions,
+    };
+    if text.len() <= SHORT_TEXT {
+        let mut marks = [0u64; SHORT_MARKS];
+        return accept_record(b, text, tokens, arcs, rec, &mut marks, w);
     }
+    let mut marks = [0u64; MARK_WORDS];
+    accept_record(b, text, tokens, arcs, rec, &mut marks, w)
 }

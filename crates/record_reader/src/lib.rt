@@ -2,14 +2,13 @@
 #![tactic(auto)]
 
 ghost use Rattle.std.specs.Prelude.{◌≡◌, true, ◌≤◌, ◌<◌, length};
-ghost use Rattle.byte_classes.specs.Table.{byte_table};
 ghost use Rattle.lines.specs.Lines.{EndedTo};
 ghost use Rattle.record_columns.specs.Layout.{record_bytes};
 ghost use Rattle.record_columns.specs.Enters.{Room, Fits, Spans, condition_in, EntersCondition};
 ghost use Rattle.record_reader.specs.Reads.{Blank, EntersRow, Takes, kind_by};
 ghost use Rattle.record_reader.specs.Reads.{ReadsRecord, MarksFit};
 
-use byte_classes::byte_table;
+use byte_classes::{Table, byte_table};
 use byte_entries::{COMMA, LETTER_A, LETTER_B, LETTER_C, LETTER_E, LETTER_R};
 use fields::row_of;
 use line_forms::{Row, is_one, is_three, is_two, number_in};
@@ -91,7 +90,7 @@ fn enter_three(
 
 // The line at a cursor is entered by the readers of lines and fields, whatever it is.
 fn enter_any(
-    table: &[u8; 256],
+    table: &Table,
     b: Bounds,
     text: &[u8],
     c: Cursor,
@@ -99,7 +98,7 @@ fn enter_any(
     rec: &mut [u8],
     marks: &mut [u64],
 ) -> Result<Took, RecordRefusal>
-    requires { (table.now ≡ byte_table) × (c.at < length text.now) × Room b × Fits s rec.old
+    requires { (c.at < length text.now) × Room b × Fits s rec.old
         × Spans s marks.old }
     ensures { Takes b text.now c.at c.line s rec.old marks.old result
         rec.new marks.new }
@@ -121,7 +120,7 @@ fn enter_any(
 // The line at a cursor is entered. A plain line is read in one walk; any other goes to the readers of lines and fields,
 // and so does every malformed one.
 fn enter_at(
-    table: &[u8; 256],
+    table: &Table,
     b: Bounds,
     text: &[u8],
     c: Cursor,
@@ -129,7 +128,7 @@ fn enter_at(
     rec: &mut [u8],
     marks: &mut [u64],
 ) -> Result<Took, RecordRefusal>
-    requires { (table.now ≡ byte_table) × (c.at < length text.now) × EndedTo text.now c.ended × Room b
+    requires { (c.at < length text.now) × EndedTo text.now c.ended × Room b
         × Fits s rec.old × Spans s marks.old }
     ensures { Takes b text.now c.at c.line s rec.old marks.old result
         rec.new marks.new }

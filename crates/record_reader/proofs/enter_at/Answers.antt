@@ -15,16 +15,16 @@ use Rattle.record_reader.proofs.enter_at.Goals.{In-Some, Then-opens_with, Then-o
 
 -- what an opening tells: the letter of a kind of marks, a C or an E, and a comma
 mark : (c : In-Some) → BeginsWith c.args.text.now c.args.c.at (code_of (letter_of c.in-Some.kind))
-mark c = begins-mark _ c.args.c c.in-Some.kind c.requires.2 c.open_at-open.ensures (kind-letter _ _ (sym c.kind_of.ensures ∙ c.in-Some.is)) c.if-open-eq-COMMA.true
+mark c = begins-mark _ c.args.c c.in-Some.kind c.requires.1 c.open_at-open.ensures (kind-letter _ _ (sym c.kind_of.ensures ∙ c.in-Some.is)) c.if-open-eq-COMMA.true
 
 condition : (c : Then-opens_with) → BeginsWith c.args.text.now c.args.c.at 20
-condition c = opens-list _ c.args.c c.requires.2 c.open_at-open.ensures 20 (omega arith) (omega arith) (sym c.opens_with.ensures ∙ c.if-opens_with.true)
+condition c = opens-list _ c.args.c c.requires.1 c.open_at-open.ensures 20 (omega arith) (omega arith) (sym c.opens_with.ensures ∙ c.if-opens_with.true)
 
 event : (c : Then-opens_with-2) → BeginsWith c.args.text.now c.args.c.at 19
-event c = opens-list _ c.args.c c.requires.2 c.open_at-open.ensures 19 (omega arith) (omega arith) (sym c.opens_with-2.ensures ∙ c.if-opens_with-2.true)
+event c = opens-list _ c.args.c c.requires.1 c.open_at-open.ensures 19 (omega arith) (omega arith) (sym c.opens_with-2.ensures ∙ c.if-opens_with-2.true)
 
 pub two_at-f-requires : goal.two_at-f-requires
-two_at-f-requires c = (c.requires.0, omega arith, omega arith, (mark (goal.at.two_at-f-requires c).In-Some).0)
+two_at-f-requires c = (omega arith, omega arith, (mark (goal.at.two_at-f-requires c).In-Some).0)
 
 pub returns-in_err-counts : goal.returns-in_err-counts
 returns-in_err-counts c =
@@ -38,7 +38,7 @@ returns-then-at-f c =
     (λ N R l. mark-line _ _ N R c.in-Some.kind l (mark (goal.at.returns-then-at-f c).In-Some).1) (λ N d. c.in_ok-counts.ensures c.args.rec.now)
 
 pub three_at-f-requires : goal.three_at-f-requires
-three_at-f-requires c = (c.requires.0, omega arith, omega arith, (condition (goal.at.three_at-f-requires c).Then-opens_with).0)
+three_at-f-requires c = (omega arith, omega arith, (condition (goal.at.three_at-f-requires c).Then-opens_with).0)
 
 pub returns-in_err-counts-2 : goal.returns-in_err-counts-2
 returns-in_err-counts-2 c =
@@ -56,7 +56,7 @@ returns-then-at-f-2 c =
     (λ N d. c.in_ok-counts-2.ensures N _ d.places)
 
 pub one_at-f-requires : goal.one_at-f-requires
-one_at-f-requires c = (c.requires.0, omega arith, omega arith, (event (goal.at.one_at-f-requires c).Then-opens_with-2).0)
+one_at-f-requires c = (omega arith, omega arith, (event (goal.at.one_at-f-requires c).Then-opens_with-2).0)
 
 pub returns-in_err-counts-3 : goal.returns-in_err-counts-3
 returns-in_err-counts-3 c =

@@ -5,9 +5,6 @@ use Rattle.record_reader.proofs.Reading.{entered-none, fits, spans, entered_on, 
 use Rattle.record_reader.proofs.Widths.{line-ends}
 use Rattle.record_reader.proofs.read_record.Goals as goal
 
-pub ended_to-ended-requires : goal.ended_to-ended-requires
-ended_to-ended-requires c = c.byte_table-table.ensures
-
 pub loop-at-init : goal.loop-at-init
 loop-at-init c = (omega arith, omega arith, omega arith, omega arith, refl, refl, entered-none _ _ _ _ c.requires.1 c.requires.2.zero)
 
@@ -15,7 +12,6 @@ pub enter_at-requires : goal.enter_at-requires
 enter_at-requires c =
     let i = c.loop-at.invariant in
     let f = fits c.args.b i.6 in (
-      c.byte_table-table.ensures,
       omega arith,
       c.ended_to-ended.ensures,
       c.requires.0,
