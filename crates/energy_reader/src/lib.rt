@@ -2,12 +2,11 @@
 #![tactic(auto)]
 
 ghost use Rattle.std.specs.Prelude.{◌≡◌, ◌≤◌, ◌<◌, length};
-ghost use Rattle.byte_classes.specs.Table.{byte_table};
 ghost use Rattle.lines.specs.Lines.{EndedTo};
 ghost use Rattle.energy_reader.specs.Reads.{pulse_of, load_of, figures_of, row_draw, row_ratings, Draws, Rated};
 ghost use Rattle.energy_reader.specs.Reads.{ReadsRow, ReadsDraw, ReadsCapacitor, ReadsEnergy};
 
-use byte_classes::byte_table;
+use byte_classes::{Table, byte_table};
 use byte_entries::{LETTER_J, LETTER_W};
 use fields::row_of;
 use hold_up::{Capacitor, DRAWS, Draw, EventDraw, capacitor_of, load, pulse};
@@ -127,8 +126,8 @@ pub struct RowAt {
 }
 
 // The row of the line at a position, whatever it is. A line that is not ended is of no form, and its row has no letter.
-fn row_at(table: &[u8; 256], text: &[u8], at: usize) -> RowAt
-    requires { (table.now ≡ byte_table) × (at < length text.now) }
+fn row_at(table: &Table, text: &[u8], at: usize) -> RowAt
+    requires { at < length text.now }
     ensures { ReadsRow text.now at result }
 {
     let line = line_at(table, text, at);
@@ -156,8 +155,8 @@ pub struct CapacitorAt {
 }
 
 // A text has one capacitor's line, so that it is read like a line that is not plain.
-fn capacitor_at(table: &[u8; 256], text: &[u8]) -> CapacitorAt
-    requires { (table.now ≡ byte_table) × (0 < length text.now) }
+fn capacitor_at(table: &Table, text: &[u8]) -> CapacitorAt
+    requires { 0 < length text.now }
     ensures { ReadsCapacitor text.now result }
 {
     let line = row_at(table, text, 0);
@@ -178,8 +177,8 @@ pub struct DrawAt {
 
 // The draw that the line at a cursor says. A plain line is read in one walk; any other goes to the readers of lines and
 // fields, and so does every malformed one.
-fn draw_at(table: &[u8; 256], text: &[u8], c: Cursor) -> DrawAt
-    requires { (table.now ≡ byte_table) × (c.at < length text.now) × EndedTo text.now c.ended }
+fn draw_at(table: &Table, text: &[u8], c: Cursor) -> DrawAt
+    requires { (c.at < length text.now) × EndedTo text.now c.ended }
     ensures { ReadsDraw text.now c.at result }
 {
     let at = c.at;

@@ -4,10 +4,9 @@
 ghost use Rattle.std.specs.Prelude.{◌≡◌, ◌+◌, ◌<◌, ◌≤◌, max, length};
 ghost use Rattle.spec.specs.declared.Class.TheVariants.{Return};
 ghost use Rattle.byte_entries.specs.Entries.{code_of};
-ghost use Rattle.byte_classes.specs.Table.{byte_table};
 ghost use Rattle.lines.specs.Lines.{end_from, span_to, RawLineAt, LineAt, past_by, EndedTo, opening_of, opens_with};
 
-use byte_classes::{byte_table, end_of, entry_of};
+use byte_classes::{Table, byte_table};
 use byte_entries::{COMMA, FOREIGN, LINE_END, RETURN};
 
 // A line of a text: it ends before `end`, and the next one starts at `next`.
@@ -36,7 +35,7 @@ fn find_end(s: &[u8], at: usize) -> usize
     ensures { (result ≡ end_from s.now at) × (result ≤ length s.now) }
 {
     let table = byte_table();
-    end_of(&table, LINE_END, s, at)
+    table.end_of(LINE_END, s, at)
 }
 
 // The later of two places.
@@ -95,8 +94,8 @@ fn raw_line_at(s: &[u8], at: usize) -> Span
 // ---- line endings: byte 10, or 13 and 10
 
 // The line that starts at a position. A byte 13 in front of its byte 10 belongs to the ending.
-pub fn line_at(table: &[u8; 256], s: &[u8], at: usize) -> Span
-    requires { (table.now ≡ byte_table) × (at < length s.now) }
+pub fn line_at(table: &Table, s: &[u8], at: usize) -> Span
+    requires { at < length s.now }
     ensures { LineAt s.now at result }
 {
     let raw = raw_line_at(s, at);
@@ -104,7 +103,7 @@ pub fn line_at(table: &[u8; 256], s: &[u8], at: usize) -> Span
     if !raw.ended | (end <= at) {
         return raw;
     }
-    if entry_of(table, s[end - 1]) != RETURN {
+    if table.entry_of(s[end - 1]) != RETURN {
         return raw;
     }
     Span {
@@ -115,8 +114,8 @@ pub fn line_at(table: &[u8; 256], s: &[u8], at: usize) -> Span
 }
 
 // Where the next line starts if an ending stands at a position, of which the entry is known; else the position.
-pub fn past_ending(table: &[u8; 256], s: &[u8], entry: u8, at: usize) -> usize
-    requires { (table.now ≡ byte_table) × (entry ≡ code_of Return → at + 1 < length s.now) × (at ≤ length s.now) }
+pub fn past_ending(table: &Table, s: &[u8], entry: u8, at: usize) -> usize
+    requires { (entry ≡ code_of Return → at + 1 < length s.now) × (at ≤ length s.now) }
     ensures { result ≡ past_by entry s.now at }
 {
     if entry == LINE_END {
@@ -125,7 +124,7 @@ pub fn past_ending(table: &[u8; 256], s: &[u8], entry: u8, at: usize) -> usize
     if entry != RETURN {
         return at;
     }
-    if entry_of(table, s[at + 1]) != LINE_END {
+    if table.entry_of(s[at + 1]) != LINE_END {
         return at;
     }
     at + 2
@@ -135,13 +134,12 @@ pub fn past_ending(table: &[u8; 256], s: &[u8], entry: u8, at: usize) -> usize
 
 // How far a text is made of ended lines: behind its last line end. Up to there a reader meets a line end before the text
 // ends, so that it tests no length.
-pub fn ended_to(table: &[u8; 256], s: &[u8]) -> usize
-    requires { table.now ≡ byte_table }
+pub fn ended_to(table: &Table, s: &[u8]) -> usize
     ensures { EndedTo s.now result }
 {
     let mut r = s.len();
     while 0 < r {
-        if entry_of(table, s[r - 1]) == LINE_END {
+        if table.entry_of(s[r - 1]) == LINE_END {
             return r;
         }
         r -= 1;
@@ -165,8 +163,8 @@ pub struct Opening {
 }
 
 // Those of the line at a cursor; of a line that is empty or not ended nothing is told.
-pub fn open_at(table: &[u8; 256], s: &[u8], c: Cursor) -> Opening
-    requires { (table.now ≡ byte_table) × (c.at < length s.now) × (c.ended ≤ length s.now) }
+pub fn open_at(table: &Table, s: &[u8], c: Cursor) -> Opening
+    requires { (c.at < length s.now) × (c.ended ≤ length s.now) }
     ensures { result ≡ opening_of s.now c }
 {
     let first = c.at;
@@ -178,8 +176,8 @@ pub fn open_at(table: &[u8; 256], s: &[u8], c: Cursor) -> Opening
         };
     }
     Opening {
-        letter: entry_of(table, s[first]),
-        behind: entry_of(table, s[second]),
+        letter: table.entry_of(s[first]),
+        behind: table.entry_of(s[second]),
     }
 }
 

@@ -2,11 +2,10 @@
 #![tactic(auto)]
 
 ghost use Rattle.std.specs.Prelude.{◌≡◌, ◌≤◌, ◌<◌, length};
-ghost use Rattle.byte_classes.specs.Table.{byte_table};
 ghost use Rattle.lines.specs.Lines.{PastEnding};
 ghost use Rattle.program_input.specs.Parts.{starts_at, parts_at, Running, Parts};
 
-use byte_classes::{byte_table, entry_of};
+use byte_classes::{Table, byte_table};
 use byte_entries::{LINE_END, RETURN};
 use byte_slices::{CHUNK, count_at};
 use lines::past_ending;
@@ -19,25 +18,25 @@ pub enum Parting {
 }
 
 // Whether a line starts at a position.
-fn starts_at(table: &[u8; 256], s: &[u8], at: usize) -> bool
-    requires { (table.now ≡ byte_table) × (at < length s.now) }
+fn starts_at(table: &Table, s: &[u8], at: usize) -> bool
+    requires { at < length s.now }
     ensures { result ≡ starts_at s.now at }
 {
     if at == 0 {
         return true;
     }
-    entry_of(table, s[at - 1]) == LINE_END
+    table.entry_of(s[at - 1]) == LINE_END
 }
 
 // Where the log starts if an ending stands at a position; else the position.
-fn log_from(table: &[u8; 256], s: &[u8], at: usize) -> usize
-    requires { (table.now ≡ byte_table) × (at ≤ length s.now) }
+fn log_from(table: &Table, s: &[u8], at: usize) -> usize
+    requires { at ≤ length s.now }
     ensures { PastEnding s.now at result }
 {
     if s.len() <= at {
         return at;
     }
-    let entry = entry_of(table, s[at]);
+    let entry = table.entry_of(s[at]);
     let second = at + 1;
     if (entry == RETURN) & (s.len() <= second) {
         return at;
@@ -46,8 +45,8 @@ fn log_from(table: &[u8; 256], s: &[u8], at: usize) -> usize
 }
 
 // Whether the line `=` starts at a position. Its byte has no class of its own, and is compared.
-fn parts_at(table: &[u8; 256], s: &[u8], at: usize) -> bool
-    requires { (table.now ≡ byte_table) × (at < length s.now) }
+fn parts_at(table: &Table, s: &[u8], at: usize) -> bool
+    requires { at < length s.now }
     ensures { result ≡ parts_at s.now at }
 {
     if s[at] != b'=' {

@@ -7,7 +7,7 @@ ghost use Rattle.spec.specs.LineParts.{refused_line, part_of};
 ghost use Rattle.spec.specs.Values.{line_values};
 ghost use Rattle.refused_lines.specs.Shown.{Running, Finds, FindsChosen, answer_of, place_of};
 
-use byte_classes::{LINE_END_BYTE, byte_table, end_of};
+use byte_classes::{LINE_END_BYTE, byte_table};
 use byte_entries::LINE_END;
 use byte_slices::{CHUNK, count_at};
 use lines::line_at;
@@ -69,7 +69,7 @@ fn find_line(text: &[u8], line: usize) -> Found
             let l = line_at(&table, text, at);
             return Found::At(at, l.end);
         }
-        let end = end_of(&table, LINE_END, text, at);
+        let end = table.end_of(LINE_END, text, at);
         left -= 1;
         at = end + 1;
     }

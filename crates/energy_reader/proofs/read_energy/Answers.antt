@@ -10,13 +10,10 @@ pub returns-then-text-eq0 : goal.returns-then-text-eq0
 returns-then-text-eq0 c = empty-text _ _ _ c.refused.ensures (omega arith)
 
 pub capacitor_at-head-requires : goal.capacitor_at-head-requires
-capacitor_at-head-requires c = (c.byte_table-table.ensures, omega arith)
+capacitor_at-head-requires c = omega arith
 
 pub returns-in_default : goal.returns-in_default
 returns-in_default c = line-no _ _ _ c.refused-in_default.ensures (capacitor-no c.capacitor_at-head.ensures (ap capacitor_made c.in_default.is))
-
-pub ended_to-ended-requires : goal.ended_to-ended-requires
-ended_to-ended-requires c = c.byte_table-table.ensures
 
 pub loop-at-init : goal.loop-at-init
 loop-at-init c =
@@ -24,7 +21,7 @@ loop-at-init c =
     (omega (arith, h.found.within), omega (arith, h.found.on), omega arith, c.no_draws-draws.ensures, capacitor-read h _ (ap capacitor_made c.in-Figures.is))
 
 pub draw_at-line-requires : goal.draw_at-line-requires
-draw_at-line-requires c = (c.byte_table-table.ensures, omega arith, c.ended_to-ended.ensures)
+draw_at-line-requires c = (omega arith, c.ended_to-ended.ensures)
 
 pub returns-in_default-says : goal.returns-in_default-says
 returns-in_default-says c = line-no _ _ _ c.refused-in_default-says.ensures (draw-no c.loop-at.invariant.4 c.draw_at-line.ensures (ap draw_made c.in_default-says.is))

@@ -5,13 +5,12 @@ use mathlib.Core.Path.{◌≡◌}
 use lib.ListN.{length}
 use Rattle.spec.specs.Lists.{every}
 use Rattle.line_forms.specs.Rows.{a_number}
-use Rattle.byte_classes.specs.Table.{byte_table}
 use Rattle.fields.specs.Fields.{fields_from}
 use Rattle.fields.proofs.all_numbers.Given as goal
 
 abbrev pub invariant-loop-i : goal.invariant-loop-i
 invariant-loop-i l =
-    (l.table ≡ byte_table) × (l.most ≤ 18) × (l.i ≤ length l.l + 1)
+    (l.most ≤ 18) × (l.i ≤ length l.l + 1)
     × (every a_number (fields_from l.most l.l l.i) ≡ every a_number (fields_from l.most l.l l.at))
 
 abbrev pub decreases-loop-i : goal.decreases-loop-i

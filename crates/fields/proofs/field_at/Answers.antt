@@ -13,15 +13,14 @@ slice_bounds-field_of-count c = omega (arith, c.piece_at-piece.ensures.end)
 
 pub field_of-field-requires : goal.field_of-field-requires
 field_of-field-requires c =
-    let r = piece-read c.piece_at-piece.ensures in
-    (c.requires.0, r.0, r.1)
+    piece-read c.piece_at-piece.ensures
 
 pub overflow_add-result : goal.overflow_add-result
 overflow_add-result c = omega (arith, c.piece_at-piece.ensures.within)
 
 pub returns : goal.returns
 returns c = let p = c.piece_at-piece.ensures in record {
-  fields = rw c.field_of-field.ensures (fields-here _ _ _ c.requires.2 _ p.end);
+  fields = rw c.field_of-field.ensures (fields-here _ _ _ c.requires.1 _ p.end);
   on = omega (arith, p.end);
   next = omega (arith, p.within);
 }

@@ -5,26 +5,20 @@ use Rattle.line_forms.specs.Rows.{slot_of}
 use Rattle.fields.proofs.Pieces.{number-told, number_short}
 use Rattle.fields.proofs.field_of.Goals as goal
 
-pub needless_zero-requires : goal.needless_zero-requires
-needless_zero-requires c = c.requires.0
-
 pub returns-then-p-most : goal.returns-then-p-most
 unfolding slot_of
 returns-then-p-most c =
-    let n = sym (number-told _ _ c.needless_zero.ensures c.requires.1) ∙ c.if-p-most.true in
-    rw (n, c.requires.2 (number_short _ _ n))
-
-pub is_dash-requires : goal.is_dash-requires
-is_dash-requires c = c.requires.0
+    let n = sym (number-told _ _ c.needless_zero.ensures c.requires.0) ∙ c.if-p-most.true in
+    rw (n, c.requires.1 (number_short _ _ n))
 
 pub returns-then-is_dash : goal.returns-then-is_dash
 unfolding slot_of
 returns-then-is_dash c =
-    let n = sym (number-told _ _ c.needless_zero.ensures c.requires.1) ∙ c.if-p-most.false in
+    let n = sym (number-told _ _ c.needless_zero.ensures c.requires.0) ∙ c.if-p-most.false in
     rw (n, sym c.is_dash.ensures ∙ c.if-is_dash.true)
 
 pub returns : goal.returns
 unfolding slot_of
 returns c =
-    let n = sym (number-told _ _ c.needless_zero.ensures c.requires.1) ∙ c.if-p-most.false in
+    let n = sym (number-told _ _ c.needless_zero.ensures c.requires.0) ∙ c.if-p-most.false in
     rw (n, sym c.is_dash.ensures ∙ c.if-is_dash.false)

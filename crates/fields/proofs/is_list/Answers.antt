@@ -11,12 +11,9 @@ use Rattle.spec.specs.Classes.{alike}
 use Rattle.fields.proofs.Fields.{fields-left}
 use Rattle.fields.proofs.is_list.Goals as goal
 
-pub letter_at-a-requires : goal.letter_at-a-requires
-letter_at-a-requires c = c.requires.0
-
 pub all_numbers-requires : goal.all_numbers-requires
 all_numbers-requires c =
-    (c.requires.0, c.requires.1, omega arith)
+    (c.requires, omega arith)
 
 pub returns : goal.returns
 unfolding is_list

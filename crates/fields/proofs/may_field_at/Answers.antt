@@ -5,7 +5,7 @@ use Rattle.fields.proofs.Fields.{fields-none}
 use Rattle.fields.proofs.may_field_at.Goals as goal
 
 pub field_at-requires : goal.field_at-requires
-field_at-requires c = (c.requires.0, c.requires.1, c.if-at-l.true)
+field_at-requires c = (c.requires.0, c.if-at-l.true)
 
 pub returns-then-at-l : goal.returns-then-at-l
 returns-then-at-l c = let r = c.field_at.ensures in record { field = rw r.fields; rest = rw r.fields; next = r.next }

@@ -4,24 +4,21 @@ use native.Mathlib.Omega.{arith}
 use Rattle.fields.proofs.Fields.{row_made}
 use Rattle.fields.proofs.row_of.Goals as goal
 
-pub letter_at-k-requires : goal.letter_at-k-requires
-letter_at-k-requires c = c.requires.0
-
 pub may_field_at-a-requires : goal.may_field_at-a-requires
 may_field_at-a-requires c =
-    (c.requires.0, c.requires.1, omega arith)
+    (c.requires, omega arith)
 
 pub may_field_at-b-requires : goal.may_field_at-b-requires
 may_field_at-b-requires c =
-    (c.requires.0, c.requires.1, omega arith)
+    (c.requires, omega arith)
 
 pub may_field_at-c-requires : goal.may_field_at-c-requires
 may_field_at-c-requires c =
-    (c.requires.0, c.requires.1, omega arith)
+    (c.requires, omega arith)
 
 pub may_field_at-d-requires : goal.may_field_at-d-requires
 may_field_at-d-requires c =
-    (c.requires.0, c.requires.1, omega arith)
+    (c.requires, omega arith)
 
 pub returns : goal.returns
 returns c =

@@ -6,11 +6,10 @@ use mathlib.Core.Bool.{false}
 use lib.ListN.{length, get_or}
 use Rattle.spec.specs.Text.{is_a}
 use Rattle.spec.specs.declared.Class.TheVariants.{LineEnd}
-use Rattle.byte_classes.specs.Table.{byte_table}
 use Rattle.lines.proofs.ended_to.Given as goal
 
 abbrev pub invariant-loop-r : goal.invariant-loop-r
-invariant-loop-r l = (l.table ≡ byte_table) × (l.r ≤ length l.s) × ((i : ℕ) → l.r ≤ i → i < length l.s → is_a LineEnd (get_or l.s i 0) ≡ false)
+invariant-loop-r l = (l.r ≤ length l.s) × ((i : ℕ) → l.r ≤ i → i < length l.s → is_a LineEnd (get_or l.s i 0) ≡ false)
 
 abbrev pub decreases-loop-r : goal.decreases-loop-r
 decreases-loop-r l = l.r

@@ -6,7 +6,7 @@ use Rattle.byte_entries.proofs.Scans.{first-of-class}
 use Rattle.lines.proofs.find_end.Goals as goal
 
 pub end_of-requires : goal.end_of-requires
-end_of-requires c = (c.byte_table-table.ensures, c.requires)
+end_of-requires c = c.requires
 
 pub returns : goal.returns
 returns c = let e = c.end_of.ensures in (first-of-class LineEnd (lit< tt) _ _ _ e.0, e.1)

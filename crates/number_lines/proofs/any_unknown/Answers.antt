@@ -7,14 +7,11 @@ use Rattle.lists.specs.Along.{any-first, any_next, any-nil}
 use Rattle.fields.proofs.Fields.{numbers-first, numbers-none}
 use Rattle.number_lines.proofs.any_unknown.Goals as goal
 
-pub letter_at-a-requires : goal.letter_at-a-requires
-letter_at-a-requires c = c.requires
-
 pub loop-at-init : goal.loop-at-init
 loop-at-init c = (omega arith, ap (any (leb _)) (numbers-first 4 c.letter_at-a.ensures))
 
 pub number_at-v-requires : goal.number_at-v-requires
-number_at-v-requires c = (c.requires, omega arith, omega arith)
+number_at-v-requires c = (omega arith, omega arith)
 
 pub returns-then-known-v : goal.returns-then-known-v
 returns-then-known-v c = sym (any-first (leb _) c.number_at-v.ensures.numbers (le-leb _ _ c.if-known-v.true)) ∙ c.loop-at.invariant.1

@@ -4,14 +4,11 @@ use lib.ListN.{length}
 use Rattle.fields.proofs.Fields.{numbers-first, numbers-none}
 use Rattle.number_lines.proofs.count_numbers.Goals as goal
 
-pub letter_at-a-requires : goal.letter_at-a-requires
-letter_at-a-requires c = c.requires
-
 pub loop-at-init : goal.loop-at-init
 loop-at-init c = (omega arith, omega arith, omega (arith, ap length (numbers-first 4 c.letter_at-a.ensures)))
 
 pub number_at-v-requires : goal.number_at-v-requires
-number_at-v-requires c = (c.requires, omega arith, omega arith)
+number_at-v-requires c = (omega arith, omega arith)
 
 pub loop-at-preserved : goal.loop-at-preserved
 loop-at-preserved c = (omega arith, omega arith, omega (arith, ap length c.number_at-v.ensures.numbers))

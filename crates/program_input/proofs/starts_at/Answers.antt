@@ -14,10 +14,7 @@ pub overflow_sub-at : goal.overflow_sub-at
 overflow_sub-at c = omega (arith, c.if-at-eq0.false)
 
 pub bounds-s-at : goal.bounds-s-at
-bounds-s-at c = omega (arith, c.if-at-eq0.false, c.requires.1)
-
-pub entry_of-requires : goal.entry_of-requires
-entry_of-requires c = c.requires.0
+bounds-s-at c = omega (arith, c.if-at-eq0.false, c.requires)
 
 pub returns : goal.returns
 returns c = ap (λ (e : ℕ). eqb e 12) c.entry_of.ensures ∙ ten-told _ ∙ behind-end _ _ c.if-at-eq0.false

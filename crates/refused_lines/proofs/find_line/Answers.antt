@@ -19,13 +19,13 @@ pub loop-at-init : goal.loop-at-init
 loop-at-init c = c.skip-start.ensures
 
 pub line_at-l-requires : goal.line_at-l-requires
-line_at-l-requires c = (c.byte_table-table.ensures, c.loop-at-test.true)
+line_at-l-requires c = c.loop-at-test.true
 
 pub returns-then-left-eq0 : goal.returns-then-left-eq0
 returns-then-left-eq0 c = here _ _ _ _ c.loop-at.invariant _ c.loop-at-test.true c.line_at-l.ensures c.if-left-eq0.true
 
 pub end_of-end-requires : goal.end_of-end-requires
-end_of-end-requires c = (c.byte_table-table.ensures, omega (arith, c.loop-at-test.true))
+end_of-end-requires c = omega (arith, c.loop-at-test.true)
 
 pub overflow_sub-left : goal.overflow_sub-left
 overflow_sub-left c = omega (arith, c.if-left-eq0.false)

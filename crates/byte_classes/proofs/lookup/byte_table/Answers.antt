@@ -6,8 +6,8 @@ use Rattle.spec.specs.Text.{named, in_digits, class_of, digit_of}
 use Rattle.byte_entries.specs.Entries.{entry_of}
 use Rattle.byte_classes.specs.Table.{byte_table}
 use Rattle.byte_classes.proofs.Tabulated.{tabulates, tabulated}
-use Rattle.byte_classes.proofs.byte_table.Goals as goal
+use Rattle.byte_classes.proofs.lookup.byte_table.Goals as goal
 
-pub returns : goal.returns
+pub invariant_of-result : goal.invariant_of-result
 unfolding byte_table up_to tabulates entry_of class_of named in_digits digit_of
-returns c = tabulated entry_of 0 _ refl
+invariant_of-result c = record { tabulated = tabulated entry_of 0 _ refl }
