@@ -11,6 +11,7 @@ ghost use Rattle.bit_sets.specs.Bits.{bit};
 ghost use Rattle.arc_sets.specs.Sets.{set_count, row_count, more_at, RowSet, Puttable, RowPut, SetsOf};
 ghost use Rattle.net.specs.NetArrays.{row_size, arc_count};
 
+use bit_sets::members;
 use machine_numbers::wide_word;
 use net::{ARCS, ROW};
 
@@ -103,15 +104,12 @@ fn put_row(sets: &mut [u64; SETS], arcs: &[u8; ARCS], row: usize, m: usize)
     let first = ROW * row;
     let set = set_of(arcs, first, m);
     sets[row] = set;
-    let mut bits = set;
-    while bits != 0 {
-        let p = lowest(bits);
+    for p in members(set) {
         let extra = more(arcs[first + p]);
         if extra != 0 {
             let i = WEIGHTS + 2 * row + p / 16;
             sets[i] = sets[i] | (extra << (4 * (p % 16)));
         }
-        bits = bits & (bits ^ (1 << p));
     }
 }
 

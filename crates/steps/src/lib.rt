@@ -9,6 +9,7 @@ ghost use Rattle.steps.specs.StepArrays.{Payable, Paid, Within32, falls, Joined,
 ghost use Rattle.steps.specs.Judged.{IsShort, Judges};
 
 use arc_sets::{GUARDS, MADE, READ, SETS, lowest, set_at, weight};
+use bit_sets::members;
 use machine_numbers::wide;
 use net::TOKENS;
 
@@ -19,7 +20,7 @@ pub const MARKING: usize = 32;
 
 // What a line of a log is refused for without its record being built, with its line: it is malformed, it names an
 // unknown transition, it has more events than are left, or its step is not enabled at the marking.
-#[derive(Clone, Copy)]
+#[derive(Clone, Copy, Debug, PartialEq, Eq)]
 pub enum StepRefusal {
     Malformed(usize),
     UnknownTransition(usize),
@@ -28,14 +29,8 @@ pub enum StepRefusal {
     Inhibited(usize),
 }
 
-#[derive(Clone, Copy)]
-pub enum StepAnswer {
-    Goes,
-    Refused(StepRefusal),
-}
-
 // How far a sequence of steps has come: the line that is next, and its events; and how large its net is.
-#[derive(Clone, Copy)]
+#[derive(Clone, Copy, Debug, PartialEq, Eq)]
 pub struct Position {
     pub places: usize,
     pub transitions: usize,
@@ -50,11 +45,8 @@ fn add_row(xs: &mut [u32], from: usize, sets: &[u64; SETS], row: usize)
     requires { (row < row_count) × Addable from (weight_at sets.now row) xs.old }
     ensures { AddedRow from (weight_at sets.now row) xs.old xs.new }
 {
-    let mut bits = set_at(sets, row);
-    while bits != 0 {
-        let p = lowest(bits);
+    for p in members(set_at(sets, row)) {
         xs[from + p] += weight(sets, row, p) as u32;
-        bits = bits & (bits ^ (1 << p));
     }
 }
 
@@ -179,17 +171,17 @@ pub fn judge(
     marking: &[u32; MARKING],
     places: usize,
     line: usize,
-) -> StepAnswer
+) -> Result<(), StepRefusal>
     requires { IsStep step.now count × (places ≤ 32) × Within 32 sets.now }
     ensures { Judges step.now count sets.now marking.now places line result }
 {
     if short(step, count, sets, marking, places) {
-        return StepAnswer::Refused(StepRefusal::TooFewTokens(line));
+        return Err(StepRefusal::TooFewTokens(line));
     }
     if some_place(marking, joined(step, count, sets, GUARDS), true) {
-        return StepAnswer::Refused(StepRefusal::Inhibited(line));
+        return Err(StepRefusal::Inhibited(line));
     }
-    StepAnswer::Goes
+    Ok(())
 }
 
 // The marking after a step that is enabled: what its events take is taken first, and then what they make is there.
