@@ -5,17 +5,15 @@ ghost use Rattle.std.specs.Prelude.{[], ◌∷◌, map, ◌≡◌, ◌+◌, ◌�
 ghost use Rattle.runs.specs.Flows.{flow};
 ghost use Rattle.runs.specs.Consume.{made_of};
 ghost use Rattle.arc_sets.specs.Sets.{row_count, Within};
-ghost use Rattle.steps.specs.StepArrays.{IsStep};
+ghost use Rattle.run_counts.specs.Tally.{StepEvents};
 ghost use Rattle.conditions.specs.Conditions.{tokens_of, taken_next, made_next, place_column, consumer_column};
 ghost use Rattle.conditions.specs.Conditions.{free_at, FirstFree, fresh, ReadyAt, TookAt, MadeAt};
 ghost use Rattle.record_columns.specs.Layout.{record_bytes};
 
 use arc_sets::{MADE, SETS, set_at, weight};
 use bit_sets::members;
-use machine_numbers::{wide, wide_word};
 use record_columns::{CONSUMERS, NO_EVENT, PLACES, PRODUCERS};
 use run_counts::COUNTS;
-use steps::STEP;
 
 // How far a run has come, beside the arrays that hold it: the line of the log that is next, its events and its
 // conditions, how often an event made a condition in a place that inhibits it, and how many places its events read,
@@ -39,7 +37,7 @@ fn is_free(p: usize, rec: &[u8], i: usize) -> bool
     requires { (i < 512) × (record_bytes ≤ length rec.now) }
     ensures { result ≡ free_at p (place_column rec.now) (consumer_column rec.now) i }
 {
-    (wide(rec[PLACES + i]) == p) & (rec[CONSUMERS + i] == NO_EVENT)
+    (usize::from(rec[PLACES + i]) == p) & (rec[CONSUMERS + i] == NO_EVENT)
 }
 
 // The first one from a number on, or the end.
@@ -56,7 +54,7 @@ fn take_one(e: usize, p: usize, n: usize, rec: &mut [u8], counts: &mut [u32; COU
     ensures { TookAt (flow e p ∷ []) n rec.old counts.old
         rec.new counts.new }
 {
-    let i = first_free(p, wide_word(counts[NEXT + p]), n, rec);
+    let i = first_free(p, counts[NEXT + p] as usize, n, rec);
     if n <= i {
         return;
     }
@@ -102,22 +100,21 @@ fn take_event(
 
 // The events of a step, numbered behind those of the run, take from the conditions of the run, in their order.
 pub fn take_step(
-    step: &[u8; STEP],
-    count: usize,
+    step: &[u8],
     sets: &[u64; SETS],
     x: Extent,
     rec: &mut [u8],
     counts: &mut [u32; COUNTS],
 )
-    requires { (x.events + count ≤ 128) × IsStep step.now count × Within 32 sets.now
+    requires { (x.events + length step.now ≤ 128) × StepEvents step.now × Within 32 sets.now
         × ReadyAt x.conditions rec.old counts.old }
-    ensures { TookAt (taken_next sets.now step.now count x) x.conditions
+    ensures { TookAt (taken_next sets.now step.now x) x.conditions
         rec.old counts.old rec.new counts.new }
 {
     let e = x.events;
     let n = x.conditions;
-    for (i, &t) in step[..count].iter().enumerate() {
-        take_event(e + i, sets, wide(t), n, rec, counts);
+    for (i, &t) in step.iter().enumerate() {
+        take_event(e + i, sets, usize::from(t), n, rec, counts);
     }
 }
 
@@ -151,22 +148,16 @@ fn make_event(e: usize, sets: &[u64; SETS], row: usize, n: usize, rec: &mut [u8]
 }
 
 // The events of a step, numbered behind those of the run, make theirs; how many conditions there are then.
-pub fn make_step(
-    step: &[u8; STEP],
-    count: usize,
-    sets: &[u64; SETS],
-    x: Extent,
-    rec: &mut [u8],
-) -> usize
-    requires { (x.events + count ≤ 128) × IsStep step.now count × Within 32 sets.now
-        × (x.conditions + length (made_next sets.now step.now count x) ≤ 512) × (record_bytes ≤ length rec.old) }
-    ensures { MadeAt (map made_of (made_next sets.now step.now count x)) x.conditions
+pub fn make_step(step: &[u8], sets: &[u64; SETS], x: Extent, rec: &mut [u8]) -> usize
+    requires { (x.events + length step.now ≤ 128) × StepEvents step.now × Within 32 sets.now
+        × (x.conditions + length (made_next sets.now step.now x) ≤ 512) × (record_bytes ≤ length rec.old) }
+    ensures { MadeAt (map made_of (made_next sets.now step.now x)) x.conditions
         rec.old result rec.new }
 {
     let e = x.events;
     let mut r = x.conditions;
-    for (i, &t) in step[..count].iter().enumerate() {
-        r = make_event(e + i, sets, MADE + wide(t), r, rec);
+    for (i, &t) in step.iter().enumerate() {
+        r = make_event(e + i, sets, MADE + usize::from(t), r, rec);
     }
     r
 }

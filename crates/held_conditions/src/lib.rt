@@ -10,7 +10,6 @@ ghost use Rattle.held_conditions.specs.Held.{FirstOf, Joins, Passed, Readable, R
 
 use bit_sets::members;
 use condition_sets::{SET, WORD};
-use machine_numbers::{wide, wide_half};
 use record_columns::{CONSUMERS, EVENTS, NO_EVENT, PLACES, PRODUCERS};
 
 // A condition for each place: those of the place before it were consumed.
@@ -43,7 +42,7 @@ impl Moment<'_> {
         requires { c < self.now.conditions }
         ensures { result ≡ left_at self.now.rec.now self.now.steps.now p self.now.event c }
     {
-        if wide(self.rec[PLACES + c]) == p {
+        if usize::from(self.rec[PLACES + c]) == p {
             return !self.earlier(self.rec[CONSUMERS + c]);
         }
         false
@@ -101,7 +100,7 @@ fn read_place(reads: &mut [u64; SET], nexts: &mut [u16; NEXTS], m: &Moment, p: u
     ensures { ReadsPlace m.now.rec.now m.now.steps.now p m.now.event m.now.conditions reads.old reads.new
         × Passed m.now.rec.now m.now.steps.now m.now.event m.now.conditions nexts.new }
 {
-    let start = m.first_left(p, wide_half(nexts[p]));
+    let start = m.first_left(p, usize::from(nexts[p]));
     nexts[p] = start as u16;
     let c = m.first_held(p, start);
     if c < m.conditions {

@@ -20,7 +20,7 @@ use Rattle.steps.specs.Judged.{judge_step}
 use Rattle.steps.proofs.Rows.{over-most}
 use Rattle.run_counts.specs.Tally.{size_of, both_of, AtMost, tally_at, Small, Tallies}
 use Rattle.run_counts.proofs.Held.{small}
-use Rattle.run_counts.proofs.Tallying.{held-read, watched-read, tally-after, cursors-after}
+use Rattle.run_counts.proofs.Tallying.{step-size, held-read, watched-read, tally-after, cursors-after}
 use Rattle.runs.specs.Flows.{flows}
 use Rattle.conditions.specs.Conditions.{condition_in, conditions_in}
 use Rattle.conditions.specs.declared.Extent.{Extent}
@@ -119,10 +119,10 @@ module _ {xs : List ℕ} {count : ℕ} {sets : List ℕ} {x : Extent} {rec steps
 
       -- a step that is counted within the limits can be played
       pub growable : {v : ℕ} → v ≡ sum_of (size_of sets 32) (take count xs) → x.conditions + v ≤ 512
-          → Growable count (length (flows (arc_at sets 32) 64 x.events (take count xs))) x rec steps new
+          → Growable (length (take count xs)) (length (flows (arc_at sets 32) 64 x.events (take count xs))) x rec steps new
       growable e h = let H = P.reached.holds in record {
         line = omega (arith, H.early, P.some, P.events);
-        events = P.events;
+        events = omega (arith, P.events, step-size P.step);
         conditions = omega (arith, made-total sets x.events (take count xs));
         long = P.long;
         wide = grown-wide ∙ P.wide;

@@ -50,17 +50,18 @@ pub fn build_step(
         rec.old steps.old counts.old
         result rec.new steps.new counts.new }
 {
-    if MOST_CONDITIONS < x.conditions + sizes_all(step, count, sets, MADE) {
+    let events = &step[..count];
+    if MOST_CONDITIONS < x.conditions + sizes_all(events, sets, MADE) {
         return Err(LogRefusal::OverConditions(x.line));
     }
     add_all(step, count, sets, MADE, counts, 0);
     add_all(step, count, sets, GUARDS, counts, WATCHED);
-    let own = x.own + own_all(step, count, sets);
-    let reads = x.reads + sizes_all(step, count, sets, READ);
+    let own = x.own + own_all(events, sets);
+    let reads = x.reads + sizes_all(events, sets, READ);
     if MOST_MARKS + own < products(counts, x.places) + reads {
         return Err(LogRefusal::OverMarks(x.line));
     }
-    let conditions = grow(step, count, sets, x, rec, steps, counts);
+    let conditions = grow(events, sets, x, rec, steps, counts);
     Ok(Extent {
         line: x.line + 1,
         events: x.events + count,

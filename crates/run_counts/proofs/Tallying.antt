@@ -12,7 +12,7 @@ use Rattle.lists.specs.Grouped.{sum_of-next}
 use Rattle.columns.specs.Columns.{column, column-at, column-length}
 use Rattle.arc_sets.specs.Sets.{arc_at}
 use Rattle.steps.specs.StepArrays.{IsStep, over, Summed}
-use Rattle.run_counts.specs.Tally.{size_of, both_of, times_at, tally_at, Tallies}
+use Rattle.run_counts.specs.Tally.{StepEvents, size_of, both_of, times_at, tally_at, Tallies}
 
 -- ---- sums over the events
 
@@ -23,11 +23,13 @@ all_none f = refl
 pub all-next : {v t : ℕ} (f : ℕ → ℕ) (ts : List ℕ) (i r : ℕ) → i < length ts → r ≡ sum_of f (take i ts) → t ≡ get_or ts i 0 → v ≡ f t → r + v ≡ sum_of f (take (i + 1) ts)
 all-next f ts i r l h e q = ap₂ (λ (x y : ℕ). x + y) h (q ∙ ap f e) ∙ sym (sum_of-more 0 f ts i l)
 
--- an event of a step, as a walk over the step's events reads it
-pub known-event : {xs : List ℕ} {n i t : ℕ} → IsStep xs n → i < length (take n xs) → t ≡ get_or (take n xs) i 0 → t < 32
-known-event {xs} {n} {i} S l e =
-    let h : i < n = omega (arith, S.long, S.few, length-take-le n xs) in
-    omega (arith, e, get_or-take n xs i 0 h, S.known i h)
+-- the events of a step in an array
+module _ {xs : List ℕ} {n : ℕ} (S : IsStep xs n) where
+  pub step-size : length (take n xs) ≡ n
+  step-size = length-take-le n xs (omega (arith, S.long, S.few))
+
+  pub step-events : StepEvents (take n xs)
+  step-events = record { few = omega (arith, S.few, step-size); known = λ i h. let l : i < n = omega (arith, step-size) in omega (arith, get_or-take n xs i 0 l, S.known i l) }
 
 -- ---- products
 

@@ -2,16 +2,14 @@
 // events read; so that its conditions and its marks are known without building them.
 #![tactic(auto)]
 
-ghost use Rattle.std.specs.Prelude.{◌≡◌, ◌*◌, ◌≤◌, ◌<◌, take};
+ghost use Rattle.std.specs.Prelude.{◌≡◌, ◌*◌, ◌≤◌, ◌<◌, length};
 ghost use Rattle.spec.specs.Lists.{sum_of, up_to};
 ghost use Rattle.arc_sets.specs.Sets.{row_count, read_at, weight_at, Within};
-ghost use Rattle.steps.specs.StepArrays.{IsStep, Within32};
-ghost use Rattle.run_counts.specs.Tally.{weighed, size_of, both_of, Countable, products_of};
+ghost use Rattle.steps.specs.StepArrays.{Within32};
+ghost use Rattle.run_counts.specs.Tally.{StepEvents, weighed, size_of, both_of, Countable, products_of};
 
 use arc_sets::{GUARDS, MADE, SETS, WEIGHTS, size, weight};
 use bit_sets::members;
-use machine_numbers::{wide, wide_word};
-use steps::STEP;
 
 // The counts by place: three for each.
 pub const COUNTS: usize = 96;
@@ -48,25 +46,25 @@ fn row_size(sets: &[u64; SETS], row: usize) -> usize
 
 // How many tokens the arcs of the events of a step stand for, by the rows that start at `at`: how many conditions they
 // make, and how many places they read, each of which has a mark of its own (02, 2026-01).
-pub fn sizes_all(step: &[u8; STEP], count: usize, sets: &[u64; SETS], at: usize) -> usize
-    requires { IsStep step.now count × (at ≤ read_at) × Within 32 sets.now }
-    ensures { (result ≡ sum_of (size_of sets.now at) (take count step.now)) × (result ≤ 512 * count) }
+pub fn sizes_all(step: &[u8], sets: &[u64; SETS], at: usize) -> usize
+    requires { StepEvents step.now × (at ≤ read_at) × Within 32 sets.now }
+    ensures { (result ≡ sum_of (size_of sets.now at) step.now) × (result ≤ 512 * length step.now) }
 {
     let mut r: usize = 0;
-    for &t in &step[..count] {
-        r += row_size(sets, at + wide(t));
+    for &t in step {
+        r += row_size(sets, at + usize::from(t));
     }
     r
 }
 
 // How many conditions they make in places that inhibit them.
-pub fn own_all(step: &[u8; STEP], count: usize, sets: &[u64; SETS]) -> usize
-    requires { IsStep step.now count × Within 32 sets.now }
-    ensures { (result ≡ sum_of (both_of sets.now) (take count step.now)) × (result ≤ 512 * count) }
+pub fn own_all(step: &[u8], sets: &[u64; SETS]) -> usize
+    requires { StepEvents step.now × Within 32 sets.now }
+    ensures { (result ≡ sum_of (both_of sets.now) step.now) × (result ≤ 512 * length step.now) }
 {
     let mut r: usize = 0;
-    for &id in &step[..count] {
-        let t = wide(id);
+    for &id in step {
+        let t = usize::from(id);
         r += weights_in(sets, MADE + t, sets[MADE + t] & sets[GUARDS + t]);
     }
     r
@@ -79,7 +77,7 @@ pub fn products(counts: &[u32; COUNTS], m: usize) -> usize
 {
     let mut r: usize = 0;
     for p in 0..m {
-        r += wide_word(counts[p]) * wide_word(counts[WATCHED + p]);
+        r += counts[p] as usize * counts[WATCHED + p] as usize;
     }
     r
 }

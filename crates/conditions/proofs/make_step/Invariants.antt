@@ -8,4 +8,4 @@ use Rattle.conditions.specs.Conditions.{MadeAt}
 use Rattle.conditions.proofs.make_step.Given as goal
 
 abbrev pub invariant-loop-i : goal.invariant-loop-i
-invariant-loop-i l = MadeAt (map made_of (flows (arc_at l.sets 32) 64 l.e (take l.i l.t-items))) l.initial.r l.initial.rec l.r l.rec
+invariant-loop-i l = MadeAt (map made_of (flows (arc_at l.sets 32) 64 l.e (take l.i l.step))) l.initial.r l.initial.rec l.r l.rec

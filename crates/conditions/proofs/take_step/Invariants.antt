@@ -6,4 +6,4 @@ use Rattle.conditions.specs.Conditions.{TookAt}
 use Rattle.conditions.proofs.take_step.Given as goal
 
 abbrev pub invariant-loop-i : goal.invariant-loop-i
-invariant-loop-i l = TookAt (flows (arc_at l.sets 0) 64 l.e (take l.i l.t-items)) l.n l.initial.rec l.initial.counts l.rec l.counts
+invariant-loop-i l = TookAt (flows (arc_at l.sets 0) 64 l.e (take l.i l.step)) l.n l.initial.rec l.initial.counts l.rec l.counts

@@ -11,10 +11,10 @@ loop-p-init c = makes-as (makes-nothing c.requires.3) (sym initial-none) refl
 
 pub make_times-r-requires : goal.make_times-r-requires
 make_times-r-requires c = let M = c.loop-p.invariant in
-    (omega (arith, length-take-le c.args.m c.args.tokens.now (omega arith)), omega (arith, M.made.next, initial-fits _ c.loop-p.p _ c.loop-p-test.true c.wide_half.ensures), omega (arith, M.long))
+    (omega (arith, length-take-le c.args.m c.args.tokens.now (omega arith)), omega (arith, M.made.next, initial-fits _ c.loop-p.p _ c.loop-p-test.true c.from.ensures), omega (arith, M.long))
 
 pub loop-p-preserved : goal.loop-p-preserved
-loop-p-preserved c = makes-as (makes-then c.loop-p.invariant c.make_times-r.ensures) (initial-next _ c.loop-p.p _ c.loop-p-test.true c.wide_half.ensures) refl
+loop-p-preserved c = makes-as (makes-then c.loop-p.invariant c.make_times-r.ensures) (initial-next _ c.loop-p.p _ c.loop-p-test.true c.from.ensures) refl
 
 pub returns : goal.returns
 returns c = makes-as c.loop-p.invariant (ap (initial_of 0) (take_all c.loop-p.p _ c.loop-p-test.false)) refl

@@ -7,4 +7,4 @@ use Rattle.run_counts.specs.Tally.{both_of}
 use Rattle.run_counts.proofs.own_all.Given as goal
 
 abbrev pub invariant-loop-id : goal.invariant-loop-id
-invariant-loop-id l = (l.r ≤ 512 * l.id-index) × (l.r ≡ sum_of (both_of l.sets) (take l.id-index l.id-items))
+invariant-loop-id l = (l.r ≤ 512 * l.id-index) × (l.r ≡ sum_of (both_of l.sets) (take l.id-index l.step))

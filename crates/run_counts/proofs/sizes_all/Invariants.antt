@@ -7,4 +7,4 @@ use Rattle.run_counts.specs.Tally.{size_of}
 use Rattle.run_counts.proofs.sizes_all.Given as goal
 
 abbrev pub invariant-loop-t : goal.invariant-loop-t
-invariant-loop-t l = (l.r ≤ 512 * l.t-index) × (l.r ≡ sum_of (size_of l.sets l.at) (take l.t-index l.t-items))
+invariant-loop-t l = (l.r ≤ 512 * l.t-index) × (l.r ≡ sum_of (size_of l.sets l.at) (take l.t-index l.step))

@@ -27,8 +27,7 @@ overflow_add-r c = omega (arith, c.weight-r.ensures.1)
 pub loop-p-preserved : goal.loop-p-preserved
 loop-p-preserved c =
     let L = turn (goal.at.loop-p-preserved c).In-Some in
-    let v = c.loop-p.invariant in
-    (
+    let v = c.loop-p.invariant in (
       c.in-Some.p + 1,
       omega (arith, near (goal.at.loop-p-preserved c).In-Some),
       rw c.in-Some.ensures.steps.2 L.next,

@@ -3,10 +3,10 @@
 use Rattle.held_conditions.proofs.Reading.{left-of, not_left}
 use Rattle.held_conditions.proofs.Moment.left.Goals as goal
 
-pub returns-then-wide-p : goal.returns-then-wide-p
-returns-then-wide-p c =
-    left-of c.args.self.now.rec.now c.args.self.now.steps.now c.args.p c.args.self.now.event c.args.c c.wide.ensures.0 c.if-wide-p.true c.earlier.ensures
+pub returns-then-from-p : goal.returns-then-from-p
+returns-then-from-p c =
+    left-of c.args.self.now.rec.now c.args.self.now.steps.now c.args.p c.args.self.now.event c.args.c c.from.ensures c.if-from-p.true c.earlier.ensures
 
 pub returns : goal.returns
 returns c =
-    not_left c.args.self.now.rec.now c.args.self.now.steps.now c.args.p c.args.self.now.event c.args.c c.wide.ensures.0 c.if-wide-p.false
+    not_left c.args.self.now.rec.now c.args.self.now.steps.now c.args.p c.args.self.now.event c.args.c c.from.ensures c.if-from-p.false
