@@ -1,10 +1,10 @@
 -- Lines of a net text, by their rows, and what plain lines add.
-use Prim.Native.Nat.{ℕ, ◌-◌, ◌*◌, ◌≤◌, ◌<◌}
-use mathlib.Core.Path.{◌≡◌, refl, sym, ◌∙◌}
+use Prim.Native.Nat.{ℕ, ◌+◌, ◌-◌, ◌≤◌, ◌<◌}
+use mathlib.Core.Path.{◌≡◌, refl, sym, ap, ◌∙◌}
 use mathlib.Core.Logic.{inl, inr}
 use native.Mathlib.Omega.{arith}
-use lib.Dec.{lit<}
-use mathlib.Core.Bool.{Bool, true, false}
+use lib.Dec.{lit<, eqb}
+use mathlib.Core.Bool.{Bool, true, false, ◌&&◌, cond}
 use mathlib.Core.List.{List, [], ◌∷◌}
 use lib.ListN.{length, get_or, drop, take}
 use Rattle.spec.specs.Answer.{Answer, refuses}
@@ -13,14 +13,14 @@ use Rattle.spec.specs.Forms.{is_line}
 use Rattle.line_forms.specs.Rows.{row_of, is_alone, is_one, is_two, is_triple}
 use Rattle.line_forms.proofs.Ties.{alone-line, one_line, two-line, triple-line, number-at}
 use Rattle.spec.specs.Classes.{class_code, alike}
-use Rattle.spec.specs.Net.{Net as NetD, add_place, add_transition, add_line}
+use Rattle.spec.specs.Net.{Net as NetD, add_place, add_transition, add_arc, add_line}
 use Rattle.line_forms.specs.declared.Slot.{Slot}
 use Rattle.line_forms.specs.declared.Slot.TheVariants.{Number}
-use Rattle.lines.specs.Lines.{line_of, LineAt}
+use Rattle.lines.specs.Lines.{line_of, LineAt, past_by}
 use Rattle.lines.specs.declared.Span.{Span}
 use Rattle.lines.proofs.Lines.{line-to}
 use Rattle.spec.specs.declared.Class.{Class}
-use Rattle.spec.specs.declared.Class.TheVariants.{LetterP, LetterT, LetterI, LetterO, LetterH, LetterR, LetterW, Foreign}
+use Rattle.spec.specs.declared.Class.TheVariants.{LetterP, LetterT, LetterI, LetterO, LetterH, LetterR, LetterW, Foreign, LineEnd, Return}
 use Rattle.byte_entries.specs.Entries.{code_of, entry_of}
 use Rattle.byte_entries.proofs.Classes.{entry-class}
 use Rattle.lines.specs.declared.Opening.{Opening}
@@ -28,11 +28,13 @@ use Rattle.plain_lines.specs.Plain.{LetterEntry, row_with, PlainLine, MayRead}
 use Rattle.plain_lines.proofs.Plain.{letter-entry, plain_at}
 use Rattle.spec.specs.declared.ArcKind.{ArcKind}
 use Rattle.spec.specs.declared.ArcKind.TheVariants.{Input, Output, Inhibitor, Read}
-use Rattle.net.specs.NetArrays.{kind_count, reads_at, offset_of, Arrays, Bears, Steps}
-use Rattle.net_reader.specs.Reads.{add_row, ArcEntry, ArcLetter, kind_by, IsArcLine, ArcLineAt, add_letter, Takes}
+use Rattle.net.specs.NetArrays.{Arrays, Bears, Steps}
+use Rattle.net_reader.specs.Reads.{add_row, letter_for, ArcLetter, MayWeigh, IsArcLine, ArcLineRead, add_kind, Takes, size_after, GoesOn}
 use Rattle.net_reader.specs.declared.ArcLine.{ArcLine}
 use Rattle.net.specs.declared.Size.{Size}
-use Rattle.net.specs.declared.Stepped.{Stepped}
+use Rattle.net.specs.declared.NetRefusal.{NetRefusal}
+use Rattle.std.specs.Prelude.{Result}
+use Rattle.net_reader.specs.declared.Took.{Took}
 
 -- ---- a line by its row
 
@@ -54,17 +56,17 @@ module _ (k : ℕ) (b : List ℕ) (n : NetD) where
 -- ---- plain lines
 
 -- the entries of arcs' letters are among those of letters
-arc-bounds : {e : ℕ} → ArcEntry e → (code_of LetterP ≤ e) × (e ≤ code_of LetterW)
-arc-bounds (inl q) = (omega arith, omega arith)
-arc-bounds (inr (inl q)) = (omega arith, omega arith)
-arc-bounds (inr (inr (inl q))) = (omega arith, omega arith)
-arc-bounds (inr (inr (inr q))) = (omega arith, omega arith)
+arc-bounds : (x : ArcKind) → (code_of LetterP ≤ code_of (letter_for x)) × (code_of (letter_for x) ≤ code_of LetterW)
+arc-bounds Input = (omega arith, omega arith)
+arc-bounds Output = (omega arith, omega arith)
+arc-bounds Inhibitor = (omega arith, omega arith)
+arc-bounds Read = (omega arith, omega arith)
 
-pub arc-entry : {o : Opening} → ArcLetter o → LetterEntry o.letter
-arc-entry {o} a = let b = arc-bounds a.letter in letter-entry o.letter b.0 b.1
+pub arc-entry : {o : Opening} {x : ArcKind} → ArcLetter o x → LetterEntry o.letter
+arc-entry {o} {x} a = let b = arc-bounds x in letter-entry o.letter (omega (arith, a.letter, b.0)) (omega (arith, a.letter, b.1))
 
-pub arc-tells : {o : Opening} → ArcLetter o → o.letter ≡ code_of Foreign → ⊥
-arc-tells a z = omega (arith, (arc-bounds a.letter).1)
+pub arc-tells : {o : Opening} {x : ArcKind} → ArcLetter o x → o.letter ≡ code_of Foreign → ⊥
+arc-tells {x = x} a z = omega (arith, a.letter, (arc-bounds x).1)
 
 module _ (k : ℕ) {text : List ℕ} {i next : ℕ} (m : NetD) where
   pub place-line : {v : ℕ} (l : PlainLine 4 text i next (Number v ∷ [])) → entry_of (get_or text i 0) ≡ 13 → add_line k (line_of l.bytes true) m ≡ add_place k v m
@@ -80,65 +82,71 @@ module _ (k : ℕ) {text : List ℕ} {i next : ℕ} (m : NetD) where
     by_row : {fs : List Slot} (l : PlainLine 4 text i next fs) (c : Class) → 1 ≤ class_code c → e ≡ code_of c → add_line k (line_of l.bytes true) m ≡ add_row k (row_with c fs) m
     by_row l c h z = row-added k l.bytes m ∙ rw (l.row, entry-class (get_or text i 0) c h (sym q ∙ z))
 
-    pub arc-line : (r : ArcLine) → ArcEntry e → (l : PlainLine 4 text i next (Number r.first ∷ Number r.second ∷ [])) → r.weight ≡ 1 → add_line k (line_of l.bytes true) m ≡ add_letter e k r m
-    unfolding add_row add_letter kind_by is_alone is_one is_two is_triple alike
-    arc-line r (inl z) l w = by_row l LetterI (lit< tt) z ∙ rw (z, w)
-    arc-line r (inr (inl z)) l w = by_row l LetterO (lit< tt) z ∙ rw (z, w)
-    arc-line r (inr (inr (inl z))) l w = by_row l LetterH (lit< tt) z ∙ rw (z, w)
-    arc-line r (inr (inr (inr z))) l w = by_row l LetterR (lit< tt) z ∙ rw (z, w)
+    pub arc-line : (x : ArcKind) (r : ArcLine) → e ≡ code_of (letter_for x) → (l : PlainLine 4 text i next (Number r.first ∷ Number r.second ∷ [])) → r.weight ≡ 1 → add_line k (line_of l.bytes true) m ≡ add_kind x k r m
+    unfolding add_row is_alone is_one is_two is_triple alike
+    arc-line Input r z l w = by_row l LetterI (lit< tt) z ∙ rw w
+    arc-line Output r z l w = by_row l LetterO (lit< tt) z ∙ rw w
+    arc-line Inhibitor r z l w = by_row l LetterH (lit< tt) z ∙ rw w
+    arc-line Read r z l w = by_row l LetterR (lit< tt) z ∙ rw w
 
-    pub weighted-line : (r : ArcLine) → ArcEntry e → (l : PlainLine 4 text i next (Number r.first ∷ Number r.second ∷ Number r.weight ∷ [])) → e < code_of LetterH → add_line k (line_of l.bytes true) m ≡ add_letter e k r m
-    unfolding add_row add_letter kind_by is_alone is_one is_two is_triple alike
-    weighted-line r (inl z) l h = by_row l LetterI (lit< tt) z ∙ rw z
-    weighted-line r (inr (inl z)) l h = by_row l LetterO (lit< tt) z ∙ rw z
-    weighted-line r (inr (inr (inl z))) l h = absurd (omega arith)
-    weighted-line r (inr (inr (inr z))) l h = absurd (omega arith)
+    pub weighted-line : (x : ArcKind) (r : ArcLine) → e ≡ code_of (letter_for x) → (l : PlainLine 4 text i next (Number r.first ∷ Number r.second ∷ Number r.weight ∷ [])) → MayWeigh x → add_line k (line_of l.bytes true) m ≡ add_kind x k r m
+    unfolding add_row is_alone is_one is_two is_triple alike
+    weighted-line Input r z l h = by_row l LetterI (lit< tt) z
+    weighted-line Output r z l h = by_row l LetterO (lit< tt) z
+    weighted-line Inhibitor r z l h = absurd h
+    weighted-line Read r z l h = absurd h
+
+-- the next line starts behind an ending that was passed
+pub passes : (e : ℕ) (s : List ℕ) (at next : ℕ) → next ≡ past_by e s at → (next ≡ at → ⊥) → at < next
+unfolding past_by
+passes e s at next q d = omega (arith, d, q, step (eqb e (code_of LineEnd)) (eqb e (code_of Return) && eqb (entry_of (get_or s (at + 1) 0)) (code_of LineEnd)))
+  where
+    step : (b c : Bool) → at ≤ cond b (at + 1) (cond c (at + 2) at)
+    step true c = omega arith
+    step false true = omega arith
+    step false false = omega arith
 
 -- only an input or an output weighs more than 1
-pub line-bears : {text : List ℕ} {i e : ℕ} (r : ArcLine) → ArcEntry e → IsArcLine text i e r → Bears (kind_by e) r.weight
-unfolding kind_by
-line-bears r (inl z) l = rw z tt
-line-bears r (inr (inl z)) l = rw z tt
-line-bears r (inr (inr (inl z))) (inl l) = rw z l.1
-line-bears r (inr (inr (inl z))) (inr l) = absurd (omega (arith, l.1))
-line-bears r (inr (inr (inr z))) (inl l) = rw z l.1
-line-bears r (inr (inr (inr z))) (inr l) = absurd (omega (arith, l.1))
-
--- the arcs of each kind stand within their array
-pub offset-within : (x : ArcKind) → offset_of x ≤ reads_at
-offset-within Input = omega arith
-offset-within Output = omega arith
-offset-within Inhibitor = omega arith
-offset-within Read = omega arith
-
--- those of the first three kinds one behind the other
-pub kind-place : (e : ℕ) → ArcEntry e → (e ≡ code_of LetterR → ⊥) → (15 ≤ e) × (e ≤ 17) × ((e - 15) * kind_count ≡ offset_of (kind_by e))
-unfolding kind_by
-kind-place e (inl q) d = (omega arith, omega arith, rw q)
-kind-place e (inr (inl q)) d = (omega arith, omega arith, rw q)
-kind-place e (inr (inr (inl q))) d = (omega arith, omega arith, rw q)
-kind-place e (inr (inr (inr q))) d = absurd (d q)
+pub line-bears : {text : List ℕ} {i : ℕ} (x : ArcKind) (r : ArcLine) → IsArcLine text i x r → Bears x r.weight
+line-bears Input r l = tt
+line-bears Output r l = tt
+line-bears Inhibitor r (inl l) = l.1
+line-bears Inhibitor r (inr l) = absurd l.1
+line-bears Read r (inl l) = l.1
+line-bears Read r (inr l) = absurd l.1
 
 -- ---- a line that is added
 
-module _ {text : List ℕ} {i k : ℕ} {s : Size} {a a' : Arrays} {step : Stepped} where
+module _ {text : List ℕ} {i k : ℕ} {s : Size} {a a' : Arrays} (r : Result Took NetRefusal) where
   -- a plain line that the definitions add as f does
-  plain-adds : {next : ℕ} {fs : List Slot} (f : NetD → Answer NetD) → next ≤ length text → (l : PlainLine 4 text i next fs) → i < next → ((m : NetD) → add_line k (line_of l.bytes true) m ≡ f m) → Steps s a f step a'
-      → Takes text i k s a (record { step = step; next = next }) a'
-  plain-adds f w l h e g = record { found = plain_at w l h; steps = λ m d. rw (e m) (g m d) }
+  plain-adds : {next : ℕ} {fs : List Slot} (f : NetD → Answer NetD) → next ≤ length text → (l : PlainLine 4 text i next fs) → i < next → ((m : NetD) → add_line k (line_of l.bytes true) m ≡ f m)
+      → GoesOn r next → Steps s a f (size_after r) a' → Takes text i k s a r a'
+  plain-adds {next} f w l h e o g = record { next = next; found = plain_at w l h; on = o; steps = λ m d. rw (e m) (g m d) }
 
-  pub plain-takes : {next : ℕ} {fs : List Slot} (f : NetD → Answer NetD) → (r : MayRead 4 text i next fs) (h : i < next) → ((m : NetD) (l : PlainLine 4 text i next fs) → add_line k (line_of l.bytes true) m ≡ f m) → Steps s a f step a'
-      → Takes text i k s a (record { step = step; next = next }) a'
-  plain-takes f r h e g = plain-adds f r.within (r.line h) h (λ m. e m (r.line h)) g
+  pub plain-takes : {next : ℕ} {fs : List Slot} (f : NetD → Answer NetD) → (p : MayRead 4 text i next fs) (h : i < next) → ((m : NetD) (l : PlainLine 4 text i next fs) → add_line k (line_of l.bytes true) m ≡ f m)
+      → GoesOn r next → Steps s a f (size_after r) a' → Takes text i k s a r a'
+  plain-takes f p h e o g = plain-adds f p.within (p.line h) h (λ m. e m (p.line h)) o g
 
   -- an arc's line
-  pub arc-takes : {e : ℕ} (r : ArcLine) → ArcLineAt text i e r → (h : i < r.next) → ArcEntry e → e ≡ entry_of (get_or text i 0) → (Bears (kind_by e) r.weight → Steps s a (add_letter e k r) step a')
-      → Takes text i k s a (record { step = step; next = r.next }) a'
-  arc-takes {e} r A h x q g = go (A.line h)
+  pub arc-takes : (x : ArcKind) (l : ArcLine) → ArcLineRead text i x l → code_of (letter_for x) ≡ entry_of (get_or text i 0)
+      → GoesOn r l.next → (Bears x l.weight → Steps s a (add_kind x k l) (size_after r) a') → Takes text i k s a r a'
+  arc-takes x l A q o g = go A.line
     where
-      go : IsArcLine text i e r → Takes text i k s a (record { step = step; next = r.next }) a'
-      go (inl l) = plain-adds (add_letter e k r) A.within l.0 h (λ m. arc-line k m q r x l.0 l.1) (g (line-bears r x (inl l)))
-      go (inr l) = plain-adds (add_letter e k r) A.within l.0 h (λ m. weighted-line k m q r x l.0 l.1) (g (line-bears r x (inr l)))
+      go : IsArcLine text i x l → Takes text i k s a r a'
+      go (inl p) = plain-adds (add_kind x k l) A.within p.0 A.on (λ m. arc-line k m q x l refl p.0 p.1) o (g (line-bears x l (inl p)))
+      go (inr p) = plain-adds (add_kind x k l) A.within p.0 A.on (λ m. weighted-line k m q x l refl p.0 p.1) o (g (line-bears x l (inr p)))
 
-  pub line-takes : {r : Span} → LineAt text i r → Steps s a (add_line k (line_of (take (r.end - i) (drop i text)) r.ended)) step a' → Takes text i k s a (record { step = step; next = r.next }) a'
-  line-takes h g = record { found = line-to h; steps = g }
+  pub line-takes : {l : Span} → LineAt text i l → GoesOn r l.next → Steps s a (add_line k (line_of (take (l.end - i) (drop i text)) l.ended)) (size_after r) a' → Takes text i k s a r a'
+  line-takes {l} h o g = record { next = l.next; found = line-to h; on = o; steps = g }
+
+-- ---- an arc by its kind, its place and its transition
+
+-- the letters of kinds that are the same
+letters : {x y : ArcKind} → x ≡ y → code_of (letter_for x) ≡ code_of (letter_for y)
+letters e = ap (λ (x : ArcKind). code_of (letter_for x)) e
+
+pub by_kind : (x : ArcKind) (k : ℕ) (l : ArcLine) (q : ℕ × ℕ) (m : NetD) → (x ≡ Output → q ≡ (l.second, l.first)) → ((x ≡ Output → ⊥) → q ≡ (l.first, l.second)) → add_kind x k l m ≡ add_arc x k q.0 q.1 l.weight m
+by_kind Input k l q m e f = rw (f (λ z. absurd (omega (arith, letters z))))
+by_kind Output k l q m e f = rw (e refl)
+by_kind Inhibitor k l q m e f = rw (f (λ z. absurd (omega (arith, letters z))))
+by_kind Read k l q m e f = rw (f (λ z. absurd (omega (arith, letters z))))

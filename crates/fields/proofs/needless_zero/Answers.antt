@@ -14,9 +14,6 @@ pub returns-then-p-lt2 : goal.returns-then-p-lt2
 unfolding needless_zero
 returns-then-p-lt2 c = let s : length c.args.p.now ≤ 1 = omega arith in rw (le-ltb 1 _ s)
 
-pub entry_of-requires : goal.entry_of-requires
-entry_of-requires c = c.requires
-
 pub returns : goal.returns
 unfolding needless_zero
 returns c =

@@ -6,7 +6,7 @@ use native.Mathlib.Omega.{arith}
 use Rattle.number_lines.proofs.is_list_line.Goals as goal
 
 pub is_list-requires : goal.is_list-requires
-is_list-requires c = (c.requires, omega arith)
+is_list-requires c = omega arith
 
 pub returns : goal.returns
 returns c = ap (λ z. c.args.ended && z) c.is_list.ensures

@@ -78,7 +78,7 @@ returns-then-is_two-3 c N d =
 pub returns : goal.returns
 unfolding enter_row
 returns c N d =
-    line_refused _ c.refused.ensures (λ R h. rw (
+    line_refused _ (λ R h. rw (
       sym c.is_one.ensures ∙ c.if-is_one.false,
       sym c.is_three.ensures ∙ c.if-is_three.false,
       sym c.is_two.ensures ∙ c.if-is_two.false,
