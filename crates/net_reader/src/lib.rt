@@ -270,12 +270,7 @@ fn any_cell(arcs: &[u8; ARCS], at: usize, t: usize, places: usize) -> bool
     requires { (at ≤ reads_at) × (t < 32) × (places ≤ 32) }
     ensures { result ≡ any_cell (column at kind_count arcs.now) t places }
 {
-    for p in 0..places {
-        if 0 < arc_at(arcs, at, t, p) {
-            return true;
-        }
-    }
-    false
+    (0..places).any(|p| 0 < arc_at(arcs, at, t, p))
 }
 
 // Whether the transition lacks an input or an output.
