@@ -1,7 +1,7 @@
 -- Lines of a record text, by their rows, and what plain lines enter.
-use Rattle.std.specs.Prelude.{None, Some, Result, Ok, Err}
+use Rattle.std.specs.Prelude.{Option, None, Some, MatchOption, Result, Ok, Err}
 use Prim.Native.Nat.{ℕ, ◌-◌, ◌≤◌, ◌<◌}
-use mathlib.Core.Path.{◌≡◌, refl, ◌∙◌}
+use mathlib.Core.Path.{◌≡◌, refl, subst, ◌∙◌}
 use mathlib.Core.Bool.{Bool, true, false, cond}
 use mathlib.Core.List.{List, [], ◌∷◌}
 use native.Mathlib.Omega.{arith}
@@ -14,14 +14,14 @@ use Rattle.spec.specs.Net.{Net}
 use Rattle.spec.specs.Record.{RunRecord}
 use Rattle.spec.specs.Checking.{condition_of, mark_in, enter_event, enter_condition, enter_mark, enter_line}
 use Rattle.spec.specs.Forms.{is_line}
-use Rattle.line_forms.specs.Rows.{a_number_or_dash, row_of, is_one, is_two, is_three}
+use Rattle.line_forms.specs.Rows.{value_of, a_number_or_dash, row_of, is_one, is_two, is_three}
 use Rattle.line_forms.proofs.Ties.{one_line, two-line, three-line, event-at, number-at}
-use Rattle.spec.specs.Classes.{class_code, alike}
-use Rattle.spec.specs.declared.Class.{Class}
+use Rattle.spec.specs.Classes.{alike}
 use Rattle.spec.specs.declared.Class.TheVariants.{Comma, LetterE, LetterC, LetterB, LetterA, LetterR, LetterP, LetterW}
 use Rattle.spec.specs.declared.MarkKind.{MarkKind}
 use Rattle.spec.specs.declared.MarkKind.TheVariants.{Before, After, Read}
 use Rattle.spec.specs.declared.Limits.{Limits}
+use Rattle.line_forms.specs.declared.Row.{Row}
 use Rattle.line_forms.specs.declared.Slot.{Slot}
 use Rattle.line_forms.specs.declared.Slot.TheVariants.{Number}
 use Rattle.byte_entries.specs.Entries.{code_of, entry_of}
@@ -31,11 +31,11 @@ use Rattle.lines.specs.declared.Cursor.{Cursor}
 use Rattle.lines.specs.declared.Opening.{Opening}
 use Rattle.lines.specs.declared.Span.{Span}
 use Rattle.lines.proofs.Lines.{line-to}
-use Rattle.plain_lines.specs.Plain.{row_with, PlainLine, MayRead}
+use Rattle.plain_lines.specs.Plain.{PlainLine, MayRead}
 use Rattle.plain_lines.proofs.Plain.{plain-to, BeginsWith, begins-with}
 use Rattle.record_columns.specs.Enters.{Entered, Enters, condition_in, mark_of}
 use Rattle.record_columns.proofs.Answers.{entered-same}
-use Rattle.record_reader.specs.Reads.{Declares, Takes, letter_of, kind_by, enter_row}
+use Rattle.record_reader.specs.Reads.{Declares, Takes, letter_of, kind_in, kind_by, enter_row}
 use Rattle.record_columns.specs.declared.Bounds.{Bounds}
 use Rattle.record_columns.specs.declared.Counts.{Counts}
 use Rattle.record_columns.specs.declared.RecordRefusal.{RecordRefusal}
@@ -57,6 +57,27 @@ module _ (lim : Limits) (k : ℕ) (b : List ℕ) (N : Net) (R : RunRecord) where
   pub unended-refused : {e : Bool} → e ≡ false → enter_line lim N k (line_of b e) R ≡ refuses 31 k
   unfolding enter_line is_line
   unended-refused h = rw h
+
+-- what a row enters that enters neither an event nor a condition: a mark of its kind, if it has one
+module _ (lim : Limits) (k : ℕ) (w : Row) (N : Net) (R : RunRecord) where
+  abbrev EntersKind : Option MarkKind → Type 0
+  EntersKind o = MatchOption o (enter_row lim N k w R ≡ refuses 31 k) (λ x. enter_row lim N k w R ≡ enter_mark lim k (mark_of x (value_of w.first) (value_of w.second)) R)
+
+  by-kind : is_one LetterE w ≡ false → is_three LetterC w ≡ false → EntersKind (kind_in w)
+  unfolding enter_row
+  by-kind p q = go (is_two LetterB w) refl (is_two LetterA w) refl (is_two LetterR w) refl
+    where
+      go : (a : Bool) → is_two LetterB w ≡ a → (b : Bool) → is_two LetterA w ≡ b → (c : Bool) → is_two LetterR w ≡ c → EntersKind (cond a (Some Before) (cond b (Some After) (cond c (Some Read) None)))
+      go true e b f c g = rw (p, q, e)
+      go false e true f c g = rw (p, q, e, f)
+      go false e false f true g = rw (p, q, e, f, g)
+      go false e false f false g = rw (p, q, e, f, g)
+
+  pub mark-entered : is_one LetterE w ≡ false → is_three LetterC w ≡ false → {x : MarkKind} → kind_in w ≡ Some x → enter_row lim N k w R ≡ enter_mark lim k (mark_of x (value_of w.first) (value_of w.second)) R
+  mark-entered p q e = subst EntersKind e (by-kind p q)
+
+  pub no-row : is_one LetterE w ≡ false → is_three LetterC w ≡ false → kind_in w ≡ None → enter_row lim N k w R ≡ refuses 31 k
+  no-row p q e = subst EntersKind e (by-kind p q)
 
 -- ---- plain lines
 

@@ -33,6 +33,11 @@ pub record Declares (b : Bounds) (N : Net) : Type 0 where
   pub places : places N ≡ b.places
   pub transitions : N.transitions ≡ b.transitions
 
+-- the kind of the mark that a row enters, if it has a letter of marks and two numbers
+abbrev pub kind_in : Row → Option MarkKind
+kind_in w =
+    cond (is_two LetterB w) (Some Before) (cond (is_two LetterA w) (Some After) (cond (is_two LetterR w) (Some Read) None))
+
 -- what line k enters, by its row
 unfoldable pub enter_row : Limits → Net → ℕ → Row → RunRecord → Answer RunRecord
 enter_row lim n k w r =

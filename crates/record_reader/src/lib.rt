@@ -4,18 +4,33 @@
 ghost use Rattle.std.specs.Prelude.{◌≡◌, true, ◌≤◌, ◌<◌, length};
 ghost use Rattle.lines.specs.Lines.{EndedTo};
 ghost use Rattle.record_columns.specs.Layout.{record_bytes};
-ghost use Rattle.record_columns.specs.Enters.{Room, Fits, Spans, condition_in, EntersCondition};
-ghost use Rattle.record_reader.specs.Reads.{Blank, EntersRow, Takes, kind_by};
+ghost use Rattle.record_columns.specs.Enters.{Room, Fits, Spans};
+ghost use Rattle.record_reader.specs.Reads.{Blank, EntersRow, Takes, kind_in, kind_by};
 ghost use Rattle.record_reader.specs.Reads.{ReadsRecord, MarksFit};
 
 use byte_classes::{Table, byte_table};
 use byte_entries::{COMMA, LETTER_A, LETTER_B, LETTER_C, LETTER_E, LETTER_R};
 use fields::row_of;
 use line_forms::{Row, is_one, is_three, is_two, number_in};
-use lines::{Cursor, Opening, ended_to, line_at, open_at, opens_with};
-use plain_lines::{Three, one_at, three_at, two_at};
+use lines::{Cursor, ended_to, line_at, open_at, opens_with};
+use plain_lines::{one_at, three_at, two_at};
 use record_columns::{Bounds, Counts, RecordRefusal, enter_condition, enter_event, enter_mark};
 use spec::{Class, MarkKind};
+
+// The kind of the mark that a row enters, if it has a letter of marks and two numbers.
+fn kind_in(w: Row) -> Option<MarkKind>
+    ensures { result ≡ kind_in w }
+{
+    if is_two(Class::LetterB, w) {
+        Some(MarkKind::Before)
+    } else if is_two(Class::LetterA, w) {
+        Some(MarkKind::After)
+    } else if is_two(Class::LetterR, w) {
+        Some(MarkKind::Read)
+    } else {
+        None
+    }
+}
 
 // What a line says is entered.
 fn enter_row(
@@ -30,27 +45,17 @@ fn enter_row(
     ensures { EntersRow b k w s rec.old marks.old result
         rec.new marks.new }
 {
-    let first = w.first;
-    let second = w.second;
-    let third = w.third;
-    let x = number_in(first);
-    let y = number_in(second);
+    let x = number_in(w.first);
     if is_one(Class::LetterE, w) {
         return enter_event(b, k, x, s, rec);
     }
     if is_three(Class::LetterC, w) {
-        return enter_condition(b, k, x, second, third, s, rec);
+        return enter_condition(b, k, x, w.second, w.third, s, rec);
     }
-    if is_two(Class::LetterB, w) {
-        return enter_mark(b, MarkKind::Before, k, x, y, s, marks);
+    match kind_in(w) {
+        Some(kind) => enter_mark(b, kind, k, x, number_in(w.second), s, marks),
+        None => Err(RecordRefusal::Malformed(k)),
     }
-    if is_two(Class::LetterA, w) {
-        return enter_mark(b, MarkKind::After, k, x, y, s, marks);
-    }
-    if is_two(Class::LetterR, w) {
-        return enter_mark(b, MarkKind::Read, k, x, y, s, marks);
-    }
-    Err(RecordRefusal::Malformed(k))
 }
 
 // The counts after a line that was entered, and where the next one starts.
@@ -70,22 +75,6 @@ fn kind_of(letter: u8) -> Option<MarkKind>
         LETTER_R => Some(MarkKind::Read),
         _ => None,
     }
-}
-
-// The condition that a plain line names is entered.
-fn enter_three(
-    b: Bounds,
-    k: usize,
-    f: Three,
-    s: Counts,
-    rec: &mut [u8],
-) -> Result<Counts, RecordRefusal>
-    requires { Room b × Fits s rec.old }
-    ensures { EntersCondition b k (condition_in f.a f.b f.c) s rec.old result rec.new }
-{
-    let producer = f.b;
-    let consumer = f.c;
-    enter_condition(b, k, f.a, producer, consumer, s, rec)
 }
 
 // The line at a cursor is entered by the readers of lines and fields, whatever it is.
@@ -150,7 +139,7 @@ fn enter_at(
     if opens_with(LETTER_C, open) {
         let f = three_at(table, 4, text, at);
         if at < f.next {
-            let counts = enter_three(b, c.line, f, s, rec)?;
+            let counts = enter_condition(b, c.line, f.a, f.b, f.c, s, rec)?;
             return Ok(Took {
                 counts,
                 next: f.next,

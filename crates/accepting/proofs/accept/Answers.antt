@@ -7,9 +7,6 @@ use Rattle.accepting.proofs.Fresh.{fresh-few, fresh-all}
 use Rattle.accepting.proofs.Accepting.{net-stop, refused-both, accepted-both}
 use Rattle.accepting.proofs.accept.Goals as goal
 
-pub read_into-requires : goal.read_into-requires
-read_into-requires c = c.requires.1
-
 pub returns-in_err-size : goal.returns-in_err-size
 returns-in_err-size c = let r = c.read_into in
     rw (err-is _ c.from_residual.ensures.1)

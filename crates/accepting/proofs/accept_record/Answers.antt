@@ -5,9 +5,6 @@ use Rattle.representation.proofs.Codes.{sound}
 use Rattle.accepting.proofs.Accepting.{held, record-stop, rules-stop, record-go}
 use Rattle.accepting.proofs.accept_record.Goals as goal
 
-pub read_record-requires : goal.read_record-requires
-read_record-requires c = (c.requires.0, c.requires.2, c.requires.3)
-
 pub returns-in_err-s : goal.returns-in_err-s
 returns-in_err-s c = let a = c.args in let n = c.read_record.new in
     rw (err-is _ c.from_residual.ensures.1) (refl, λ N h. record-stop a.b a.tokens.now a.arcs.now a.text.now n.rec n.marks N h _ c.in_err-s.ensures.0)

@@ -3,7 +3,6 @@
 use mathlib.Core.Path.{refl, ap, ◌∙◌}
 use native.Mathlib.Omega.{arith}
 use borrow.Author.Tests.{le-leb, lt-leb, eq-eqb, ne_eqb}
-use lib.ListN.{length-set}
 use mathlib.Core.Bool.{not}
 use Rattle.line_forms.specs.Rows.{event_of}
 use Rattle.spec.specs.Checking.{with_condition}
@@ -36,14 +35,8 @@ overflow_cast-rec c = omega (arith, declared (goal.at.overflow_cast-rec c).Else-
 pub overflow_cast-rec-2 : goal.overflow_cast-rec-2
 overflow_cast-rec-2 c = omega (arith, declared (goal.at.overflow_cast-rec-2 c).Else-not-p-b)
 
-pub bounds-rec-c-2 : goal.bounds-rec-c-2
-bounds-rec-c-2 c = simp length-set (omega arith)
-
 pub overflow_cast-rec-3 : goal.overflow_cast-rec-3
 overflow_cast-rec-3 c = omega (arith, declared (goal.at.overflow_cast-rec-3 c).Else-not-p-b)
-
-pub bounds-rec-c-3 : goal.bounds-rec-c-3
-bounds-rec-c-3 c = simp length-set (omega arith)
 
 pub returns-then-not-p-b : goal.returns-then-not-p-b
 returns-then-not-p-b c N words d =

@@ -1,6 +1,6 @@
 -- `record_reader::enter_at` meets its contract: the opening of a line tells its letter and that a line end is ahead, so
 -- that a plain line is entered as the definitions enter it, by its letter; any other is read as a line.
-use Rattle.std.specs.Prelude.{◌≡◌, Ok, Err}
+use Rattle.std.specs.Prelude.{Ok, Err}
 use mathlib.Core.Path.{sym, ◌∙◌}
 use native.Mathlib.Omega.{arith}
 use Rattle.spec.specs.Checking.{enter_event, enter_condition, enter_mark}
