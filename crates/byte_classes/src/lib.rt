@@ -16,13 +16,12 @@ mod lookup;
 mod table;
 
 // The class that an entry stands for.
+#[tactic(auto, unfolding(byte_entries::specs::Entries::class_by))]
 pub fn class_of(entry: u8) -> Class
     ensures { result ≡ class_by entry }
 {
-    if entry < 10 {
-        return Class::Digit;
-    }
     match entry {
+        0..=9 => Class::Digit,
         COMMA => Class::Comma,
         DASH => Class::Dash,
         LINE_END => Class::LineEnd,

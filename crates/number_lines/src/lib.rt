@@ -17,7 +17,6 @@ use digits::number_from;
 use fields::{fields_of, is_list};
 use line_forms::number_in;
 use lines::past_ending;
-use machine_numbers::greater;
 use spec::Class;
 
 // The numbers of a line that are kept: no more events are in one.
@@ -27,7 +26,7 @@ pub const NUMBERS: usize = 128;
 pub fn is_list_line(table: &Table, k: Class, l: &[u8], ended: bool) -> bool
     ensures { result ≡ (ended && is_list most_digits k l.now) }
 {
-    ended & is_list(table, 4, k, l)
+    ended && is_list(table, 4, k, l)
 }
 
 // Whether a line is one of a log.
@@ -76,10 +75,9 @@ fn put(xs: &mut [u8; NUMBERS], i: usize, v: usize)
     requires { length xs.old ≡ numbers_long }
     ensures { Puts xs.old i v xs.new }
 {
-    if NUMBERS <= i {
-        return;
+    if i < NUMBERS {
+        xs[i] = (v % 256) as u8;
     }
-    xs[i] = (v % 256) as u8;
 }
 
 // The line that starts at a position, if it is ended and is this letter, known by its entry, and one number or more. A
@@ -108,7 +106,7 @@ pub fn list_at(table: &Table, letter: u8, text: &[u8], at: usize, xs: &mut [u8; 
             return none;
         }
         put(xs, seen, v.value);
-        high = greater(high, v.value);
+        high = high.max(v.value);
         seen += 1;
         end = v.end;
         stop = v.stop;
