@@ -96,6 +96,7 @@ fn arc_letter(o: Opening) -> bool
 
 // Where the arcs of a letter's kind stand: those of the letters I, O and H one behind the other, as their entries do. It is
 // computed and not chosen by branches, as it changes from line to line and no machine foresees it.
+// A number and no enum: an enum that is told by a match made reading a long net slower by half.
 fn arc_kind(letter: u8) -> usize
     requires { ArcEntry letter }
     ensures { result ≡ offset_of (kind_by letter) }
