@@ -16,7 +16,7 @@ use run_counts::COUNTS;
 use step_lines::judge_line;
 use steps::{MARKING, Position, STEP, play, put_tokens};
 
-// How far the steps of a run have come.
+// How far the steps of a run have come. Not a From: both types are of crates below, and this is the one use.
 fn position(x: Extent) -> Position
     ensures { result ≡ position_of x }
 {
