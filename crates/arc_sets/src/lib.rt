@@ -3,8 +3,7 @@
 // (02, 2026-06). So a step walks the arcs that are there, and not every place.
 #![tactic(auto)]
 
-ghost use Rattle.std.specs.Prelude.{◌≡◌, ◌+◌, ◌-◌, ◌*◌, ◌%◌, ◌^◌, ◌≤◌, ◌<◌, get_or, replicate};
-ghost use Rattle.std.specs.Int.Bits.{bit_or};
+ghost use Rattle.std.specs.Prelude.{◌≡◌, ◌+◌, ◌-◌, ◌*◌, ◌%◌, ◌≤◌, ◌<◌, get_or, replicate};
 ghost use Rattle.std.specs.Int.Count.{count_trailing_zeros};
 ghost use Rattle.spec.specs.Lists.{sum_of, up_to};
 ghost use Rattle.bit_sets.specs.Bits.{bit};
@@ -12,7 +11,6 @@ ghost use Rattle.arc_sets.specs.Sets.{set_count, row_count, more_at, RowSet, Put
 ghost use Rattle.net.specs.NetArrays.{row_size, arc_count};
 
 use bit_sets::members;
-use machine_numbers::wide_word;
 use net::{ARCS, ROW};
 
 // All words: the sets of all kinds, by transition, and behind them the weights.
@@ -34,14 +32,14 @@ pub const WEIGHTS: usize = 128;
 pub fn lowest(bits: u64) -> usize
     ensures { result ≡ count_trailing_zeros 64 bits }
 {
-    wide_word(u64::trailing_zeros(bits))
+    bits.trailing_zeros() as usize
 }
 
 // How many places a set has.
 pub fn size(set: u64) -> usize
     ensures { (result ≡ sum_of (bit set) (up_to 64)) × (result ≤ 64) }
 {
-    wide_word(u64::count_ones(set))
+    set.count_ones() as usize
 }
 
 // The set of the row that stands at `at`.
@@ -62,27 +60,16 @@ pub fn weight(sets: &[u64; SETS], row: usize, p: usize) -> usize
     1 + digit as usize
 }
 
-// A set with place p, if the row has something there.
-fn entered(set: u64, cell: u8, p: usize) -> u64
-    requires { p < 64 }
-    ensures { (0 < cell → result ≡ bit_or set ((1 * 2 ^ p) % 2 ^ 64)) × (cell ≤ 0 → result ≡ set) }
-{
-    if 0 < cell {
-        return set | (1 << p);
-    }
-    set
-}
-
 // The places of a row of arcs, among the first m.
 fn set_of(arcs: &[u8; ARCS], row: usize, m: usize) -> u64
     requires { (row + row_size ≤ arc_count) × (m ≤ 32) }
     ensures { RowSet arcs.now row m result }
 {
     let mut set: u64 = 0;
-    let mut p: usize = 0;
-    while p < m {
-        set = entered(set, arcs[row + p], p);
-        p += 1;
+    for p in 0..m {
+        if 0 < arcs[row + p] {
+            set |= 1 << p;
+        }
     }
     set
 }
@@ -92,7 +79,7 @@ fn more(cell: u8) -> u64
     requires { 0 < cell }
     ensures { result ≡ (cell - 1) % 16 }
 {
-    ((cell - 1) % 16) as u64
+    u64::from((cell - 1) % 16)
 }
 
 // A row of arcs, among the first m places: its set, and the weights of the places that are in it. A weight of 1 is there
@@ -118,12 +105,10 @@ pub fn put_sets(sets: &mut [u64; SETS], arcs: &[u8; ARCS], m: usize, n: usize)
     requires { (m ≤ 32) × (n ≤ 32) × (sets.old ≡ replicate set_count 0) }
     ensures { SetsOf arcs.now m n sets.new }
 {
-    let mut t: usize = 0;
-    while t < n {
+    for t in 0..n {
         put_row(sets, arcs, t, m);
         put_row(sets, arcs, MADE + t, m);
         put_row(sets, arcs, GUARDS + t, m);
         put_row(sets, arcs, READ + t, m);
-        t += 1;
     }
 }

@@ -106,11 +106,6 @@ bar_of Output = Output
 bar_of Inhibitor = Inhibitor
 bar_of Read = Input
 
--- `other` is where the arcs stand that bar those of the kind that stands from `at` on
-pub record Bars (at other : ℕ) : Type 0 where
-  pub low : other ≤ reads_at
-  pub of : (x : ArcKind) → at ≡ offset_of x → other ≡ offset_of (bar_of x)
-
 -- the arcs of one kind in the array of arcs
 abbrev pub inputs_in : List ℕ → List ℕ
 inputs_in arcs = column 0 kind_count arcs
@@ -197,11 +192,10 @@ Bears Output w = Unit {0}
 Bears Inhibitor w = w ≡ 1
 Bears Read w = w ≡ 1
 
--- an arc of weight w, of the kind that stands from `at` on, is added as line k adds it, whatever the tokens are
-abbrev pub AddsArc : ℕ → ℕ → ℕ → ℕ → ℕ → Size → List ℕ → Result Size NetRefusal → List ℕ → Type 0
-AddsArc at k p t w s arcs r arcs' =
-    (x : ArcKind) (tokens : List ℕ) → at ≡ offset_of x → Bears x w
-    → Steps s (arrays_at tokens arcs) (add_arc x k p t w) r (arrays_at tokens arcs')
+-- an arc of a kind, of weight w, is added as line k adds it, whatever the tokens are
+abbrev pub AddsArc : ArcKind → ℕ → ℕ → ℕ → ℕ → Size → List ℕ → Result Size NetRefusal → List ℕ → Type 0
+AddsArc x k p t w s arcs r arcs' =
+    (tokens : List ℕ) → Bears x w → Steps s (arrays_at tokens arcs) (add_arc x k p t w) r (arrays_at tokens arcs')
 
 -- the bounds that the code relies on
 pub record Few (s : Size) : Type 0 where

@@ -1,6 +1,6 @@
 -- Lines of a net text, by their rows, and what plain lines add.
-use Prim.Native.Nat.{ℕ, ◌+◌, ◌-◌, ◌*◌, ◌≤◌, ◌<◌}
-use mathlib.Core.Path.{◌≡◌, refl, sym, ◌∙◌}
+use Prim.Native.Nat.{ℕ, ◌+◌, ◌-◌, ◌≤◌, ◌<◌}
+use mathlib.Core.Path.{◌≡◌, refl, sym, ap, ◌∙◌}
 use mathlib.Core.Logic.{inl, inr}
 use native.Mathlib.Omega.{arith}
 use lib.Dec.{lit<, eqb}
@@ -13,7 +13,7 @@ use Rattle.spec.specs.Forms.{is_line}
 use Rattle.line_forms.specs.Rows.{row_of, is_alone, is_one, is_two, is_triple}
 use Rattle.line_forms.proofs.Ties.{alone-line, one_line, two-line, triple-line, number-at}
 use Rattle.spec.specs.Classes.{class_code, alike}
-use Rattle.spec.specs.Net.{Net as NetD, add_place, add_transition, add_line}
+use Rattle.spec.specs.Net.{Net as NetD, add_place, add_transition, add_arc, add_line}
 use Rattle.line_forms.specs.declared.Slot.{Slot}
 use Rattle.line_forms.specs.declared.Slot.TheVariants.{Number}
 use Rattle.lines.specs.Lines.{line_of, LineAt, past_by}
@@ -28,8 +28,8 @@ use Rattle.plain_lines.specs.Plain.{LetterEntry, row_with, PlainLine, MayRead}
 use Rattle.plain_lines.proofs.Plain.{letter-entry, plain_at}
 use Rattle.spec.specs.declared.ArcKind.{ArcKind}
 use Rattle.spec.specs.declared.ArcKind.TheVariants.{Input, Output, Inhibitor, Read}
-use Rattle.net.specs.NetArrays.{kind_count, reads_at, offset_of, Arrays, Bears, Steps}
-use Rattle.net_reader.specs.Reads.{add_row, ArcEntry, ArcLetter, kind_by, IsArcLine, ArcLineRead, add_letter, Takes, size_after, GoesOn}
+use Rattle.net.specs.NetArrays.{Arrays, Bears, Steps}
+use Rattle.net_reader.specs.Reads.{add_row, letter_for, ArcLetter, MayWeigh, IsArcLine, ArcLineRead, add_kind, Takes, size_after, GoesOn}
 use Rattle.net_reader.specs.declared.ArcLine.{ArcLine}
 use Rattle.net.specs.declared.Size.{Size}
 use Rattle.net.specs.declared.NetRefusal.{NetRefusal}
@@ -56,17 +56,17 @@ module _ (k : ℕ) (b : List ℕ) (n : NetD) where
 -- ---- plain lines
 
 -- the entries of arcs' letters are among those of letters
-arc-bounds : {e : ℕ} → ArcEntry e → (code_of LetterP ≤ e) × (e ≤ code_of LetterW)
-arc-bounds (inl q) = (omega arith, omega arith)
-arc-bounds (inr (inl q)) = (omega arith, omega arith)
-arc-bounds (inr (inr (inl q))) = (omega arith, omega arith)
-arc-bounds (inr (inr (inr q))) = (omega arith, omega arith)
+arc-bounds : (x : ArcKind) → (code_of LetterP ≤ code_of (letter_for x)) × (code_of (letter_for x) ≤ code_of LetterW)
+arc-bounds Input = (omega arith, omega arith)
+arc-bounds Output = (omega arith, omega arith)
+arc-bounds Inhibitor = (omega arith, omega arith)
+arc-bounds Read = (omega arith, omega arith)
 
-pub arc-entry : {o : Opening} → ArcLetter o → LetterEntry o.letter
-arc-entry {o} a = let b = arc-bounds a.letter in letter-entry o.letter b.0 b.1
+pub arc-entry : {o : Opening} {x : ArcKind} → ArcLetter o x → LetterEntry o.letter
+arc-entry {o} {x} a = let b = arc-bounds x in letter-entry o.letter (omega (arith, a.letter, b.0)) (omega (arith, a.letter, b.1))
 
-pub arc-tells : {o : Opening} → ArcLetter o → o.letter ≡ code_of Foreign → ⊥
-arc-tells a z = omega (arith, (arc-bounds a.letter).1)
+pub arc-tells : {o : Opening} {x : ArcKind} → ArcLetter o x → o.letter ≡ code_of Foreign → ⊥
+arc-tells {x = x} a z = omega (arith, a.letter, (arc-bounds x).1)
 
 module _ (k : ℕ) {text : List ℕ} {i next : ℕ} (m : NetD) where
   pub place-line : {v : ℕ} (l : PlainLine 4 text i next (Number v ∷ [])) → entry_of (get_or text i 0) ≡ 13 → add_line k (line_of l.bytes true) m ≡ add_place k v m
@@ -82,19 +82,19 @@ module _ (k : ℕ) {text : List ℕ} {i next : ℕ} (m : NetD) where
     by_row : {fs : List Slot} (l : PlainLine 4 text i next fs) (c : Class) → 1 ≤ class_code c → e ≡ code_of c → add_line k (line_of l.bytes true) m ≡ add_row k (row_with c fs) m
     by_row l c h z = row-added k l.bytes m ∙ rw (l.row, entry-class (get_or text i 0) c h (sym q ∙ z))
 
-    pub arc-line : (r : ArcLine) → ArcEntry e → (l : PlainLine 4 text i next (Number r.first ∷ Number r.second ∷ [])) → r.weight ≡ 1 → add_line k (line_of l.bytes true) m ≡ add_letter e k r m
-    unfolding add_row add_letter kind_by is_alone is_one is_two is_triple alike
-    arc-line r (inl z) l w = by_row l LetterI (lit< tt) z ∙ rw (z, w)
-    arc-line r (inr (inl z)) l w = by_row l LetterO (lit< tt) z ∙ rw (z, w)
-    arc-line r (inr (inr (inl z))) l w = by_row l LetterH (lit< tt) z ∙ rw (z, w)
-    arc-line r (inr (inr (inr z))) l w = by_row l LetterR (lit< tt) z ∙ rw (z, w)
+    pub arc-line : (x : ArcKind) (r : ArcLine) → e ≡ code_of (letter_for x) → (l : PlainLine 4 text i next (Number r.first ∷ Number r.second ∷ [])) → r.weight ≡ 1 → add_line k (line_of l.bytes true) m ≡ add_kind x k r m
+    unfolding add_row is_alone is_one is_two is_triple alike
+    arc-line Input r z l w = by_row l LetterI (lit< tt) z ∙ rw w
+    arc-line Output r z l w = by_row l LetterO (lit< tt) z ∙ rw w
+    arc-line Inhibitor r z l w = by_row l LetterH (lit< tt) z ∙ rw w
+    arc-line Read r z l w = by_row l LetterR (lit< tt) z ∙ rw w
 
-    pub weighted-line : (r : ArcLine) → ArcEntry e → (l : PlainLine 4 text i next (Number r.first ∷ Number r.second ∷ Number r.weight ∷ [])) → e < code_of LetterH → add_line k (line_of l.bytes true) m ≡ add_letter e k r m
-    unfolding add_row add_letter kind_by is_alone is_one is_two is_triple alike
-    weighted-line r (inl z) l h = by_row l LetterI (lit< tt) z ∙ rw z
-    weighted-line r (inr (inl z)) l h = by_row l LetterO (lit< tt) z ∙ rw z
-    weighted-line r (inr (inr (inl z))) l h = absurd (omega arith)
-    weighted-line r (inr (inr (inr z))) l h = absurd (omega arith)
+    pub weighted-line : (x : ArcKind) (r : ArcLine) → e ≡ code_of (letter_for x) → (l : PlainLine 4 text i next (Number r.first ∷ Number r.second ∷ Number r.weight ∷ [])) → MayWeigh x → add_line k (line_of l.bytes true) m ≡ add_kind x k r m
+    unfolding add_row is_alone is_one is_two is_triple alike
+    weighted-line Input r z l h = by_row l LetterI (lit< tt) z
+    weighted-line Output r z l h = by_row l LetterO (lit< tt) z
+    weighted-line Inhibitor r z l h = absurd h
+    weighted-line Read r z l h = absurd h
 
 -- the next line starts behind an ending that was passed
 pub passes : (e : ℕ) (s : List ℕ) (at next : ℕ) → next ≡ past_by e s at → (next ≡ at → ⊥) → at < next
@@ -107,29 +107,13 @@ passes e s at next q d = omega (arith, d, q, step (eqb e (code_of LineEnd)) (eqb
     step false false = omega arith
 
 -- only an input or an output weighs more than 1
-pub line-bears : {text : List ℕ} {i e : ℕ} (r : ArcLine) → ArcEntry e → IsArcLine text i e r → Bears (kind_by e) r.weight
-unfolding kind_by
-line-bears r (inl z) l = rw z tt
-line-bears r (inr (inl z)) l = rw z tt
-line-bears r (inr (inr (inl z))) (inl l) = rw z l.1
-line-bears r (inr (inr (inl z))) (inr l) = absurd (omega (arith, l.1))
-line-bears r (inr (inr (inr z))) (inl l) = rw z l.1
-line-bears r (inr (inr (inr z))) (inr l) = absurd (omega (arith, l.1))
-
--- the arcs of each kind stand within their array
-pub offset-within : (x : ArcKind) → offset_of x ≤ reads_at
-offset-within Input = omega arith
-offset-within Output = omega arith
-offset-within Inhibitor = omega arith
-offset-within Read = omega arith
-
--- those of the first three kinds one behind the other
-pub kind-place : (e : ℕ) → ArcEntry e → (e ≡ code_of LetterR → ⊥) → (15 ≤ e) × (e ≤ 17) × ((e - 15) * kind_count ≡ offset_of (kind_by e))
-unfolding kind_by
-kind-place e (inl q) d = (omega arith, omega arith, rw q)
-kind-place e (inr (inl q)) d = (omega arith, omega arith, rw q)
-kind-place e (inr (inr (inl q))) d = (omega arith, omega arith, rw q)
-kind-place e (inr (inr (inr q))) d = absurd (d q)
+pub line-bears : {text : List ℕ} {i : ℕ} (x : ArcKind) (r : ArcLine) → IsArcLine text i x r → Bears x r.weight
+line-bears Input r l = tt
+line-bears Output r l = tt
+line-bears Inhibitor r (inl l) = l.1
+line-bears Inhibitor r (inr l) = absurd l.1
+line-bears Read r (inl l) = l.1
+line-bears Read r (inr l) = absurd l.1
 
 -- ---- a line that is added
 
@@ -144,13 +128,25 @@ module _ {text : List ℕ} {i k : ℕ} {s : Size} {a a' : Arrays} (r : Result To
   plain-takes f p h e o g = plain-adds f p.within (p.line h) h (λ m. e m (p.line h)) o g
 
   -- an arc's line
-  pub arc-takes : {e : ℕ} (l : ArcLine) → ArcLineRead text i e l → ArcEntry e → e ≡ entry_of (get_or text i 0)
-      → GoesOn r l.next → (Bears (kind_by e) l.weight → Steps s a (add_letter e k l) (size_after r) a') → Takes text i k s a r a'
-  arc-takes {e} l A x q o g = go A.line
+  pub arc-takes : (x : ArcKind) (l : ArcLine) → ArcLineRead text i x l → code_of (letter_for x) ≡ entry_of (get_or text i 0)
+      → GoesOn r l.next → (Bears x l.weight → Steps s a (add_kind x k l) (size_after r) a') → Takes text i k s a r a'
+  arc-takes x l A q o g = go A.line
     where
-      go : IsArcLine text i e l → Takes text i k s a r a'
-      go (inl p) = plain-adds (add_letter e k l) A.within p.0 A.on (λ m. arc-line k m q l x p.0 p.1) o (g (line-bears l x (inl p)))
-      go (inr p) = plain-adds (add_letter e k l) A.within p.0 A.on (λ m. weighted-line k m q l x p.0 p.1) o (g (line-bears l x (inr p)))
+      go : IsArcLine text i x l → Takes text i k s a r a'
+      go (inl p) = plain-adds (add_kind x k l) A.within p.0 A.on (λ m. arc-line k m q x l refl p.0 p.1) o (g (line-bears x l (inl p)))
+      go (inr p) = plain-adds (add_kind x k l) A.within p.0 A.on (λ m. weighted-line k m q x l refl p.0 p.1) o (g (line-bears x l (inr p)))
 
   pub line-takes : {l : Span} → LineAt text i l → GoesOn r l.next → Steps s a (add_line k (line_of (take (l.end - i) (drop i text)) l.ended)) (size_after r) a' → Takes text i k s a r a'
   line-takes {l} h o g = record { next = l.next; found = line-to h; on = o; steps = g }
+
+-- ---- an arc by its kind, its place and its transition
+
+-- the letters of kinds that are the same
+letters : {x y : ArcKind} → x ≡ y → code_of (letter_for x) ≡ code_of (letter_for y)
+letters e = ap (λ (x : ArcKind). code_of (letter_for x)) e
+
+pub by_kind : (x : ArcKind) (k : ℕ) (l : ArcLine) (q : ℕ × ℕ) (m : NetD) → (x ≡ Output → q ≡ (l.second, l.first)) → ((x ≡ Output → ⊥) → q ≡ (l.first, l.second)) → add_kind x k l m ≡ add_arc x k q.0 q.1 l.weight m
+by_kind Input k l q m e f = rw (f (λ z. absurd (omega (arith, letters z))))
+by_kind Output k l q m e f = rw (e refl)
+by_kind Inhibitor k l q m e f = rw (f (λ z. absurd (omega (arith, letters z))))
+by_kind Read k l q m e f = rw (f (λ z. absurd (omega (arith, letters z))))

@@ -1,5 +1,5 @@
 -- What the functions of the reader promise.
-use Rattle.std.specs.Prelude.{ℕ, ◌+◌, ◌*◌, ◌≤◌, ◌<◌, ◌≡◌, ◌⊎◌, Bool, not, ◌||◌, cond, List, [], ◌∷◌, length, get_or, replicate, eqb, ltb, Option, Some, None, Result, Ok, Err}
+use Rattle.std.specs.Prelude.{ℕ, ◌+◌, ◌*◌, ◌≤◌, ◌<◌, ◌≡◌, ◌⊎◌, Bool, not, ◌||◌, cond, List, [], ◌∷◌, length, get_or, replicate, ltb, Option, Some, None, Result, Ok, Err}
 use Rattle.spec.specs.Answer.{Answer, gives, refuses, returned}
 use Rattle.lines.specs.Agree.{Agrees, refused_as}
 use Rattle.lines.specs.Lines.{LineTo}
@@ -14,6 +14,7 @@ use Rattle.line_forms.specs.declared.Slot.TheVariants.{Number}
 use Rattle.plain_lines.specs.Plain.{PlainLine}
 use Rattle.spec.specs.Values.{net_values}
 use Rattle.net.specs.declared.Net.{Net}
+use Rattle.spec.specs.declared.Class.{Class}
 use Rattle.spec.specs.declared.Class.TheVariants.{Comma, LetterP, LetterT, LetterI, LetterO, LetterH, LetterR}
 use Rattle.spec.specs.declared.ArcKind.{ArcKind}
 use Rattle.spec.specs.declared.ArcKind.TheVariants.{Input, Output, Inhibitor, Read}
@@ -43,49 +44,59 @@ add_row k r n =
     (cond (is_two LetterR r) (add_arc Read k (value_of r.first) (value_of r.second) 1 n)
     (refuses 11 k))))))))
 
--- the entry of a letter of arcs: I, O, H or R
-abbrev pub ArcEntry : ℕ → Type 0
-ArcEntry e = (e ≡ code_of LetterI) ⊎ (e ≡ code_of LetterO) ⊎ (e ≡ code_of LetterH) ⊎ (e ≡ code_of LetterR)
+-- the letter that stands for a kind of arc
+abbrev pub letter_for : ArcKind → Class
+letter_for Input = LetterI
+letter_for Output = LetterO
+letter_for Inhibitor = LetterH
+letter_for Read = LetterR
 
--- a line begins with such a letter and a comma
-pub record ArcLetter (o : Opening) : Type 0 where
-  pub letter : ArcEntry o.letter
+-- a line begins with that letter and a comma
+pub record ArcLetter (o : Opening) (x : ArcKind) : Type 0 where
+  pub letter : o.letter ≡ code_of (letter_for x)
   pub comma : o.behind ≡ code_of Comma
 
--- the kind of arc that a letter of the four stands for, by its entry
-unfoldable pub kind_by : ℕ → ArcKind
-kind_by e =
-    cond (eqb e (code_of LetterO)) Output
-    (cond (eqb e (code_of LetterH)) Inhibitor (cond (eqb e (code_of LetterR)) Read Input))
+-- where a kind is told
+abbrev pub KindTold : Opening → Option ArcKind → Type 0
+KindTold o (Some x) = ArcLetter o x
+KindTold o None = Unit {0}
 
--- the line from a position up to `next` is a letter and two numbers, and weighs 1; or, where the letter may have a weight
--- (I and O stand before H), a letter, two numbers and the weight
-abbrev pub IsArcLine : List ℕ → ℕ → ℕ → ArcLine → Type 0
-IsArcLine text at e r =
+-- an arc of this kind may have a weight on its line
+abbrev pub MayWeigh : ArcKind → Type 0
+MayWeigh Input = Unit {0}
+MayWeigh Output = Unit {0}
+MayWeigh Inhibitor = ⊥
+MayWeigh Read = ⊥
+
+-- the line from a position up to `next` is a letter and two numbers, and weighs 1; or, where the kind may have a weight, a
+-- letter, two numbers and the weight
+abbrev pub IsArcLine : List ℕ → ℕ → ArcKind → ArcLine → Type 0
+IsArcLine text at x r =
     (PlainLine 4 text at r.next (Number r.first ∷ Number r.second ∷ []) × (r.weight ≡ 1))
-    ⊎ (PlainLine 4 text at r.next (Number r.first ∷ Number r.second ∷ Number r.weight ∷ []) × (e < code_of LetterH))
+    ⊎ (PlainLine 4 text at r.next (Number r.first ∷ Number r.second ∷ Number r.weight ∷ []) × MayWeigh x)
 
 -- such a line is read, and the next one starts behind it
-pub record ArcLineRead (text : List ℕ) (at e : ℕ) (r : ArcLine) : Type 0 where
+pub record ArcLineRead (text : List ℕ) (at : ℕ) (x : ArcKind) (r : ArcLine) : Type 0 where
   pub on : at < r.next
   pub within : r.next ≤ length text
-  pub line : IsArcLine text at e r
+  pub line : IsArcLine text at x r
 
 -- where one is told
-abbrev pub ArcLineAt : List ℕ → ℕ → ℕ → Option ArcLine → Type 0
-ArcLineAt text at e (Some r) = ArcLineRead text at e r
-ArcLineAt text at e None = Unit {0}
+abbrev pub ArcLineAt : List ℕ → ℕ → ArcKind → Option ArcLine → Type 0
+ArcLineAt text at x (Some r) = ArcLineRead text at x r
+ArcLineAt text at x None = Unit {0}
 
--- what line k adds with such a letter, two numbers and a weight: an output's place is the second number
-unfoldable pub add_letter : ℕ → ℕ → ArcLine → NetD → Answer NetD
-add_letter e k l n =
-    cond (eqb e (code_of LetterO)) (add_arc Output k l.second l.first l.weight n)
-    (add_arc (kind_by e) k l.first l.second l.weight n)
+-- what line k adds with two numbers and a weight: an output's place is the second number
+abbrev pub add_kind : ArcKind → ℕ → ArcLine → NetD → Answer NetD
+add_kind Input k l n = add_arc Input k l.first l.second l.weight n
+add_kind Output k l n = add_arc Output k l.second l.first l.weight n
+add_kind Inhibitor k l n = add_arc Inhibitor k l.first l.second l.weight n
+add_kind Read k l n = add_arc Read k l.first l.second l.weight n
 
 -- it is added, whatever the tokens are
-abbrev pub AddsLetter : ℕ → ℕ → ArcLine → Size → List ℕ → Result Size NetRefusal → List ℕ → Type 0
-AddsLetter e k l s arcs r arcs' =
-    (tokens : List ℕ) → Bears (kind_by e) l.weight → Steps s (arrays_at tokens arcs) (add_letter e k l) r (arrays_at tokens arcs')
+abbrev pub AddsLine : ArcKind → ℕ → ArcLine → Size → List ℕ → Result Size NetRefusal → List ℕ → Type 0
+AddsLine x k l s arcs r arcs' =
+    (tokens : List ℕ) → Bears x l.weight → Steps s (arrays_at tokens arcs) (add_kind x k l) r (arrays_at tokens arcs')
 
 -- the size after a line that was added
 abbrev pub size_after : Result Took NetRefusal → Result Size NetRefusal

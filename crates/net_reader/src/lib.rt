@@ -5,9 +5,9 @@ ghost use Rattle.std.specs.Prelude.{◌≡◌, true, ◌+◌, ◌≤◌, ◌<◌
 ghost use Rattle.columns.specs.Columns.{column};
 ghost use Rattle.lines.specs.Lines.{EndedTo};
 ghost use Rattle.net.specs.NetArrays.{kind_count, reads_at, inputs_in, outputs_in};
-ghost use Rattle.net.specs.NetArrays.{offset_of, arrays_at, Fits, Few, Steps};
+ghost use Rattle.net.specs.NetArrays.{arrays_at, Fits, Few, Steps};
 ghost use Rattle.plain_lines.specs.Plain.{Listed};
-ghost use Rattle.net_reader.specs.Reads.{add_row, ArcEntry, ArcLetter, kind_by, ArcLineAt, AddsLetter, Blank, any_cell, lacks_of, Takes};
+ghost use Rattle.net_reader.specs.Reads.{add_row, KindTold, MayWeigh, ArcLineAt, AddsLine, Blank, any_cell, lacks_of, Takes};
 ghost use Rattle.net_reader.specs.Reads.{ReadsLines, Finishes, ReadsInto, Reads, Answers};
 
 use byte_classes::{Table, byte_table};
@@ -21,7 +21,7 @@ use net::{
     add_arc, add_place, add_transition, arc_at,
 };
 use plain_lines::{alone_at, one_at};
-use spec::Class;
+use spec::{ArcKind, Class};
 
 // What a line declares is added.
 fn add_row(
@@ -48,22 +48,22 @@ fn add_row(
         return add_transition(k, s);
     }
     if is_two(Class::LetterI, r) {
-        return add_arc(INPUTS, k, a, b, 1, s, arcs);
+        return add_arc(ArcKind::Input, k, a, b, 1, s, arcs);
     }
     if is_triple(Class::LetterI, r) {
-        return add_arc(INPUTS, k, a, b, w, s, arcs);
+        return add_arc(ArcKind::Input, k, a, b, w, s, arcs);
     }
     if is_two(Class::LetterO, r) {
-        return add_arc(OUTPUTS, k, b, a, 1, s, arcs);
+        return add_arc(ArcKind::Output, k, b, a, 1, s, arcs);
     }
     if is_triple(Class::LetterO, r) {
-        return add_arc(OUTPUTS, k, b, a, w, s, arcs);
+        return add_arc(ArcKind::Output, k, b, a, w, s, arcs);
     }
     if is_two(Class::LetterH, r) {
-        return add_arc(INHIBITORS, k, a, b, 1, s, arcs);
+        return add_arc(ArcKind::Inhibitor, k, a, b, 1, s, arcs);
     }
     if is_two(Class::LetterR, r) {
-        return add_arc(READS, k, a, b, 1, s, arcs);
+        return add_arc(ArcKind::Read, k, a, b, 1, s, arcs);
     }
     Err(NetRefusal::Malformed(k))
 }
@@ -75,36 +75,27 @@ pub struct Took {
     pub next: usize,
 }
 
-// Whether a line begins with the letter of one of the four kinds of arcs, and a comma.
-fn arc_letter(o: Opening) -> bool
-    ensures { result ≡ true → ArcLetter o }
+// The kind of arc that a line declares which begins with one of the four letters and a comma.
+fn arc_kind(o: Opening) -> Option<ArcKind>
+    ensures { KindTold o result }
 {
     if o.behind != COMMA {
-        return false;
+        return None;
     }
-    if o.letter == LETTER_I {
-        return true;
+    match o.letter {
+        LETTER_I => Some(ArcKind::Input),
+        LETTER_O => Some(ArcKind::Output),
+        LETTER_H => Some(ArcKind::Inhibitor),
+        LETTER_R => Some(ArcKind::Read),
+        _ => None,
     }
-    if o.letter == LETTER_O {
-        return true;
-    }
-    if o.letter == LETTER_H {
-        return true;
-    }
-    o.letter == LETTER_R
 }
 
-// Where the arcs of a letter's kind stand: those of the letters I, O and H one behind the other, as their entries do. It is
-// computed and not chosen by branches, as it changes from line to line and no machine foresees it.
-fn arc_kind(letter: u8) -> usize
-    requires { ArcEntry letter }
-    ensures { result ≡ offset_of (kind_by letter) }
+// Whether an arc of this kind may have a weight on its line (02, 2026-06).
+fn may_weigh(kind: ArcKind) -> bool
+    ensures { result ≡ true → MayWeigh kind }
 {
-    if letter == LETTER_R {
-        return READS;
-    }
-    let place = letter - LETTER_I;
-    place as usize * KIND
+    matches!(kind, ArcKind::Input | ArcKind::Output)
 }
 
 // The two numbers of an arc's line, its weight, which is 1 where the line has none, and where the next line starts.
@@ -116,11 +107,10 @@ pub struct ArcLine {
     pub next: usize,
 }
 
-// The arc's line that starts at a position with this letter, read in one walk. Only an input's and an output's line may
-// have a third number, the weight (02, 2026-06).
-fn arc_line_at(table: &Table, text: &[u8], at: usize, letter: u8) -> Option<ArcLine>
+// The arc's line of a kind that starts at a position, read in one walk.
+fn arc_line_at(table: &Table, text: &[u8], at: usize, kind: ArcKind) -> Option<ArcLine>
     requires { Listed text.now at }
-    ensures { ArcLineAt text.now at letter result }
+    ensures { ArcLineAt text.now at kind result }
 {
     let x = number_from(table, 4, text, at + 2);
     if x.stop != COMMA {
@@ -138,7 +128,7 @@ fn arc_line_at(table: &Table, text: &[u8], at: usize, letter: u8) -> Option<ArcL
             next,
         });
     }
-    if (y.stop != COMMA) | (LETTER_H <= letter) {
+    if y.stop != COMMA || !may_weigh(kind) {
         return None;
     }
     let z = number_from(table, 4, text, y.end + 1);
@@ -154,22 +144,22 @@ fn arc_line_at(table: &Table, text: &[u8], at: usize, letter: u8) -> Option<ArcL
     })
 }
 
-// One more arc of the letter's kind, with the two numbers as they stand on the line.
-fn add_letter(
-    letter: u8,
+// One more arc of a kind, with the two numbers as they stand on the line: an output has its transition first.
+fn add_line(
+    kind: ArcKind,
     k: usize,
     line: ArcLine,
     s: Size,
     arcs: &mut [u8; ARCS],
 ) -> Result<Size, NetRefusal>
-    requires { ArcEntry letter × Fits s }
-    ensures { AddsLetter letter k line s arcs.old result arcs.new }
+    requires { Fits s }
+    ensures { AddsLine kind k line s arcs.old result arcs.new }
 {
-    let kind = arc_kind(letter);
-    if letter == LETTER_O {
-        return add_arc(kind, k, line.second, line.first, line.weight, s, arcs);
-    }
-    add_arc(kind, k, line.first, line.second, line.weight, s, arcs)
+    let (p, t) = match kind {
+        ArcKind::Output => (line.second, line.first),
+        _ => (line.first, line.second),
+    };
+    add_arc(kind, k, p, t, line.weight, s, arcs)
 }
 
 // The line at a cursor is added by the readers of lines and fields, whatever it is.
@@ -214,9 +204,9 @@ fn add_at(
     let k = c.line;
     let at = c.at;
     let open = open_at(table, text, c);
-    if arc_letter(open) {
-        if let Some(f) = arc_line_at(table, text, at, open.letter) {
-            let size = add_letter(open.letter, k, f, s, arcs)?;
+    if let Some(kind) = arc_kind(open) {
+        if let Some(f) = arc_line_at(table, text, at, kind) {
+            let size = add_line(kind, k, f, s, arcs)?;
             return Ok(Took { size, next: f.next });
         }
     }
@@ -270,12 +260,7 @@ fn any_cell(arcs: &[u8; ARCS], at: usize, t: usize, places: usize) -> bool
     requires { (at ≤ reads_at) × (t < 32) × (places ≤ 32) }
     ensures { result ≡ any_cell (column at kind_count arcs.now) t places }
 {
-    for p in 0..places {
-        if 0 < arc_at(arcs, at, t, p) {
-            return true;
-        }
-    }
-    false
+    (0..places).any(|p| 0 < arc_at(arcs, at, t, p))
 }
 
 // Whether the transition lacks an input or an output.

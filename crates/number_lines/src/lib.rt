@@ -101,6 +101,7 @@ pub fn list_at(table: &Table, letter: u8, text: &[u8], at: usize, xs: &mut [u8; 
     let mut high: usize = 0;
     let mut end = at + 1;
     let mut stop = table.entry_of(text[end]);
+    // A while: it goes on by the byte behind a number, which was looked at with the number.
     while stop == COMMA {
         let v = number_from(table, 4, text, end + 1);
         if v.stop == FOREIGN {

@@ -12,32 +12,30 @@ use Rattle.plain_lines.proofs.Plain.{letter-entry, opened, lettered, listed}
 use Rattle.net_reader.specs.Reads.{ArcLetter}
 use Rattle.net_reader.proofs.Plain.{arc-entry, arc-tells, place-line, transition-line, arc-takes, plain-takes}
 use Rattle.net_reader.proofs.add_at.Goals as goal
-use Rattle.net_reader.proofs.add_at.Goals.{Then-arc_letter, Then-opens_with}
+use Rattle.net_reader.proofs.add_at.Goals.{In-Some, Then-opens_with}
 
 pub open_at-open-requires : goal.open_at-open-requires
 open_at-open-requires c = (c.requires.0, c.requires.1.within)
 
 -- an arc's letter and a comma
-arc : (c : Then-arc_letter) → ArcLetter c.open_at-open.result
-arc c = c.arc_letter.ensures c.if-arc_letter.true
+arc : (c : In-Some) → ArcLetter c.open_at-open.result c.in-Some.kind
+arc c = c.in-Some.ensures
 
 pub arc_line_at-requires : goal.arc_line_at-requires
 arc_line_at-requires c = let o = c.open_at-open.ensures in let a = arc (c) in
     listed _ c.args.c c.requires.1 o (arc-tells a) (arc-entry a) a.comma
 
-pub add_letter-requires : goal.add_letter-requires
-add_letter-requires c = ((arc (goal.at.add_letter-requires c).Then-arc_letter).letter, c.requires.2)
+pub add_line-requires : goal.add_line-requires
+add_line-requires c = c.requires.2
 
 pub returns-in_err-size : goal.returns-in_err-size
-returns-in_err-size c = let o = c.open_at-open.ensures in let a = arc (goal.at.returns-in_err-size c).Then-arc_letter in
+returns-in_err-size c = let o = c.open_at-open.ensures in let a = arc (goal.at.returns-in_err-size c).In-Some in
     let gone : c.from_residual.result ≡ Err c.in_err-size.field-0.0 = grind arith in
-    rw gone (arc-takes _ _ c.in-Some.ensures a.letter
-    (opened _ c.args.c c.requires.1 o (arc-tells a)).letter tt (c.in_err-size.ensures _))
+    rw gone (arc-takes _ _ _ c.in-Some-arc_line_at.ensures (sym a.letter ∙ (opened _ c.args.c c.requires.1 o (arc-tells a)).letter) tt (c.in_err-size.ensures _))
 
-pub returns-in-Some : goal.returns-in-Some
-returns-in-Some c = let o = c.open_at-open.ensures in let a = arc (goal.at.returns-in-Some c).Then-arc_letter in
-    arc-takes _ _ c.in-Some.ensures a.letter
-    (opened _ c.args.c c.requires.1 o (arc-tells a)).letter refl (c.in_ok-size.ensures _)
+pub returns-in-Some-arc_line_at : goal.returns-in-Some-arc_line_at
+returns-in-Some-arc_line_at c = let o = c.open_at-open.ensures in let a = arc (goal.at.returns-in-Some-arc_line_at c).In-Some in
+    arc-takes _ _ _ c.in-Some-arc_line_at.ensures (sym a.letter ∙ (opened _ c.args.c c.requires.1 o (arc-tells a)).letter) refl (c.in_ok-size.ensures _)
 
 -- a place's letter and a comma
 place : (c : Then-opens_with) → let o = c.open_at-open.result in (o.letter ≡ 13) × (o.behind ≡ 10)

@@ -2,7 +2,6 @@
 -- `add_row` adds there.
 use mathlib.Core.Path.{◌≡◌, refl, sym, ◌∙◌}
 use mathlib.Core.Bool.{false}
-use Rattle.spec.specs.declared.ArcKind.TheVariants.{Input, Output, Inhibitor, Read}
 use Rattle.spec.specs.declared.Class.TheVariants.{LetterP, LetterT, LetterI, LetterO, LetterH, LetterR}
 use Rattle.line_forms.specs.Rows.{is_alone, is_one, is_two, is_triple}
 use Rattle.line_forms.specs.declared.Row.{Row}
@@ -49,27 +48,27 @@ returns-then-is_alone c m d = rw (no_place (goal.at.returns-then-is_alone c).Els
 
 pub returns-then-is_two : goal.returns-then-is_two
 unfolding add_row
-returns-then-is_two c m d = rw (no_place (goal.at.returns-then-is_two c).Else-is_one, no-transition (goal.at.returns-then-is_two c).Else-is_alone, sym c.is_two.ensures ∙ c.if-is_two.true, ← c.number_in-a.ensures, ← c.number_in-b.ensures) (c.add_arc.ensures Input _ refl tt m d)
+returns-then-is_two c m d = rw (no_place (goal.at.returns-then-is_two c).Else-is_one, no-transition (goal.at.returns-then-is_two c).Else-is_alone, sym c.is_two.ensures ∙ c.if-is_two.true, ← c.number_in-a.ensures, ← c.number_in-b.ensures) (c.add_arc.ensures _ tt m d)
 
 pub returns-then-is_triple : goal.returns-then-is_triple
 unfolding add_row
-returns-then-is_triple c m d = rw (no_place (goal.at.returns-then-is_triple c).Else-is_one, no-transition (goal.at.returns-then-is_triple c).Else-is_alone, no-input (goal.at.returns-then-is_triple c).Else-is_two, sym c.is_triple.ensures ∙ c.if-is_triple.true, ← c.number_in-a.ensures, ← c.number_in-b.ensures, ← c.number_in-w.ensures) (c.add_arc-then-is_triple.ensures Input _ refl tt m d)
+returns-then-is_triple c m d = rw (no_place (goal.at.returns-then-is_triple c).Else-is_one, no-transition (goal.at.returns-then-is_triple c).Else-is_alone, no-input (goal.at.returns-then-is_triple c).Else-is_two, sym c.is_triple.ensures ∙ c.if-is_triple.true, ← c.number_in-a.ensures, ← c.number_in-b.ensures, ← c.number_in-w.ensures) (c.add_arc-then-is_triple.ensures _ tt m d)
 
 pub returns-then-is_two-2 : goal.returns-then-is_two-2
 unfolding add_row
-returns-then-is_two-2 c m d = rw (no_place (goal.at.returns-then-is_two-2 c).Else-is_one, no-transition (goal.at.returns-then-is_two-2 c).Else-is_alone, no-input (goal.at.returns-then-is_two-2 c).Else-is_two, no-weighted-input (goal.at.returns-then-is_two-2 c).Else-is_triple, sym c.is_two-2.ensures ∙ c.if-is_two-2.true, ← c.number_in-a.ensures, ← c.number_in-b.ensures) (c.add_arc-then-is_two-2.ensures Output _ refl tt m d)
+returns-then-is_two-2 c m d = rw (no_place (goal.at.returns-then-is_two-2 c).Else-is_one, no-transition (goal.at.returns-then-is_two-2 c).Else-is_alone, no-input (goal.at.returns-then-is_two-2 c).Else-is_two, no-weighted-input (goal.at.returns-then-is_two-2 c).Else-is_triple, sym c.is_two-2.ensures ∙ c.if-is_two-2.true, ← c.number_in-a.ensures, ← c.number_in-b.ensures) (c.add_arc-then-is_two-2.ensures _ tt m d)
 
 pub returns-then-is_triple-2 : goal.returns-then-is_triple-2
 unfolding add_row
-returns-then-is_triple-2 c m d = rw (no_place (goal.at.returns-then-is_triple-2 c).Else-is_one, no-transition (goal.at.returns-then-is_triple-2 c).Else-is_alone, no-input (goal.at.returns-then-is_triple-2 c).Else-is_two, no-weighted-input (goal.at.returns-then-is_triple-2 c).Else-is_triple, no_output (goal.at.returns-then-is_triple-2 c).Else-is_two-2, sym c.is_triple-2.ensures ∙ c.if-is_triple-2.true, ← c.number_in-a.ensures, ← c.number_in-b.ensures, ← c.number_in-w.ensures) (c.add_arc-then-is_triple-2.ensures Output _ refl tt m d)
+returns-then-is_triple-2 c m d = rw (no_place (goal.at.returns-then-is_triple-2 c).Else-is_one, no-transition (goal.at.returns-then-is_triple-2 c).Else-is_alone, no-input (goal.at.returns-then-is_triple-2 c).Else-is_two, no-weighted-input (goal.at.returns-then-is_triple-2 c).Else-is_triple, no_output (goal.at.returns-then-is_triple-2 c).Else-is_two-2, sym c.is_triple-2.ensures ∙ c.if-is_triple-2.true, ← c.number_in-a.ensures, ← c.number_in-b.ensures, ← c.number_in-w.ensures) (c.add_arc-then-is_triple-2.ensures _ tt m d)
 
 pub returns-then-is_two-3 : goal.returns-then-is_two-3
 unfolding add_row
-returns-then-is_two-3 c m d = rw (no_place (goal.at.returns-then-is_two-3 c).Else-is_one, no-transition (goal.at.returns-then-is_two-3 c).Else-is_alone, no-input (goal.at.returns-then-is_two-3 c).Else-is_two, no-weighted-input (goal.at.returns-then-is_two-3 c).Else-is_triple, no_output (goal.at.returns-then-is_two-3 c).Else-is_two-2, no-weighted-output (goal.at.returns-then-is_two-3 c).Else-is_triple-2, sym c.is_two-3.ensures ∙ c.if-is_two-3.true, ← c.number_in-a.ensures, ← c.number_in-b.ensures) (c.add_arc-then-is_two-3.ensures Inhibitor _ refl refl m d)
+returns-then-is_two-3 c m d = rw (no_place (goal.at.returns-then-is_two-3 c).Else-is_one, no-transition (goal.at.returns-then-is_two-3 c).Else-is_alone, no-input (goal.at.returns-then-is_two-3 c).Else-is_two, no-weighted-input (goal.at.returns-then-is_two-3 c).Else-is_triple, no_output (goal.at.returns-then-is_two-3 c).Else-is_two-2, no-weighted-output (goal.at.returns-then-is_two-3 c).Else-is_triple-2, sym c.is_two-3.ensures ∙ c.if-is_two-3.true, ← c.number_in-a.ensures, ← c.number_in-b.ensures) (c.add_arc-then-is_two-3.ensures _ refl m d)
 
 pub returns-then-is_two-4 : goal.returns-then-is_two-4
 unfolding add_row
-returns-then-is_two-4 c m d = rw (no_place (goal.at.returns-then-is_two-4 c).Else-is_one, no-transition (goal.at.returns-then-is_two-4 c).Else-is_alone, no-input (goal.at.returns-then-is_two-4 c).Else-is_two, no-weighted-input (goal.at.returns-then-is_two-4 c).Else-is_triple, no_output (goal.at.returns-then-is_two-4 c).Else-is_two-2, no-weighted-output (goal.at.returns-then-is_two-4 c).Else-is_triple-2, no-inhibitor (goal.at.returns-then-is_two-4 c).Else-is_two-3, sym c.is_two-4.ensures ∙ c.if-is_two-4.true, ← c.number_in-a.ensures, ← c.number_in-b.ensures) (c.add_arc-then-is_two-4.ensures Read _ refl refl m d)
+returns-then-is_two-4 c m d = rw (no_place (goal.at.returns-then-is_two-4 c).Else-is_one, no-transition (goal.at.returns-then-is_two-4 c).Else-is_alone, no-input (goal.at.returns-then-is_two-4 c).Else-is_two, no-weighted-input (goal.at.returns-then-is_two-4 c).Else-is_triple, no_output (goal.at.returns-then-is_two-4 c).Else-is_two-2, no-weighted-output (goal.at.returns-then-is_two-4 c).Else-is_triple-2, no-inhibitor (goal.at.returns-then-is_two-4 c).Else-is_two-3, sym c.is_two-4.ensures ∙ c.if-is_two-4.true, ← c.number_in-a.ensures, ← c.number_in-b.ensures) (c.add_arc-then-is_two-4.ensures _ refl m d)
 
 pub returns : goal.returns
 unfolding add_row

@@ -1,6 +1,7 @@
 -- `step_lines::read_step` meets its contract: a plain line, where a line end is ahead, was read in one walk; any other is
 -- read by its own tests.
-use mathlib.Core.Path.{◌≡◌, sym, ap, ◌∙◌}
+use mathlib.Core.Path.{◌≡◌, refl, sym, ap, ◌∙◌}
+use Rattle.std.specs.Prelude.{Err}
 use mathlib.Core.Bool.{true}
 use native.Mathlib.Omega.{arith}
 use lib.ListN.{length}
@@ -15,7 +16,7 @@ use Rattle.step_lines.proofs.read_step.Goals.{then-at-c+else-at-plain, else-at-c
 
 pub list_at-plain-requires : goal.list_at-plain-requires
 list_at-plain-requires c =
-    (c.requires.0, letter-step, ahead_of c.requires.2 _ c.if-at-c.true, c.requires.3.long)
+    (letter-step, ahead_of c.requires.1 _ c.if-at-c.true, c.requires.2.long)
 
 pub returns-then-x-plain : goal.returns-then-x-plain
 returns-then-x-plain c =
@@ -23,7 +24,9 @@ returns-then-x-plain c =
     let r = c.list_at-plain.ensures in
     let l = r.line c.if-at-plain.true in
     let u = sym (l.high x.transitions) ∙ le-leb _ _ c.if-x-plain.true in
-    rw c.refused.ensures record {
+    record {
+      next = _;
+      on = tt;
       found = list-to l c.if-at-plain.true;
       read = reads-22 (line_of l.bytes true) x r.long (list-step l.bytes l.list) u;
     }
@@ -31,44 +34,38 @@ returns-then-x-plain c =
 pub returns-then-at-plain : goal.returns-then-at-plain
 returns-then-at-plain c =
     let x = c.args.x in
-    let k = c.requires.3.known in
+    let k = c.requires.2.known in
     let r = c.list_at-plain.ensures in
     let l = r.line c.if-at-plain.true in
     let u = sym (l.high x.transitions) ∙ lt-leb _ _ c.if-x-plain.false in
-    rw c.going.ensures record {
+    record {
+      next = _;
+      on = refl;
       found = list-to l c.if-at-plain.true;
       read = reads-step (line_of l.bytes true) x r.long (list-step l.bytes l.list) k u l.count
           (λ h. l.numbers (few-known 256 x.transitions _ (omega (arith, l.count)) u (omega (arith, k))));
     }
 
-pub line_at-any-requires : goal.line_at-any-requires
-line_at-any-requires c = (c.requires.0, c.requires.1)
-
-pub slice_bounds-any_line-count : goal.slice_bounds-any_line-count
-slice_bounds-any_line-count c = omega (arith, c.line_at-any.ensures.start)
+pub slice_bounds-any_line-start : goal.slice_bounds-any_line-start
+slice_bounds-any_line-start c = omega (arith, c.line_at-any.ensures.start)
 
 -- the array is as long as it was, whether a list line was looked for or not
 as_long : (c : Joined-at-c) → length c.if-at-c.step ≡ 128
 as_long c =
     elim c.if-at-c.branch [
       | then-at-c+else-at-plain w ↦ ap length w.step-is ∙ w.list_at-plain.ensures.long
-      | else-at-c w ↦ ap length w.step-is ∙ c.requires.3.long
+      | else-at-c w ↦ ap length w.step-is ∙ c.requires.2.long
     ]
 
 pub any_line-requires : goal.any_line-requires
 any_line-requires c =
-    (c.requires.0, record { known = c.requires.3.known; events = c.requires.3.events; long = as_long (goal.at.any_line-requires c).Joined-at-c })
+    record { known = c.requires.2.known; events = c.requires.2.events; long = as_long (goal.at.any_line-requires c).Joined-at-c }
+
+-- where the next line starts
+pub returns-in_err-count : goal.returns-in_err-count
+returns-in_err-count c = let r = line-to c.line_at-any.ensures in
+    let gone : c.from_residual.result ≡ Err c.in_err-count.field-0.0 = grind arith in
+    rw gone record { next = _; found = r; on = tt; read = c.in_err-count.ensures }
 
 pub returns : goal.returns
-returns c =
-    let r = c.line_at-any.ensures in
-    let e = c.any_line.ensures.0 in
-    record {
-      found = record {
-        line = (line-to r).line;
-        lines = rw e r.lines;
-        on = omega (arith, r.start, r.on);
-        within = omega (arith, r.next);
-      };
-      read = c.any_line.ensures.1;
-    }
+returns c = record { next = _; found = line-to c.line_at-any.ensures; on = refl; read = c.in_ok-count.ensures }
