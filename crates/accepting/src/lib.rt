@@ -77,8 +77,8 @@ pub fn bench() -> Limits
 // ---- the rules 35 to 39
 
 // 39: empty rows get the pairs of the marks and the conditions and are closed; the lowest event that is strictly before
-// itself, or the number of events.
-pub fn order(s: Counts, rec: &[u8], marks: &[u64], w: &mut [u64; WORDS]) -> usize
+// itself, if there is one.
+pub fn order(s: Counts, rec: &[u8], marks: &[u64], w: &mut [u64; WORDS]) -> Option<usize>
     requires { Sound s rec.now × Spans s marks.now × Blank w.old }
     ensures { (length w.new ≡ length w.old)
         × Orders s rec.now marks.now result w.new }
@@ -108,25 +108,20 @@ fn judge(
         s rec.now marks.now result w.new }
 {
     let places = b.places;
-    let p = wrong_initial(places, tokens, s, rec);
-    if p < places {
+    if let Some(p) = wrong_initial(places, tokens, s, rec) {
         return Err(RecordRefusal::WrongInitial(p));
     }
-    let d = wrong_arcs(places, arcs, s, rec);
-    if d < s.events {
-        return Err(RecordRefusal::WrongArcs(d));
+    if let Some(e) = wrong_arcs(places, arcs, s, rec) {
+        return Err(RecordRefusal::WrongArcs(e));
     }
-    let e = wrong_marks(places, b.transitions, arcs, s, rec, marks);
-    if e < s.events {
+    if let Some(e) = wrong_marks(places, b.transitions, arcs, s, rec, marks) {
         return Err(RecordRefusal::WrongMarks(e));
     }
-    let f = wrong_kind(s, rec, marks);
-    if f < s.events {
-        return Err(RecordRefusal::WrongKind(f));
+    if let Some(e) = wrong_kind(s, rec, marks) {
+        return Err(RecordRefusal::WrongKind(e));
     }
-    let g = order(s, rec, marks, w);
-    if g < s.events {
-        return Err(RecordRefusal::BeforeItself(g));
+    if let Some(e) = order(s, rec, marks, w) {
+        return Err(RecordRefusal::BeforeItself(e));
     }
     Ok(())
 }

@@ -19,12 +19,12 @@ fn looped(w: &[u64; WORDS], e: usize) -> bool
     row_at(w, e).strict.holds(e)
 }
 
-// The lowest event that is strictly before itself, or n.
-pub fn first_loop(w: &[u64; WORDS], n: usize) -> usize
+// The lowest event that is strictly before itself, if there is one.
+pub fn first_loop(w: &[u64; WORDS], n: usize) -> Option<usize>
     requires { (n ≤ 128) × Good w.now }
     ensures { Lowest (on_cycle (cell_of w.now)) n result }
 {
-    (0..n).find(|e| looped(w, *e)).unwrap_or(n)
+    (0..n).find(|e| looped(w, *e))
 }
 
 // How many of the n events e is strictly before.

@@ -15,5 +15,4 @@ returns c net N R ep ei eo h =
     arcs-lowest net _ _ N R h _ _ c.tally.ensures.1 c.tally-2.ensures.1 _
     (rw (ep, ei, eo)
     (lowest-found q _ _
-    (first_from_Range _ _ _ _ (λ e. q e ≡ true) (λ e. q e ≡ false) c.find.ensures.ran (λ e f k. grind (arith, tests)) (λ e f k. (search rules, grind (arith, tests))))
-    c.unwrap_or.ensures))
+    (first_from_Range _ _ _ _ (λ e. q e ≡ true) (λ e. q e ≡ false) c.find.ensures.ran (λ e f k. grind (arith, tests)) (λ e f k. (search rules, grind (arith, tests))))))

@@ -13,5 +13,4 @@ returns c net N R ep et h =
     initial-lowest net _ _ N R h _ _ c.initial-found.ensures
     (rw (ep, et)
     (lowest-found q _ _
-    (first_from_Range _ _ _ _ (λ p. q p ≡ true) (λ p. q p ≡ false) c.find.ensures.ran (λ p f k. grind (arith, tests)) (λ p f k. (search rules, grind (arith, tests))))
-    c.unwrap_or.ensures))
+    (first_from_Range _ _ _ _ (λ p. q p ≡ true) (λ p. q p ≡ false) c.find.ensures.ran (λ p f k. grind (arith, tests)) (λ p f k. (search rules, grind (arith, tests))))))

@@ -11,4 +11,3 @@ returns c =
     let q = on_cycle (cell_of c.args.w.now) in
     lowest-found q _ _
     (first_from_Range _ _ _ _ (λ e. q e ≡ true) (λ e. q e ≡ false) c.find.ensures.ran (λ e f k. grind (arith, tests)) (λ e f k. (search rules, grind (arith, tests))))
-    c.unwrap_or.ensures
