@@ -31,7 +31,7 @@ const SHORT_TEXT: usize = 512;
 const SHORT_MARKS: usize = 512;
 
 // Why a net and a record are not accepted: the net, or the record under it.
-#[derive(Clone, Copy)]
+#[derive(Clone, Copy, Debug, PartialEq, Eq)]
 pub enum Refusal {
     Net(NetRefusal),
     Record(RecordRefusal),
@@ -92,6 +92,7 @@ pub fn order(s: Counts, rec: &[u8], marks: &[u64], w: &mut [u64; WORDS]) -> Opti
 // ---- accepting
 
 // The rules 35 to 39, each over the whole record before the next. Where none is broken the closed order is in the rows.
+// The net's arrays and the record's columns go by themselves: each rule takes some of them, and none takes all.
 fn judge(
     b: Bounds,
     tokens: &[u16; TOKENS],

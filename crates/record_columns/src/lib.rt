@@ -16,7 +16,8 @@ use reach::{raise, related};
 use spec::{Limits, MarkKind};
 
 // How many events and conditions a record has room for; its bytes, and the words of its marks, eight for each
-// condition; and the byte of a producer or consumer that is none.
+// condition; and the byte of a producer or consumer that is none:
+// each is a byte of the column, where an Option would take two.
 pub const EVENTS: usize = 128;
 
 pub const CONDITIONS: usize = 512;
