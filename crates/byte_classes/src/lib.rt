@@ -2,7 +2,6 @@
 #![tactic(auto)]
 
 ghost use Rattle.std.specs.Prelude.{◌≡◌};
-ghost use Rattle.spec.specs.Classes.{class_code, alike};
 ghost use Rattle.byte_entries.specs.Entries.{class_by};
 
 use byte_entries::{
@@ -17,13 +16,12 @@ mod lookup;
 mod table;
 
 // The class that an entry stands for.
+#[tactic(auto, unfolding(byte_entries::specs::Entries::class_by))]
 pub fn class_of(entry: u8) -> Class
     ensures { result ≡ class_by entry }
 {
-    if entry < 10 {
-        return Class::Digit;
-    }
     match entry {
+        0..=9 => Class::Digit,
         COMMA => Class::Comma,
         DASH => Class::Dash,
         LINE_END => Class::LineEnd,
@@ -45,40 +43,4 @@ pub fn class_of(entry: u8) -> Class
         RETURN => Class::Return,
         _ => Class::Foreign,
     }
-}
-
-// A number for each class, by which classes are compared.
-fn class_code(k: Class) -> u8
-    ensures { result ≡ class_code k }
-{
-    match k {
-        Class::Digit => 0,
-        Class::Comma => 1,
-        Class::Dash => 2,
-        Class::LineEnd => 3,
-        Class::LetterP => 4,
-        Class::LetterT => 5,
-        Class::LetterI => 6,
-        Class::LetterO => 7,
-        Class::LetterH => 8,
-        Class::LetterS => 9,
-        Class::LetterE => 10,
-        Class::LetterC => 11,
-        Class::LetterB => 12,
-        Class::LetterA => 13,
-        Class::LetterG => 14,
-        Class::LetterR => 15,
-        Class::LetterK => 16,
-        Class::LetterJ => 17,
-        Class::LetterW => 18,
-        Class::Return => 19,
-        Class::Foreign => 20,
-    }
-}
-
-// Whether two are the same class.
-pub fn alike(k: Class, l: Class) -> bool
-    ensures { result ≡ alike k l }
-{
-    class_code(k) == class_code(l)
 }

@@ -4,7 +4,7 @@
 ghost use Rattle.std.specs.Prelude.{◌≡◌, ◌+◌, ◌<◌, ◌≤◌, max, length};
 ghost use Rattle.spec.specs.declared.Class.TheVariants.{Return};
 ghost use Rattle.byte_entries.specs.Entries.{code_of};
-ghost use Rattle.lines.specs.Lines.{end_from, span_to, RawLineAt, LineAt, past_by, EndedTo, opening_of, opens_with};
+ghost use Rattle.lines.specs.Lines.{end_from, RawLineAt, LineAt, past_by, EndedTo, opening_of, opens_with};
 
 use byte_classes::{Table, byte_table};
 use byte_entries::{COMMA, FOREIGN, LINE_END, RETURN};
@@ -19,64 +19,39 @@ pub struct Span {
 
 // ---- a reading position
 
-// It belongs to one text and moves forward only. The borrow checker covers no function over a struct that holds a
-// reference, so `reader_at`, `line_end` and `moved` are thin and proved by hand, and so is `raw_line_at` right above them;
-// `find_end`, `later` and `span_of` do the work, on a slice and numbers.
+// It belongs to one text and moves forward only.
 #[derive(Clone, Copy)]
 pub struct Reader<'a> {
     pub text: &'a [u8],
     pub at: usize,
 }
 
-// Where the line ends that starts at a place. The table is made here, since none comes with a reader: lines in their form
-// do not come this way.
-fn find_end(s: &[u8], at: usize) -> usize
-    requires { at ≤ length s.now }
-    ensures { (result ≡ end_from s.now at) × (result ≤ length s.now) }
-{
-    let table = byte_table();
-    table.end_of(LINE_END, s, at)
-}
-
-// The later of two places.
-fn later(at: usize, to: usize) -> usize
-    ensures { (result ≡ max at to) × (at ≤ result) }
-{
-    if at < to { to } else { at }
-}
-
-// A line by its end and where the next one starts.
-fn span_of(s: &[u8], end: usize, next: usize) -> Span
-    ensures { result ≡ span_to s.now end next }
-{
-    Span {
-        end,
-        next,
-        ended: end < s.len(),
+impl<'a> Reader<'a> {
+    // At a place of a text.
+    pub fn new(text: &'a [u8], at: usize) -> Reader<'a>
+        ensures { (result.text ≡ text.entry) × (result.at ≡ at) }
+    {
+        Reader { text, at }
     }
-}
 
-// At a place of a text.
-pub fn reader_at<'a>(text: &'a [u8], at: usize) -> Reader<'a>
-    ensures { (result.text ≡ text.entry) × (result.at ≡ at) }
-{
-    Reader { text, at }
-}
+    // Where the line ends at which the reader stands. The table is made here, since none comes with a reader: lines in
+    // their form do not come this way.
+    pub fn line_end(self) -> usize
+        requires { self.at ≤ length self.text.now }
+        ensures { (result ≡ end_from self.entry.text.now self.entry.at) × (result ≤ length self.entry.text.now) }
+    {
+        byte_table().end_of(LINE_END, self.text, self.at)
+    }
 
-// Where the line ends at which the reader stands.
-pub fn line_end<'a>(r: Reader<'a>) -> usize
-    requires { r.at ≤ length r.text.now }
-    ensures { (result ≡ end_from r.entry.text.now r.entry.at) × (result ≤ length r.entry.text.now) }
-{
-    find_end(r.text, r.at)
-}
-
-// The same text, and a place that is no earlier.
-pub fn moved<'a>(r: Reader<'a>, to: usize) -> Reader<'a>
-    ensures { (result.text ≡ r.entry.text) × (result.at ≡ max r.entry.at to) × (r.entry.at ≤ result.at) }
-{
-    let at = later(r.at, to);
-    Reader { text: r.text, at }
+    // The same text, and a place that is no earlier.
+    pub fn moved(self, to: usize) -> Reader<'a>
+        ensures { (result.text ≡ self.entry.text) × (result.at ≡ max self.entry.at to) × (self.entry.at ≤ result.at) }
+    {
+        Reader {
+            text: self.text,
+            at: self.at.max(to),
+        }
+    }
 }
 
 // What starts at a position up to the next byte 10: a reader stands there, sees where the line ends, and moves past that
@@ -85,10 +60,13 @@ fn raw_line_at(s: &[u8], at: usize) -> Span
     requires { at < length s.now }
     ensures { RawLineAt s.now at result }
 {
-    let here = reader_at(s, at);
-    let end = line_end(here);
-    let past = moved(here, end + 1);
-    span_of(s, end, past.at)
+    let here = Reader::new(s, at);
+    let end = here.line_end();
+    Span {
+        end,
+        next: here.moved(end + 1).at,
+        ended: end < s.len(),
+    }
 }
 
 // ---- line endings: byte 10, or 13 and 10
@@ -137,14 +115,12 @@ pub fn past_ending(table: &Table, s: &[u8], entry: u8, at: usize) -> usize
 pub fn ended_to(table: &Table, s: &[u8]) -> usize
     ensures { EndedTo s.now result }
 {
-    let mut r = s.len();
-    while 0 < r {
-        if table.entry_of(s[r - 1]) == LINE_END {
-            return r;
+    for i in (0..s.len()).rev() {
+        if table.entry_of(s[i]) == LINE_END {
+            return i + 1;
         }
-        r -= 1;
     }
-    r
+    0
 }
 
 // The number of a line, where it starts, and how far the text is made of ended lines.

@@ -24,8 +24,8 @@ pub bounds-s-end : goal.bounds-s-end
 bounds-s-end c = here (on-by c.requires.2 c.entry_of-first.ensures (λ z. omega (arith, c.if-first-gt9.false)))
 
 -- the first digit, and what stands behind it
-first : (c : After-entry_of-stop) → Reading c.args.most c.args.s.now c.args.at (c.args.at + 1) c.entry_of-first.result c.entry_of-stop.result
-first c = read_first c.requires.0 c.requires.2 c.entry_of-first.ensures (omega (arith, c.if-first-gt9.false)) c.entry_of-stop.ensures
+first : (c : After-entry_of-stop) → Reading c.args.most c.args.s.now c.args.at (c.args.at + 1) c.from-value.result c.entry_of-stop.result
+first c = read_first c.requires.0 c.requires.2 (c.from-value.ensures ∙ c.entry_of-first.ensures) (omega (arith, c.from-value.ensures, c.if-first-gt9.false)) c.entry_of-stop.ensures
 
 pub returns-then-first-eq0 : goal.returns-then-first-eq0
 returns-then-first-eq0 c = let r = first (goal.at.returns-then-first-eq0 c).After-entry_of-stop in record { within = omega (arith, here r.ahead); number = λ d. read-zero r (omega arith) }
@@ -46,9 +46,6 @@ room c = ltb-true _ _ (and-true (ltb c.loop-stop.stop 10) _ c.loop-stop-test.tru
 pub overflow_mul-value : goal.overflow_mul-value
 overflow_mul-value c = let l = c.loop-stop.invariant in omega (arith, small _ _ l.1.walked.low (omega (arith, l.0, room (goal.at.overflow_mul-value c).In-loop-stop)))
 
-pub overflow_cast-value-in-loop-stop : goal.overflow_cast-value-in-loop-stop
-overflow_cast-value-in-loop-stop c = omega (arith, digit-next (goal.at.overflow_cast-value-in-loop-stop c).In-loop-stop)
-
 pub overflow_add-value : goal.overflow_add-value
 overflow_add-value c = let l = c.loop-stop.invariant in omega (arith, small _ _ l.1.walked.low (omega (arith, l.0, room (goal.at.overflow_add-value c).In-loop-stop)), digit-next (goal.at.overflow_add-value c).In-loop-stop)
 
@@ -62,7 +59,7 @@ pub loop-stop-smaller : goal.loop-stop-smaller
 loop-stop-smaller c = omega (arith, c.loop-stop.invariant.1.more, room (goal.at.loop-stop-smaller c).In-loop-stop)
 
 pub loop-stop-preserved : goal.loop-stop-preserved
-loop-stop-preserved c = let l = c.loop-stop.invariant in (l.0, read-on l.1 (digit-next (goal.at.loop-stop-preserved c).In-loop-stop) (room (goal.at.loop-stop-preserved c).In-loop-stop) c.entry_of-stop-in-loop-stop.ensures)
+loop-stop-preserved c = let l = c.loop-stop.invariant in (l.0, rw c.from.ensures (read-on l.1 (digit-next (goal.at.loop-stop-preserved c).In-loop-stop) (room (goal.at.loop-stop-preserved c).In-loop-stop) c.entry_of-stop-in-loop-stop.ensures))
 
 pub returns : goal.returns
 returns c = let r = c.loop-stop.invariant.1 in record {

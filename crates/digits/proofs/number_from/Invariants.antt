@@ -2,7 +2,6 @@
 -- this value, below ten to their count, and what stands behind them has the entry `stop`. A zero is a number alone, and
 -- other digits are one since the first of them is not 0; without a first digit nothing is promised.
 use Prim.Native.Nat.{◌-◌, ◌≤◌}
-use mathlib.Core.Path.{◌≡◌}
 use Rattle.digits.proofs.Digits.{Reading}
 use Rattle.digits.proofs.number_from.Given as goal
 

@@ -1,7 +1,7 @@
 -- `fields::field_at` meets its contract: the piece is walked to its end, `field_of` says what it is, and the fields
 -- that follow are those from behind its comma on (`fields-here`).
 use native.Mathlib.Omega.{arith}
-use Rattle.fields.proofs.Fields.{fields-here}
+use Rattle.fields.proofs.Laws.{fields-here}
 use Rattle.fields.proofs.Pieces.{piece-read}
 use Rattle.fields.proofs.field_at.Goals as goal
 

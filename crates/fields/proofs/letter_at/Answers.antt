@@ -4,7 +4,7 @@ use mathlib.Core.Path.{◌∙◌}
 use native.Mathlib.Omega.{arith}
 use Rattle.spec.specs.declared.Class.TheVariants.{Comma}
 use Rattle.byte_entries.proofs.Scans.{first-of-class}
-use Rattle.fields.proofs.Fields.{letter-first, fields-first}
+use Rattle.fields.proofs.Laws.{letter-first, fields-first}
 use Rattle.fields.proofs.letter_at.Goals as goal
 
 pub end_of-end-requires : goal.end_of-end-requires

@@ -43,7 +43,7 @@ loop-stop-smaller c =
 pub loop-stop-preserved : goal.loop-stop-preserved
 loop-stop-preserved c =
     let f = c.number_from-v.ensures.number c.if-v-eq-FOREIGN.false in
-    rw c.greater-high.ensures (walk-on c.loop-stop.invariant c.loop-stop-test.true f c.put.ensures)
+    rw c.max-high.ensures (walk-on c.loop-stop.invariant c.loop-stop-test.true f c.put.ensures)
 
 pub returns-then-seen-eq0 : goal.returns-then-seen-eq0
 returns-then-seen-eq0 c = no-list c.loop-stop.invariant.kept.long
