@@ -8,9 +8,6 @@ use Rattle.printing.proofs.program.Goals as goal
 pub returns-then-input-gt65536 : goal.returns-then-input-gt65536
 returns-then-input-gt65536 c = prints _ (too_long _ c.if-input-gt65536.true) c.put_refusal.ensures
 
-pub slice_bounds-print_run-count-in-Some : goal.slice_bounds-print_run-count-in-Some
-slice_bounds-print_run-count-in-Some c = (parted-at _ c.part_input.ensures c.in-Some.is).log
-
 pub returns-in-Some : goal.returns-in-Some
 returns-in-Some c = prints _ (program-parted _ c.if-input-gt65536.false (parted-at _ c.part_input.ensures c.in-Some.is)) c.print_run.ensures
 
