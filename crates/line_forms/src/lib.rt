@@ -53,6 +53,9 @@ pub fn number_in(f: Slot) -> usize
     }
 }
 
+// A function for each form, as the definitions spell it: a row's fields have names, so that a count of them as a parameter
+// reads no plainer.
+
 // The letter alone.
 #[tactic(auto, using(byte_classes::proofs::Tabulated::equal_alike), unfolding(crate::specs::Rows::is_alone))]
 pub fn is_alone(k: Class, r: Row) -> bool

@@ -57,6 +57,7 @@ pub fn alone_at(table: &Table, s: &[u8], at: usize, behind: u8) -> usize
 
 // The number of a line with a letter and a number, and where the next line starts; below the same for other forms. A
 // line of another form leaves `next` at the position.
+// A type for each form: their callers take each field by its name, and only the last two of three may be dashes.
 #[derive(Clone, Copy)]
 pub struct One {
     pub a: usize,
