@@ -4,7 +4,6 @@
 #![tactic(auto)]
 
 ghost use Rattle.std.specs.Prelude.{◌≡◌, ◌+◌, ◌-◌, ◌*◌, ◌%◌, ◌≤◌, ◌<◌, get_or, replicate};
-ghost use Rattle.std.specs.Int.Count.{count_trailing_zeros};
 ghost use Rattle.spec.specs.Lists.{sum_of, up_to};
 ghost use Rattle.bit_sets.specs.Bits.{bit};
 ghost use Rattle.arc_sets.specs.Sets.{set_count, row_count, more_at, RowSet, Puttable, RowPut, SetsOf};
@@ -27,13 +26,6 @@ pub const READ: usize = 96;
 // Where the weights start: two words for each set, with four bits for each place. They have by how much an arc weighs
 // more than 1.
 pub const WEIGHTS: usize = 128;
-
-// The lowest bit that is set.
-pub fn lowest(bits: u64) -> usize
-    ensures { result ≡ count_trailing_zeros 64 bits }
-{
-    bits.trailing_zeros() as usize
-}
 
 // How many places a set has.
 pub fn size(set: u64) -> usize
