@@ -67,41 +67,41 @@ marking-low : {N : Net} {k : ℕ} {x : Run} {r : RunD} → HoldsRun N k x r → 
 marking-low {r = r} H p l = omega (arith, H.good.marking p l, Laws.count-length (is_free p) r.conditions, conditions-held H, H.whole.conditions)
 
 module _ (x : Extent) {log sets : List ℕ} {i : ℕ} {mk step : List ℕ} {z : Run} (e : z.history.events ≡ x.events) where
-  at-line : (v : Result StepLine StepRefusal) (S : LineAt log i sets (position_of x) mk v step) (N : Net) (r : RunD) → HoldsArcs N sets x.places → x.transitions ≡ N.transitions → HoldsAt N x.places x.line z mk r
-      → Agrees nothing (step_answer v) (EnabledOf N (position_of x) r.marking v step) (line_at N x.line S.found.line (length r.events) r.marking)
+  at-line : (v : StepLine) (S : LineAt log i sets (position_of x) mk v step) (N : Net) (r : RunD) → HoldsArcs N sets x.places → x.transitions ≡ N.transitions → HoldsAt N x.places x.line z mk r
+      → Agrees nothing (step_answer v.events) (EnabledOf N (position_of x) r.marking v.events step) (line_at N x.line S.found.line (length r.events) r.marking)
   at-line v S N r A q H = rw (events-held H.run ∙ e) (S.answers N r.marking A q H.marking)
 
   -- it is refused as a step
-  pub refused-on : (w : StepRefusal) (S : LineAt log i sets (position_of x) mk (Err w) step) {y : Run} {mk' : List ℕ} → LinesOn sets x.places x.transitions x.line S.found.line z mk (Err (Step w)) y mk'
-  refused-on w S {y} {mk'} N r A q H = go (at-line (Err w) S N r A q H)
+  pub refused-on : (w : StepRefusal) (v : StepLine) (S : LineAt log i sets (position_of x) mk v step) → v.events ≡ Err w → {y : Run} {mk' : List ℕ} → LinesOn sets x.places x.transitions x.line S.found.line z mk (Err (Step w)) y mk'
+  refused-on w v S e {y} {mk'} N r A q H = go (rw e at (at-line v S N r A q H))
     where
       go : Agrees nothing (step_refused w) (λ ts. ⊥) (line_at N x.line S.found.line (length r.events) r.marking) → Agrees nothing (step_refused w) (HoldsAt N x.places (x.line + 1) y mk') (log_line bench N x.line S.found.line r)
       go (giving ts p u h) = absurd h
       go (refusing n s p u) = refusing n s (line_refused N x.line S.found.line r p) u
 
-  module _ (v : StepLine) (S : LineAt log i sets (position_of x) mk (Ok v) step) where
+  module _ (v : StepLine) (S : LineAt log i sets (position_of x) mk v step) {count : ℕ} (goes : v.events ≡ Ok count) where
     -- what is known of it
-    pub enabled-on : (N : Net) (r : RunD) → HoldsArcs N sets x.places → x.transitions ≡ N.transitions → HoldsAt N x.places x.line z mk r → (ts : List ℕ) × Enabled N (position_of x) r.marking v.count step ts
-    enabled-on N r A q H = go (at-line (Ok v) S N r A q H)
+    pub enabled-on : (N : Net) (r : RunD) → HoldsArcs N sets x.places → x.transitions ≡ N.transitions → HoldsAt N x.places x.line z mk r → (ts : List ℕ) × Enabled N (position_of x) r.marking count step ts
+    enabled-on N r A q H = go (rw goes at (at-line v S N r A q H))
       where
-        go : Agrees nothing (gives tt) (Enabled N (position_of x) r.marking v.count step) (line_at N x.line S.found.line (length r.events) r.marking) → (ts : List ℕ) × Enabled N (position_of x) r.marking v.count step ts
+        go : Agrees nothing (gives tt) (Enabled N (position_of x) r.marking count step) (line_at N x.line S.found.line (length r.events) r.marking) → (ts : List ℕ) × Enabled N (position_of x) r.marking count step ts
         go (giving ts p u h) = (ts, h)
         go (refusing n s p u) = refuses-not (sym u)
 
     -- it can be played
-    pub playable-on : (N : Net) (r : RunD) → HoldsArcs N sets x.places → x.transitions ≡ N.transitions → HoldsAt N x.places x.line z mk r → Playable sets (take v.count step) mk
+    pub playable-on : (N : Net) (r : RunD) → HoldsArcs N sets x.places → x.transitions ≡ N.transitions → HoldsAt N x.places x.line z mk r → Playable sets (take count step) mk
     playable-on N r A q H = let E = (enabled-on N r A q H).1 in
         playable A E.holds E.each H.marking (λ p h. marking-low H.run p (omega (arith, A.places))) (judged-tests N x.line r.marking _ E.judged).0
 
     -- and its step answers
-    pub stepped-on : (b : Result Extent LogRefusal) {y : Run} {mk' : List ℕ} → BuildsOn sets x.places x.line step v.count z b y → (log_answer b ≡ gives tt → MovedBy sets (take v.count step) mk mk') → LinesOn sets x.places x.transitions x.line S.found.line z mk b y mk'
-    stepped-on b {y} {mk'} D M N r A q H = go (at-line (Ok v) S N r A q H)
+    pub stepped-on : (b : Result Extent LogRefusal) {y : Run} {mk' : List ℕ} → BuildsOn sets x.places x.line step count z b y → (log_answer b ≡ gives tt → MovedBy sets (take count step) mk mk') → LinesOn sets x.places x.transitions x.line S.found.line z mk b y mk'
+    stepped-on b {y} {mk'} D M N r A q H = go (rw goes at (at-line v S N r A q H))
       where
-        end : (ts : List ℕ) → line_at N x.line S.found.line (length r.events) r.marking ≡ gives ts → Enabled N (position_of x) r.marking v.count step ts → Agrees nothing (log_answer b) (λ r'. HoldsRun N (x.line + 1) y r' × (r' ≡ play_step N x.line ts r)) (build_step N x.line ts r)
+        end : (ts : List ℕ) → line_at N x.line S.found.line (length r.events) r.marking ≡ gives ts → Enabled N (position_of x) r.marking count step ts → Agrees nothing (log_answer b) (λ r'. HoldsRun N (x.line + 1) y r' × (r' ≡ play_step N x.line ts r)) (build_step N x.line ts r)
             → Agrees nothing (log_answer b) (HoldsAt N x.places (x.line + 1) y mk') (log_line bench N x.line S.found.line r)
         end ts p E (giving r' d u h) = giving r' (line-built N x.line S.found.line r p ∙ d) u (record { run = h.0; marking = rw h.1 (unfold play_step in (play-held A E.holds E.each H.marking (M u))) })
         end ts p E (refusing n s d u) = refusing n s (line-built N x.line S.found.line r p ∙ d) u
 
-        go : Agrees nothing (gives tt) (Enabled N (position_of x) r.marking v.count step) (line_at N x.line S.found.line (length r.events) r.marking) → Agrees nothing (log_answer b) (HoldsAt N x.places (x.line + 1) y mk') (log_line bench N x.line S.found.line r)
+        go : Agrees nothing (gives tt) (Enabled N (position_of x) r.marking count step) (line_at N x.line S.found.line (length r.events) r.marking) → Agrees nothing (log_answer b) (HoldsAt N x.places (x.line + 1) y mk') (log_line bench N x.line S.found.line r)
         go (giving ts p u E) = end ts p E (D N ts r A E.holds E.each E.judged H.run)
         go (refusing n s p u) = refuses-not (sym u)

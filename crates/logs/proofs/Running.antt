@@ -1,7 +1,7 @@
 -- The lines of a log, one after the other.
 use Prim.Native.Nat.{ℕ, ◌+◌, ◌≤◌}
-use mathlib.Core.Path.{◌≡◌, refl, sym, ap, ◌∙◌, subst}
-use mathlib.Core.Bool.{true, false}
+use mathlib.Core.Path.{◌≡◌, refl, sym, ◌∙◌, subst}
+use mathlib.Core.Bool.{false}
 use mathlib.Core.List.{List}
 use native.Mathlib.Omega.{arith}
 use lib.ListN.{length, take}
@@ -107,17 +107,17 @@ module _ {log sets : List ℕ} {x : Extent} {rec steps counts marking step : Lis
   line_on l a L = rw (← G.places, ← G.transitions) L
 
   -- the line is refused as a step
-  pub refused-line : {step' : List ℕ} (w : StepRefusal) → LineAt log at sets (position_of run) marking' (Err w) step' → PlayedLog log sets x rec steps counts marking (Err (Step w)) rec' steps' counts'
-  refused-line w S = record {
-    answers = runs-stop sets G.runs S.found {mk' = marking'} (Step w) (line_on S.found.line (Err (Step w)) {y = run_at run rec' steps' counts'} (refused-on run refl w S));
+  pub refused-line : {r : StepLine} {step' : List ℕ} (w : StepRefusal) → LineAt log at sets (position_of run) marking' r step' → r.events ≡ Err w → PlayedLog log sets x rec steps counts marking (Err (Step w)) rec' steps' counts'
+  refused-line {r} w S e = record {
+    answers = runs-stop sets G.runs S.found {mk' = marking'} (Step w) (line_on S.found.line (Err (Step w)) {y = run_at run rec' steps' counts'} (refused-on run refl w r S e));
     long = G.long;
   }
 
-  module _ {r : StepLine} {step' : List ℕ} (S : LineAt log at sets (position_of run) marking' (Ok r) step') where
-    enabled-now : (ts : List ℕ) × Enabled B.net (position_of run) now.state.marking r.count step' ts
-    enabled-now = enabled-on run refl r S B.net now.state arcs-now known-now holds-now
+  module _ {r : StepLine} {step' : List ℕ} (S : LineAt log at sets (position_of run) marking' r step') {count : ℕ} (goes : r.events ≡ Ok count) where
+    enabled-now : (ts : List ℕ) × Enabled B.net (position_of run) now.state.marking count step' ts
+    enabled-now = enabled-on run refl r S goes B.net now.state arcs-now known-now holds-now
 
-    pub buildable : Buildable step' r.count sets run rec' steps' counts'
+    pub buildable : Buildable step' count sets run rec' steps' counts'
     buildable = let E = enabled-now.1 in record {
       step = E.holds.step;
       some = E.some;
@@ -127,17 +127,17 @@ module _ {log sets : List ℕ} {x : Extent} {rec steps counts marking step : Lis
       reached = record { net = B.net; run = now.state; arcs = arcs-now; holds = now.holds.run };
     }
 
-    pub can-play : Playable sets (take r.count step') marking'
-    can-play = playable-on run refl r S B.net now.state arcs-now known-now holds-now
+    pub can-play : Playable sets (take count step') marking'
+    can-play = playable-on run refl r S goes B.net now.state arcs-now known-now holds-now
 
     module _ {rec'' steps'' counts'' : List ℕ} where
-      pub refused-step : (w : LogRefusal) → BuiltOn step' r.count sets run rec' steps' counts' (Err w) rec'' steps'' counts'' → PlayedLog log sets x rec steps counts marking (Err w) rec'' steps'' counts''
+      pub refused-step : (w : LogRefusal) → BuiltOn step' count sets run rec' steps' counts' (Err w) rec'' steps'' counts'' → PlayedLog log sets x rec steps counts marking (Err w) rec'' steps'' counts''
       refused-step w P = record {
-        answers = runs-stop sets G.runs S.found {mk' = marking'} w (line_on S.found.line (Err w) (stepped-on run refl r S (Err w) P.answers (log-refused-not w)));
+        answers = runs-stop sets G.runs S.found {mk' = marking'} w (line_on S.found.line (Err w) (stepped-on run refl r S goes (Err w) P.answers (log-refused-not w)));
         long = P.long ∙ G.long;
       }
 
-      pub goes_on : {marking'' : List ℕ} {y : Extent} → BuiltOn step' r.count sets run rec' steps' counts' (Ok y) rec'' steps'' counts'' → MovedBy sets (take r.count step') marking' marking''
+      pub goes_on : {marking'' : List ℕ} {y : Extent} → BuiltOn step' count sets run rec' steps' counts' (Ok y) rec'' steps'' counts'' → MovedBy sets (take count step') marking' marking''
           → Going log sets x rec steps counts marking step' y r.next rec'' steps'' counts'' marking''
       goes_on {y = y} P M = record {
         step = S.long;
@@ -145,5 +145,5 @@ module _ {log sets : List ℕ} {x : Extent} {rec steps counts marking step : Lis
         wide = P.wide ∙ G.wide;
         places = P.passes.places ∙ G.places;
         transitions = P.passes.transitions ∙ G.transitions;
-        runs = rw S.on (runs-next sets G.runs S.found y (line_on S.found.line (Ok y) (stepped-on run refl r S (Ok y) P.answers (λ v. M))) P.passes.line);
+        runs = runs-next sets G.runs S.found y (line_on S.found.line (Ok y) (stepped-on run refl r S goes (Ok y) P.answers (λ v. M))) P.passes.line;
       }

@@ -55,9 +55,10 @@ pub fn play_log(
             at,
             ended,
         };
-        let line = judge_line(&table, log, here, sets, position(run), marking, &mut step)?;
-        run = build_step(&step, line.count, sets, run, rec, steps, counts)?;
-        play(&step, line.count, sets, marking);
+        let line = judge_line(&table, log, here, sets, position(run), marking, &mut step);
+        let count = line.events?;
+        run = build_step(&step, count, sets, run, rec, steps, counts)?;
+        play(&step, count, sets, marking);
         at = line.next;
     }
     Ok(run)

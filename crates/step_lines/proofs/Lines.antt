@@ -28,11 +28,11 @@ use Rattle.arc_sets.specs.Sets.{HoldsArcs}
 use Rattle.steps.specs.StepArrays.{IsStep, HoldsMarking}
 use Rattle.steps.specs.Judged.{numbers_in, read_step, count_step, judge_step, line_at, step_refused, nothing, Judges}
 use Rattle.steps.specs.declared.Position.{Position}
-use Rattle.std.specs.Prelude.{Ok, Err}
+use Rattle.std.specs.Prelude.{Result, Ok, Err}
 use Rattle.steps.specs.declared.StepRefusal.{StepRefusal}
 use Rattle.steps.specs.declared.StepRefusal.TheVariants.{Malformed, UnknownTransition, OverEvents, TooFewTokens, Inhibited}
 use Rattle.steps.proofs.Held.{step-held}
-use Rattle.step_lines.specs.Lines.{Named, ReadLine, Enabled}
+use Rattle.step_lines.specs.Lines.{Named, ReadLine, HasStep, Enabled}
 
 -- a line of a log has a number
 some_number : (l : Line) → is_step_line l ≡ true → 0 < length (numbers_in l)
@@ -182,3 +182,8 @@ module _ {l : Line} {x : Position} {count : ℕ} {step : List ℕ} (R : ReadLine
             judged = u;
           })
           go (refusing n s p y) = refuses-not (sym y)
+
+-- of a line that was refused it has nothing to have
+pub has-step : {l : Line} {x : Position} (r : Result ℕ StepRefusal) {step : List ℕ} → ReadLine l x r step → HasStep r step
+has-step (Ok count) R = step-read R
+has-step (Err w) R = tt

@@ -7,7 +7,7 @@ use Rattle.spec.specs.Net.{Net}
 use Rattle.lines.specs.Agree.{Agrees}
 use Rattle.lines.specs.Lines.{LineTo}
 use Rattle.arc_sets.specs.Sets.{HoldsArcs}
-use Rattle.steps.specs.StepArrays.{step_long, HoldsStep, HoldsMarking}
+use Rattle.steps.specs.StepArrays.{step_long, IsStep, HoldsStep, HoldsMarking}
 use Rattle.steps.specs.Judged.{step_answer, nothing, read_step, judge_step, line_at}
 use Rattle.steps.specs.declared.Position.{Position}
 use Rattle.steps.specs.declared.StepRefusal.{StepRefusal}
@@ -37,22 +37,15 @@ pub record ReadLine (l : Line) (x : Position) (r : Result ℕ StepRefusal) (step
   pub answers :
       Agrees nothing (step_answer r) (NamedOf x.transitions r step) (read_step x.transitions x.line l)
 
--- how many events a line has
-abbrev pub count_of : Result StepLine StepRefusal → Result ℕ StepRefusal
-count_of (Ok l) = Ok l.count
-count_of (Err w) = Err w
+-- the line that starts at a position is read so
+pub record ReadAt (log : List ℕ) (at : ℕ) (x : Position) (r : StepLine) (step : List ℕ) : Type 0 where
+  pub found : LineTo log at r.next
+  pub read : ReadLine found.line x r.events step
 
--- the line that is next is told, where one is read
-abbrev pub GoesOn : Result StepLine StepRefusal → ℕ → Type 0
-GoesOn (Ok l) next = l.next ≡ next
-GoesOn (Err w) next = Unit {0}
-
--- the line that starts at a position is read so, and the next one starts at `next`
-pub record ReadAt (log : List ℕ) (at : ℕ) (x : Position) (r : Result StepLine StepRefusal) (step : List ℕ) : Type 0 where
-  pub next : ℕ
-  pub found : LineTo log at next
-  pub on : GoesOn r next
-  pub read : ReadLine found.line x (count_of r) step
+-- the array has the step of a line that was read, if it has room for it
+abbrev pub HasStep : Result ℕ StepRefusal → List ℕ → Type 0
+HasStep (Ok count) step = count ≤ step_long → IsStep step count
+HasStep (Err w) step = Unit {0}
 
 -- the step of a line that is enabled at a marking
 pub record Enabled (N : Net) (x : Position) (mk : List ℕ) (count : ℕ) (step ts : List ℕ) : Type 0 where
@@ -63,20 +56,20 @@ pub record Enabled (N : Net) (x : Position) (mk : List ℕ) (count : ℕ) (step 
   pub judged : judge_step N x.line mk ts ≡ gives tt
 
 -- that of a line that is judged
-abbrev pub EnabledOf : Net → Position → List ℕ → Result StepLine StepRefusal → List ℕ → List ℕ → Type 0
-EnabledOf N x mk (Ok l) step ts = Enabled N x mk l.count step ts
+abbrev pub EnabledOf : Net → Position → List ℕ → Result ℕ StepRefusal → List ℕ → List ℕ → Type 0
+EnabledOf N x mk (Ok count) step ts = Enabled N x mk count step ts
 EnabledOf N x mk (Err w) step ts = ⊥
 
--- the line that starts at a position is judged as the definitions judge it, for every net and marking that are held, and the
--- next one starts at `next`
+-- a line is judged as the definitions judge it, for every net and marking that are held
+abbrev pub JudgesLine : Line → List ℕ → Position → List ℕ → Result ℕ StepRefusal → List ℕ → Type 0
+JudgesLine l sets x marking r step = (N : Net) (mk : List ℕ) → HoldsArcs N sets x.places → x.transitions ≡ N.transitions
+    → HoldsMarking x.places marking mk
+    → Agrees nothing (step_answer r) (EnabledOf N x mk r step) (line_at N x.line l x.events mk)
+
+-- the line that starts at a position is judged so
 pub record LineAt
-    (log : List ℕ) (at : ℕ) (sets : List ℕ) (x : Position) (marking : List ℕ) (r : Result StepLine StepRefusal) (step : List ℕ)
+    (log : List ℕ) (at : ℕ) (sets : List ℕ) (x : Position) (marking : List ℕ) (r : StepLine) (step : List ℕ)
     : Type 0 where
-  pub next : ℕ
-  pub found : LineTo log at next
-  pub on : GoesOn r next
+  pub found : LineTo log at r.next
   pub long : length step ≡ step_long
-  pub answers : (N : Net) (mk : List ℕ) → HoldsArcs N sets x.places → x.transitions ≡ N.transitions
-      → HoldsMarking x.places marking mk
-      → Agrees nothing (step_answer r) (EnabledOf N x mk r step)
-      (line_at N x.line found.line x.events mk)
+  pub answers : JudgesLine found.line sets x marking r.events step

@@ -2,10 +2,11 @@
 #![tactic(auto)]
 
 ghost use Rattle.std.specs.Prelude.{◌≡◌, ◌≤◌, ◌<◌, length};
+ghost use Rattle.spec.specs.Text.{Line};
 ghost use Rattle.lines.specs.Lines.{line_of, EndedTo};
 ghost use Rattle.arc_sets.specs.Sets.{Within};
 ghost use Rattle.steps.specs.Judged.{step_answer, count_step};
-ghost use Rattle.step_lines.specs.Lines.{Readable, ReadLine, ReadAt, LineAt};
+ghost use Rattle.step_lines.specs.Lines.{Readable, ReadLine, ReadAt, HasStep, JudgesLine, LineAt};
 
 use arc_sets::SETS;
 use byte_classes::Table;
@@ -17,10 +18,10 @@ use steps::{MARKING, Position, STEP, StepRefusal, judge};
 // The events that a run may have.
 const MOST_EVENTS: usize = 128;
 
-// How many events a line has, and where the next line starts.
+// How many events a line has, or why it is refused, and where the next line starts.
 #[derive(Clone, Copy, Debug, PartialEq, Eq)]
 pub struct StepLine {
-    pub count: usize,
+    pub events: Result<usize, StepRefusal>,
     pub next: usize,
 }
 
@@ -55,7 +56,7 @@ pub fn read_step(
     c: Cursor,
     x: Position,
     step: &mut [u8; STEP],
-) -> Result<StepLine, StepRefusal>
+) -> StepLine
     requires { (c.at < length log.now) × EndedTo log.now c.ended
         × Readable x step.old }
     ensures { ReadAt log.now c.at x result step.new }
@@ -65,21 +66,23 @@ pub fn read_step(
         let plain = list_at(table, LETTER_S, log, at, step);
         if at < plain.next {
             if x.transitions <= plain.high {
-                return Err(StepRefusal::UnknownTransition(x.line));
+                return StepLine {
+                    events: Err(StepRefusal::UnknownTransition(x.line)),
+                    next: plain.next,
+                };
             }
-            return Ok(StepLine {
-                count: plain.count,
+            return StepLine {
+                events: Ok(plain.count),
                 next: plain.next,
-            });
+            };
         }
     }
     let any = line_at(table, log, at);
     let end = any.end;
-    let count = any_line(table, &log[at..end], any.ended, x, step)?;
-    Ok(StepLine {
-        count,
+    StepLine {
+        events: any_line(table, &log[at..end], any.ended, x, step),
         next: any.next,
-    })
+    }
 }
 
 // So many events more: 23.
@@ -93,6 +96,23 @@ pub fn count_step(x: Position, count: usize) -> Result<(), StepRefusal>
     Ok(())
 }
 
+// A line that was read, counted and judged at a marking: 23 to 25 where it was not refused.
+fn judge_events(
+    read: Result<usize, StepRefusal>,
+    step: &[u8; STEP],
+    sets: &[u64; SETS],
+    x: Position,
+    marking: &[u32; MARKING],
+) -> Result<usize, StepRefusal>
+    requires { (x.events ≤ 128) × (x.places ≤ 32) × Within 32 sets.now × HasStep read step.now }
+    ensures { (l : Line) → ReadLine l x read step.now → JudgesLine l sets.now x marking.now result step.now }
+{
+    let count = read?;
+    count_step(x, count)?;
+    judge(step, count, sets, marking, x.places, x.line)?;
+    Ok(count)
+}
+
 // The line at a cursor, at a marking: 21 to 25.
 pub fn judge_line(
     table: &Table,
@@ -102,14 +122,15 @@ pub fn judge_line(
     x: Position,
     marking: &[u32; MARKING],
     step: &mut [u8; STEP],
-) -> Result<StepLine, StepRefusal>
+) -> StepLine
     requires { (c.at < length log.now) × EndedTo log.now c.ended
         × Readable x step.old × (x.places ≤ 32) × Within 32 sets.now }
     ensures { LineAt log.now c.at sets.now x marking.now
         result step.new }
 {
-    let read = read_step(table, log, c, x, step)?;
-    count_step(x, read.count)?;
-    judge(step, read.count, sets, marking, x.places, x.line)?;
-    Ok(read)
+    let read = read_step(table, log, c, x, step);
+    StepLine {
+        events: judge_events(read.events, step, sets, x, marking),
+        next: read.next,
+    }
 }

@@ -10,37 +10,38 @@ pub loop-at-init : goal.loop-at-init
 loop-at-init c =
     (omega arith, record { step = refl; long = refl; wide = refl; places = refl; transitions = refl; runs = runs_none _ c.requires.line })
 
-pub judge_line-requires : goal.judge_line-requires
-judge_line-requires c =
+pub judge_line-line-requires : goal.judge_line-line-requires
+judge_line-line-requires c =
     let g = c.loop-at.invariant.1 in
     rw c.position.ensures
     (c.loop-at-test.true, c.ended_to-ended.ensures, readable c.requires g, few-places c.requires g, within c.requires g)
 
-pub returns-in_err-line : goal.returns-in_err-line
-returns-in_err-line c =
-    let gone : c.from_residual.result ≡ Err (Step c.in_err-line.field-0.0) = grind arith in
-    rw gone (refused-line c.requires c.loop-at.invariant.1 _ (rw c.position.ensures at c.in_err-line.ensures))
+pub returns-in_err-count : goal.returns-in_err-count
+returns-in_err-count c =
+    let gone : c.from_residual.result ≡ Err (Step c.in_err-count.field-0.0) = grind arith in
+    rw gone (refused-line c.requires c.loop-at.invariant.1 _ (rw c.position.ensures at c.judge_line-line.ensures) c.in_err-count.was)
 
 pub build_step-requires : goal.build_step-requires
-build_step-requires c = buildable c.requires c.loop-at.invariant.1 (rw c.position.ensures at c.in_ok-line.ensures)
+build_step-requires c = buildable c.requires c.loop-at.invariant.1 (rw c.position.ensures at c.judge_line-line.ensures) c.in_ok-count.was
 
 pub returns-in_err-run : goal.returns-in_err-run
 returns-in_err-run c =
     let gone : c.from_residual-in_err-run.result ≡ Err c.in_err-run.field-0.0 = grind arith in
-    rw gone (refused-step c.requires c.loop-at.invariant.1 (rw c.position.ensures at c.in_ok-line.ensures) _ c.in_err-run.ensures)
+    rw gone (refused-step c.requires c.loop-at.invariant.1 (rw c.position.ensures at c.judge_line-line.ensures) c.in_ok-count.was _ c.in_err-run.ensures)
 
 pub play-requires : goal.play-requires
 play-requires c =
-    let d = rw c.position.ensures at c.in_ok-line.ensures in
-    ((buildable c.requires c.loop-at.invariant.1 d).step, can-play c.requires c.loop-at.invariant.1 d)
+    let d = rw c.position.ensures at c.judge_line-line.ensures in
+    let g = c.in_ok-count.was in
+    ((buildable c.requires c.loop-at.invariant.1 d g).step, can-play c.requires c.loop-at.invariant.1 d g)
 
 pub loop-at-smaller : goal.loop-at-smaller
-loop-at-smaller c = omega (arith, c.in_ok-line.ensures.found, c.in_ok-line.ensures.on)
+loop-at-smaller c = omega (arith, c.judge_line-line.ensures.found)
 
 pub loop-at-preserved : goal.loop-at-preserved
 loop-at-preserved c = (
-  omega (arith, c.in_ok-line.ensures.found.within, c.in_ok-line.ensures.on),
-  goes_on c.requires c.loop-at.invariant.1 (rw c.position.ensures at c.in_ok-line.ensures) c.in_ok-run.ensures c.play.ensures,
+  c.judge_line-line.ensures.found.within,
+  goes_on c.requires c.loop-at.invariant.1 (rw c.position.ensures at c.judge_line-line.ensures) c.in_ok-count.was c.in_ok-run.ensures c.play.ensures,
 )
 
 pub returns : goal.returns

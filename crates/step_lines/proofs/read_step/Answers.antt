@@ -1,7 +1,6 @@
 -- `step_lines::read_step` meets its contract: a plain line, where a line end is ahead, was read in one walk; any other is
 -- read by its own tests.
-use mathlib.Core.Path.{◌≡◌, refl, sym, ap, ◌∙◌}
-use Rattle.std.specs.Prelude.{Err}
+use mathlib.Core.Path.{◌≡◌, sym, ap, ◌∙◌}
 use mathlib.Core.Bool.{true}
 use native.Mathlib.Omega.{arith}
 use lib.ListN.{length}
@@ -25,8 +24,6 @@ returns-then-x-plain c =
     let l = r.line c.if-at-plain.true in
     let u = sym (l.high x.transitions) ∙ le-leb _ _ c.if-x-plain.true in
     record {
-      next = _;
-      on = tt;
       found = list-to l c.if-at-plain.true;
       read = reads-22 (line_of l.bytes true) x r.long (list-step l.bytes l.list) u;
     }
@@ -39,8 +36,6 @@ returns-then-at-plain c =
     let l = r.line c.if-at-plain.true in
     let u = sym (l.high x.transitions) ∙ lt-leb _ _ c.if-x-plain.false in
     record {
-      next = _;
-      on = refl;
       found = list-to l c.if-at-plain.true;
       read = reads-step (line_of l.bytes true) x r.long (list-step l.bytes l.list) k u l.count
           (λ h. l.numbers (few-known 256 x.transitions _ (omega (arith, l.count)) u (omega (arith, k))));
@@ -61,11 +56,5 @@ pub any_line-requires : goal.any_line-requires
 any_line-requires c =
     record { known = c.requires.2.known; events = c.requires.2.events; long = as_long (goal.at.any_line-requires c).Joined-at-c }
 
--- where the next line starts
-pub returns-in_err-count : goal.returns-in_err-count
-returns-in_err-count c = let r = line-to c.line_at-any.ensures in
-    let gone : c.from_residual.result ≡ Err c.in_err-count.field-0.0 = grind arith in
-    rw gone record { next = _; found = r; on = tt; read = c.in_err-count.ensures }
-
 pub returns : goal.returns
-returns c = record { next = _; found = line-to c.line_at-any.ensures; on = refl; read = c.in_ok-count.ensures }
+returns c = record { found = line-to c.line_at-any.ensures; read = c.any_line.ensures }
