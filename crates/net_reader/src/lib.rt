@@ -68,7 +68,7 @@ fn add_row(
     Err(NetRefusal::Malformed(k))
 }
 
-// A line that was added, and where the next one starts.
+// The size after a line that was added, and where the next line starts.
 #[derive(Clone, Copy)]
 pub struct Took {
     pub size: Size,

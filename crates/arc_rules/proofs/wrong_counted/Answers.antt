@@ -1,5 +1,5 @@
 -- `arc_rules::wrong_counted` meets its contract: the lowest event with wrong arcs is found, or none is. A count cut off
--- at 255 differs from an arc, which counts for one at most, where the whole count does.
+-- at 255 differs from an arc, which weighs 16 at most, where the whole count does.
 use Rattle.std.proofs.Common.{◌≡◌, true, false, arith, rules, tests}
 use Rattle.std.proofs.lemmas.Iterator.{first_from_Range}
 use Rattle.lists.specs.Lowest.{lowest-found}

@@ -1,6 +1,6 @@
 -- `net_reader::arc_line_at` meets its contract: the numbers that were read, each with the comma or the ending behind it, are
 -- the line, put together from its end; behind the second stands the ending or, where the letter may have a weight, a comma and
--- the third. Where one is missing, the position stays.
+-- the third. Where one is missing, no line is told.
 use Prim.Native.Nat.{◌<◌}
 use mathlib.Core.Path.{◌≡◌, refl}
 use mathlib.Core.Logic.{inl, inr}
