@@ -7,7 +7,7 @@ ghost use Rattle.lines.specs.Lines.{line_of, EndedTo};
 ghost use Rattle.reach.specs.Rows.{Good};
 ghost use Rattle.arrangement_reader.specs.Lined.{event_count, lined_size, Enterable, Enters, Addable};
 ghost use Rattle.arrangement_reader.specs.Lined.{AddsLine, AnyTaken, Meets, Unites, path_of, Lacks, WithLacking};
-ghost use Rattle.arrangement_reader.specs.Lined.{AllEvents, EventsIn, Grouped, FindsBroken};
+ghost use Rattle.arrangement_reader.specs.Lined.{AllEvents, Grouped, FindsBroken};
 ghost use Rattle.arrangement_reader.specs.Arrangement.{answer_of, KnownLine, KnownAt};
 ghost use Rattle.arrangement_reader.specs.Arrangement.{ReadsLines, finished};
 

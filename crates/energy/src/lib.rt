@@ -15,7 +15,7 @@ use record_columns::RECORD;
 use spec::Energies;
 
 // Why there are no energies: the net or the record is refused, or the energy text is.
-#[derive(Clone, Copy)]
+#[derive(Clone, Copy, Debug, PartialEq, Eq)]
 pub enum EnergiesRefusal {
     Refused(Refusal),
     Text(EnergyRefusal),

@@ -3,9 +3,9 @@
 #![tactic(auto)]
 
 ghost use Rattle.std.specs.Prelude.{◌≡◌, ◌≤◌, ◌<◌, length};
-ghost use Rattle.record_columns.specs.Layout.{conditions_most, record_bytes};
+ghost use Rattle.record_columns.specs.Layout.{conditions_most};
 ghost use Rattle.condition_sets.specs.Sets.{InPlaces};
-ghost use Rattle.held_conditions.specs.Held.{earlier_at, consumer_in, producer_in, Coded, left_at, held_at};
+ghost use Rattle.held_conditions.specs.Held.{earlier_at, left_at, held_at};
 ghost use Rattle.held_conditions.specs.Held.{FirstOf, Joins, Passed, Readable, ReadsPlace, ReadsOf};
 
 use bit_sets::members;

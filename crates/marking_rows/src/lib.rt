@@ -1,7 +1,7 @@
 // The marking after each line of an arrangement: what its places had, what its events made and took, and the rows.
 #![tactic(auto)]
 
-ghost use Rattle.std.specs.Prelude.{◌≡◌, ◌+◌, ◌≤◌, length, get_or, replicate};
+ghost use Rattle.std.specs.Prelude.{◌+◌, ◌≤◌, length};
 ghost use Rattle.lists.specs.Stretch.{MappedFrom};
 ghost use Rattle.marking_rows.specs.Rows.{row_size, row_counts};
 ghost use Rattle.marking_rows.specs.Rows.{Addable, AddsArcs, Begun, Playing, Plays, left_of, Playable, PutsRows};

@@ -1,7 +1,7 @@
 // The record reader: a text becomes a record of bytes and words, or a refusal.
 #![tactic(auto)]
 
-ghost use Rattle.std.specs.Prelude.{◌≡◌, true, ◌≤◌, ◌<◌, length};
+ghost use Rattle.std.specs.Prelude.{◌≡◌, ◌≤◌, ◌<◌, length};
 ghost use Rattle.lines.specs.Lines.{EndedTo};
 ghost use Rattle.record_columns.specs.Layout.{record_bytes};
 ghost use Rattle.record_columns.specs.Enters.{Room, Fits, Spans};

@@ -101,7 +101,7 @@ fn kind_if(after: bool) -> MarkKind
     }
 }
 
-// Event e's mark at condition c, of a place that inhibits it, unless e produced the condition.
+// The event's mark at condition c, of a place that inhibits it, unless the event produced the condition.
 fn put_due(out: &mut [u8], marks: &mut [u64], ends: Ends, m: &Moment, c: usize) -> Ends
     requires { (c < conditions_most) × Consumer m.now.rec.now c
         × Room (guard_if 1 m.now.rec.now m.now.steps.now m.now.event c) ends out.old marks.old }
@@ -123,7 +123,7 @@ pub struct Spot {
     pub condition: usize,
 }
 
-// Event e's marks at a condition: B or A, and R.
+// The event's marks at a condition: B or A, and R.
 fn put_spot(out: &mut [u8], marks: &mut [u64], ends: Ends, m: &Moment, spot: Spot) -> Ends
     requires { (spot.condition < conditions_most) × SpotConsumer spot m.now.rec.now
         × Room (spot_notes spot m.now.rec.now m.now.steps.now m.now.event) ends out.old marks.old }
@@ -161,7 +161,7 @@ pub struct Part {
     pub first: usize,
 }
 
-// Event e's marks at the conditions of a part.
+// The event's marks at the conditions of a part.
 fn put_part(out: &mut [u8], marks: &mut [u64], ends: Ends, m: &Moment, part: Part) -> Ends
     requires { (part.first + word_bits ≤ conditions_most) × PartConsumers part m.now.rec.now
         × Room (part_notes part m.now.rec.now m.now.steps.now m.now.event) ends out.old marks.old }

@@ -16,7 +16,7 @@ use reach::WORDS;
 use record_columns::RECORD;
 
 // Why there is no replay: the buffer is short, the net or the record is refused, or the arrangement is.
-#[derive(Clone, Copy)]
+#[derive(Clone, Copy, Debug, PartialEq, Eq)]
 pub enum ReplayRefusal {
     BufferShort,
     Refused(Refusal),
