@@ -15,9 +15,7 @@ use line_forms::Slot;
 use reach::{raise, related};
 use spec::{Limits, MarkKind};
 
-// How many events and conditions a record has room for; its bytes, and the words of its marks, eight for each
-// condition; and the byte of a producer or consumer that is none:
-// each is a byte of the column, where an Option would take two.
+// How many events and conditions a record has room for; its bytes, and the words of its marks, eight for each condition.
 pub const EVENTS: usize = 128;
 
 pub const CONDITIONS: usize = 512;
@@ -26,6 +24,7 @@ pub const RECORD: usize = 1664;
 
 pub const MARK_WORDS: usize = 4096;
 
+// The byte of a producer or consumer that is none: a byte of the column, where an Option would take two.
 pub const NO_EVENT: u8 = 128;
 
 // Where the bytes of a record stand. Before PLACES stand the transitions of the events; then from each number on the
