@@ -9,7 +9,7 @@ top=$(cd "$(dirname "$0")/.." && pwd)
 work=$(mktemp -d)
 trap 'rm -rf "$work"' EXIT
 . "$top/tests/lib.sh"
-crates="spec lists order runs machine_numbers rounding hold_up energies"
+crates="spec lists order runs rounding hold_up energies"
 
 copy() { # NAME: the crates of the theorems without the computed cases (Quoted and every module that imports it), in $work/NAME
   local dir=$work/$1 file

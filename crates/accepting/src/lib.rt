@@ -8,16 +8,17 @@ ghost use Rattle.net_reader.specs.Reads.{Blank as NetBlank};
 ghost use Rattle.record_columns.specs.Enters.{Room, Spans};
 ghost use Rattle.record_reader.specs.Reads.{Blank as RecordBlank};
 ghost use Rattle.representation.specs.Held.{Sound};
+ghost use Rattle.accepting.specs.declared.Refusal.TheVariants.{Net, Record};
 ghost use Rattle.accepting.specs.Relation.{Blank};
 ghost use Rattle.accepting.specs.Accepting.{Within, NetHeld, Orders, Judges, AcceptsRecord, Accepts, Keeps};
 ghost use Rattle.record_columns.specs.Layout.{record_bytes};
 
 use arc_rules::{wrong_arcs, wrong_initial};
 use mark_rules::{wrong_kind, wrong_marks};
-use net::{ARCS, NetAnswer, NetRefusal, TOKENS};
+use net::{ARCS, NetRefusal, TOKENS};
 use net_reader::read_into;
 use reach::{WORDS, close};
-use record_columns::{Bounds, Counts, MARK_WORDS, RecordAnswer, RecordRefusal};
+use record_columns::{Bounds, Counts, MARK_WORDS, RecordRefusal};
 use record_reader::read_record;
 use row_facts::first_loop;
 use row_pairs::{raise_conditions, raise_marks};
@@ -30,23 +31,32 @@ const SHORT_TEXT: usize = 512;
 const SHORT_MARKS: usize = 512;
 
 // Why a net and a record are not accepted: the net, or the record under it.
-#[derive(Clone, Copy)]
+#[derive(Clone, Copy, Debug, PartialEq, Eq)]
 pub enum Refusal {
     Net(NetRefusal),
     Record(RecordRefusal),
 }
 
-#[derive(Clone, Copy)]
-pub enum Verdict {
-    Given,
-    Refused(Refusal),
+impl From<NetRefusal> for Refusal {
+    ghost from_gives = { λ e r. r ≡ Net e };
+
+    fn from(why: NetRefusal) -> Refusal {
+        Refusal::Net(why)
+    }
 }
 
-// Whether a net and a record are accepted, and their counts. The net, the record's bytes and its closed order are in
-// what was lent.
-#[derive(Clone, Copy)]
+impl From<RecordRefusal> for Refusal {
+    ghost from_gives = { λ e r. r ≡ Record e };
+
+    fn from(why: RecordRefusal) -> Refusal {
+        Refusal::Record(why)
+    }
+}
+
+// The counts of a net and a record that are accepted. The net, the record's bytes and its closed order are in what was
+// lent.
+#[derive(Clone, Copy, Debug, PartialEq, Eq)]
 pub struct Accepted {
-    pub verdict: Verdict,
     pub places: usize,
     pub transitions: usize,
     pub events: usize,
@@ -67,8 +77,8 @@ pub fn bench() -> Limits
 // ---- the rules 35 to 39
 
 // 39: empty rows get the pairs of the marks and the conditions and are closed; the lowest event that is strictly before
-// itself, or the number of events.
-pub fn order(s: Counts, rec: &[u8], marks: &[u64], w: &mut [u64; WORDS]) -> usize
+// itself, if there is one.
+pub fn order(s: Counts, rec: &[u8], marks: &[u64], w: &mut [u64; WORDS]) -> Option<usize>
     requires { Sound s rec.now × Spans s marks.now × Blank w.old }
     ensures { (length w.new ≡ length w.old)
         × Orders s rec.now marks.now result w.new }
@@ -82,6 +92,7 @@ pub fn order(s: Counts, rec: &[u8], marks: &[u64], w: &mut [u64; WORDS]) -> usiz
 // ---- accepting
 
 // The rules 35 to 39, each over the whole record before the next. Where none is broken the closed order is in the rows.
+// The net's arrays and the record's columns go by themselves: each rule takes some of them, and none takes all.
 fn judge(
     b: Bounds,
     tokens: &[u16; TOKENS],
@@ -90,46 +101,29 @@ fn judge(
     rec: &[u8],
     marks: &[u64],
     w: &mut [u64; WORDS],
-) -> Verdict
+) -> Result<(), RecordRefusal>
     requires { Room b × Sound s rec.now × Spans s marks.now × Blank w.old }
     ensures { (length w.new ≡ length w.old)
         × Judges (net_at b.places b.transitions tokens.now arcs.now)
         s rec.now marks.now result w.new }
 {
     let places = b.places;
-    let p = wrong_initial(places, tokens, s, rec);
-    if p < places {
-        return Verdict::Refused(Refusal::Record(RecordRefusal::WrongInitial(p)));
+    if let Some(p) = wrong_initial(places, tokens, s, rec) {
+        return Err(RecordRefusal::WrongInitial(p));
     }
-    let d = wrong_arcs(places, arcs, s, rec);
-    if d < s.events {
-        return Verdict::Refused(Refusal::Record(RecordRefusal::WrongArcs(d)));
+    if let Some(e) = wrong_arcs(places, arcs, s, rec) {
+        return Err(RecordRefusal::WrongArcs(e));
     }
-    let e = wrong_marks(places, b.transitions, arcs, s, rec, marks);
-    if e < s.events {
-        return Verdict::Refused(Refusal::Record(RecordRefusal::WrongMarks(e)));
+    if let Some(e) = wrong_marks(places, b.transitions, arcs, s, rec, marks) {
+        return Err(RecordRefusal::WrongMarks(e));
     }
-    let f = wrong_kind(s, rec, marks);
-    if f < s.events {
-        return Verdict::Refused(Refusal::Record(RecordRefusal::WrongKind(f)));
+    if let Some(e) = wrong_kind(s, rec, marks) {
+        return Err(RecordRefusal::WrongKind(e));
     }
-    let g = order(s, rec, marks, w);
-    if g < s.events {
-        return Verdict::Refused(Refusal::Record(RecordRefusal::BeforeItself(g)));
+    if let Some(e) = order(s, rec, marks, w) {
+        return Err(RecordRefusal::BeforeItself(e));
     }
-    Verdict::Given
-}
-
-fn refused(why: Refusal) -> Accepted
-    ensures { result.verdict ≡ Verdict.Refused why }
-{
-    Accepted {
-        verdict: Verdict::Refused(why),
-        places: 0,
-        transitions: 0,
-        events: 0,
-        conditions: 0,
-    }
+    Ok(())
 }
 
 // A record is read and judged by the net that the arrays hold, in words for its marks that are all zero before.
@@ -141,26 +135,21 @@ fn accept_record(
     rec: &mut [u8],
     marks: &mut [u64],
     w: &mut [u64; WORDS],
-) -> Accepted
+) -> Result<Accepted, Refusal>
     requires { Room b × NetHeld b tokens.now arcs.now × (record_bytes ≤ length rec.old)
         × RecordBlank text.now marks.old × Blank w.old }
     ensures { (length w.new ≡ length w.old)
         × AcceptsRecord b text.now tokens.now arcs.now result
         rec.new w.new }
 {
-    let read = read_record(b, text, rec, marks);
-    let answer = read.answer;
-    if let RecordAnswer::Refused(why) = answer {
-        return refused(Refusal::Record(why));
-    }
-    let s = read.counts;
-    Accepted {
-        verdict: judge(b, tokens, arcs, s, rec, marks, w),
+    let s = read_record(b, text, rec, marks)?;
+    judge(b, tokens, arcs, s, rec, marks, w)?;
+    Ok(Accepted {
         places: b.places,
         transitions: b.transitions,
         events: s.events,
         conditions: s.conditions,
-    }
+    })
 }
 
 // "net's; check's but 30": a net and a record, the net in arrays that are all zero before, and the closed order in the
@@ -173,27 +162,23 @@ pub fn accept(
     arcs: &mut [u8; ARCS],
     rec: &mut [u8],
     w: &mut [u64; WORDS],
-) -> Accepted
+) -> Result<Accepted, Refusal>
     requires { Within limits × NetBlank tokens.old arcs.old × (record_bytes ≤ length rec.old) × Blank w.old }
     ensures { (length w.new ≡ length w.old)
         × Accepts limits net.now text.now result w.new
         × Keeps limits net.now text.now result
         tokens.new arcs.new rec.new }
 {
-    match read_into(net, tokens, arcs) {
-        NetAnswer::Refused(why) => refused(Refusal::Net(why)),
-        NetAnswer::Accepted(places, transitions) => {
-            let b = Bounds {
-                limits,
-                places,
-                transitions,
-            };
-            if text.len() <= SHORT_TEXT {
-                let mut marks = [0u64; SHORT_MARKS];
-                return accept_record(b, text, tokens, arcs, rec, &mut marks, w);
-            }
-            let mut marks = [0u64; MARK_WORDS];
-            accept_record(b, text, tokens, arcs, rec, &mut marks, w)
-        }
+    let size = read_into(net, tokens, arcs)?;
+    let b = Bounds {
+        limits,
+        places: size.places,
+        transitions: size.transitions,
+    };
+    if text.len() <= SHORT_TEXT {
+        let mut marks = [0u64; SHORT_MARKS];
+        return accept_record(b, text, tokens, arcs, rec, &mut marks, w);
     }
+    let mut marks = [0u64; MARK_WORDS];
+    accept_record(b, text, tokens, arcs, rec, &mut marks, w)
 }

@@ -1,39 +1,50 @@
 // Each answer as document 01's number and spot, and the values that an operation returns.
 #![tactic(auto)]
 
-ghost use Rattle.std.specs.Prelude.{◌≡◌};
-ghost use Rattle.spec.specs.Answer.{gives, refuses};
+ghost use Rattle.std.specs.Prelude.{◌≡◌, ℕ, Err};
+ghost use Rattle.spec.specs.Answer.{Answer, gives, refuses};
 ghost use Rattle.spec.specs.Values.{as_numbers};
 ghost use Rattle.spec.specs.Energy.{as_energy};
 ghost use Rattle.lines.specs.Agree.{refused_as};
-ghost use Rattle.net.specs.NetArrays.{net_refusal, answer_of as net_answer};
+ghost use Rattle.net.specs.NetArrays.{net_refusal};
 ghost use Rattle.record_columns.specs.Enters.{record_refusal};
 ghost use Rattle.steps.specs.Judged.{step_refused};
 ghost use Rattle.log_steps.specs.RunArrays.{log_refused};
-ghost use Rattle.building.specs.Answers.{build_answer};
+ghost use Rattle.building.specs.Answers.{build_refused};
 ghost use Rattle.accepting.specs.Accepting.{refused_by};
 ghost use Rattle.checking.specs.Checking.{check_of};
-ghost use Rattle.arrangement_reader.specs.Arrangement.{answer_of as arrangement_answer};
+ghost use Rattle.arrangement_reader.specs.Arrangement.{arrangement_refusal};
 ghost use Rattle.replaying.specs.Replaying.{replay_of};
 ghost use Rattle.arranging.specs.Answers.{answer_of as arrange_answer};
 ghost use Rattle.energy_reader.specs.Reads.{refusal_of as figures_refusal};
 ghost use Rattle.energy.specs.Answers.{energy_of};
 ghost use Rattle.refused_lines.specs.Shown.{answer_of as line_answer};
+ghost use Rattle.answer_numbers.specs.Answered.{answered};
 
 use accepting::Refusal;
-use arrangement_reader::ArrangementAnswer;
-use arranging::ArrangeAnswer;
-use building::BuildAnswer;
-use checking::CheckAnswer;
-use energy::EnergyAnswer;
+use arrangement_reader::ArrangementRefusal;
+use arranging::{ArrangeRefusal, Arranged};
+use building::BuildRefusal;
+use checking::{CheckRefusal, Checked};
+use energy::EnergiesRefusal;
 use energy_reader::EnergyRefusal;
 use log_steps::LogRefusal;
-use net::{NetAnswer, NetRefusal};
+use net::{NetRefusal, NetSize};
 use record_columns::RecordRefusal;
-use refused_lines::LineAnswer;
-use replaying::ReplayAnswer;
-use spec::{EnergyNumbers, Numbers};
+use refused_lines::{LinePart, NoSuchLine};
+use replaying::ReplayRefusal;
+use spec::{Energies, EnergyNumbers, Numbers};
 use steps::StepRefusal;
+
+// ---- what an accepted call returns
+
+pub trait Returns {
+    // At most three values.
+    ghost values: { Self → ℕ × ℕ × ℕ };
+
+    fn returned(self) -> Numbers
+        ensures { result ≡ as_numbers (gives (values self)) };
+}
 
 fn accepted(a: usize, b: usize, c: usize) -> Numbers
     ensures { result ≡ as_numbers (gives (a, b, c)) }
@@ -45,6 +56,61 @@ fn accepted(a: usize, b: usize, c: usize) -> Numbers
         b: b as u64,
         c: c as u64,
     }
+}
+
+// Reading a net: places and transitions.
+impl Returns for NetSize {
+    ghost values = { λ n. (n.places, n.transitions, 0) };
+
+    fn returned(self) -> Numbers {
+        accepted(self.places, self.transitions, 0)
+    }
+}
+
+// Building: bytes written, and so with the program; replaying: lines played.
+impl Returns for usize {
+    ghost values = { λ n. (n, 0, 0) };
+
+    fn returned(self) -> Numbers {
+        accepted(self, 0, 0)
+    }
+}
+
+// The check: events, conditions and independent pairs.
+impl Returns for Checked {
+    ghost values = { λ c. (c.events, c.conditions, c.independent) };
+
+    fn returned(self) -> Numbers {
+        accepted(self.events, self.conditions, self.independent)
+    }
+}
+
+// Arranging: bytes written and lines.
+impl Returns for Arranged {
+    ghost values = { λ a. (a.bytes, a.lines, 0) };
+
+    fn returned(self) -> Numbers {
+        accepted(self.bytes, self.lines, 0)
+    }
+}
+
+// The refused line: where it starts, and its length.
+impl Returns for LinePart {
+    ghost values = { λ p. (p.start, p.length, 0) };
+
+    fn returned(self) -> Numbers {
+        accepted(self.start, self.length, 0)
+    }
+}
+
+// ---- what a call is refused for
+
+pub trait Refuses {
+    // The definitions' refusal, with its number and spot.
+    ghost refusal: { Self → Answer (ℕ × ℕ × ℕ) };
+
+    fn refused(self) -> Numbers
+        ensures { result ≡ as_numbers (refusal self) };
 }
 
 fn refused(number: u64, spot: usize) -> Numbers
@@ -60,147 +126,176 @@ fn refused(number: u64, spot: usize) -> Numbers
 }
 
 // What a net is refused for, by every operation.
-fn of_net_refusal(x: NetRefusal) -> Numbers
-    ensures { result ≡ as_numbers (refused_as (net_refusal x)) }
-{
-    match x {
-        NetRefusal::Malformed(k) => refused(11, k),
-        NetRefusal::LimitPassed(k) => refused(12, k),
-        NetRefusal::Undeclared(k) => refused(13, k),
-        NetRefusal::WeightOutside(k) => refused(54, k),
-        NetRefusal::ArcRepeated(k) => refused(14, k),
-        NetRefusal::ReadAndConsumed(k) => refused(51, k),
-        NetRefusal::Lacking(t) => refused(15, t),
-    }
-}
+impl Refuses for NetRefusal {
+    ghost refusal = { λ x. refused_as (net_refusal x) };
 
-// Reading a net: places and transitions.
-pub fn of_net(x: NetAnswer) -> Numbers
-    ensures { result ≡ as_numbers (net_answer x) }
-{
-    match x {
-        NetAnswer::Accepted(p, t) => accepted(p, t, 0),
-        NetAnswer::Refused(y) => of_net_refusal(y),
+    fn refused(self) -> Numbers {
+        match self {
+            NetRefusal::Malformed(k) => refused(11, k),
+            NetRefusal::LimitPassed(k) => refused(12, k),
+            NetRefusal::Undeclared(k) => refused(13, k),
+            NetRefusal::WeightOutside(k) => refused(54, k),
+            NetRefusal::ArcRepeated(k) => refused(14, k),
+            NetRefusal::ReadAndConsumed(k) => refused(51, k),
+            NetRefusal::Lacking(t) => refused(15, t),
+        }
     }
 }
 
 // What a line of a log is refused for as a step.
-pub fn of_step(x: StepRefusal) -> Numbers
-    ensures { result ≡ as_numbers (step_refused x) }
-{
-    match x {
-        StepRefusal::Malformed(k) => refused(21, k),
-        StepRefusal::UnknownTransition(k) => refused(22, k),
-        StepRefusal::OverEvents(k) => refused(23, k),
-        StepRefusal::TooFewTokens(k) => refused(24, k),
-        StepRefusal::Inhibited(k) => refused(25, k),
+impl Refuses for StepRefusal {
+    ghost refusal = { λ x. step_refused x };
+
+    fn refused(self) -> Numbers {
+        match self {
+            StepRefusal::Malformed(k) => refused(21, k),
+            StepRefusal::UnknownTransition(k) => refused(22, k),
+            StepRefusal::OverEvents(k) => refused(23, k),
+            StepRefusal::TooFewTokens(k) => refused(24, k),
+            StepRefusal::Inhibited(k) => refused(25, k),
+        }
     }
 }
 
 // What a log is refused for.
-fn of_log(x: LogRefusal) -> Numbers
-    ensures { result ≡ as_numbers (log_refused x) }
-{
-    match x {
-        LogRefusal::Step(y) => of_step(y),
-        LogRefusal::OverConditions(k) => refused(26, k),
-        LogRefusal::OverMarks(k) => refused(27, k),
+impl Refuses for LogRefusal {
+    ghost refusal = { λ x. log_refused x };
+
+    fn refused(self) -> Numbers {
+        match self {
+            LogRefusal::Step(y) => y.refused(),
+            LogRefusal::OverConditions(k) => refused(26, k),
+            LogRefusal::OverMarks(k) => refused(27, k),
+        }
     }
 }
 
-// Building: bytes written.
-pub fn of_build(x: BuildAnswer) -> Numbers
-    ensures { result ≡ as_numbers (build_answer x) }
-{
-    match x {
-        BuildAnswer::Written(n) => accepted(n, 0, 0),
-        BuildAnswer::BufferShort => refused(20, 0),
-        BuildAnswer::Net(y) => of_net_refusal(y),
-        BuildAnswer::Log(y) => of_log(y),
+// What building refuses.
+impl Refuses for BuildRefusal {
+    ghost refusal = { λ x. build_refused x };
+
+    fn refused(self) -> Numbers {
+        match self {
+            BuildRefusal::BufferShort => refused(20, 0),
+            BuildRefusal::Net(y) => y.refused(),
+            BuildRefusal::Log(y) => y.refused(),
+        }
     }
 }
 
 // What a record is refused for.
-fn of_record_refusal(x: RecordRefusal) -> Numbers
-    ensures { result ≡ as_numbers (refused_as (record_refusal x)) }
-{
-    match x {
-        RecordRefusal::Malformed(k) => refused(31, k),
-        RecordRefusal::LimitPassed(k) => refused(32, k),
-        RecordRefusal::Undeclared(k) => refused(33, k),
-        RecordRefusal::MarkedAlready(k) => refused(34, k),
-        RecordRefusal::WrongInitial(p) => refused(35, p),
-        RecordRefusal::WrongArcs(e) => refused(36, e),
-        RecordRefusal::WrongMarks(e) => refused(37, e),
-        RecordRefusal::WrongKind(e) => refused(38, e),
-        RecordRefusal::BeforeItself(e) => refused(39, e),
+impl Refuses for RecordRefusal {
+    ghost refusal = { λ x. refused_as (record_refusal x) };
+
+    fn refused(self) -> Numbers {
+        match self {
+            RecordRefusal::Malformed(k) => refused(31, k),
+            RecordRefusal::LimitPassed(k) => refused(32, k),
+            RecordRefusal::Undeclared(k) => refused(33, k),
+            RecordRefusal::MarkedAlready(k) => refused(34, k),
+            RecordRefusal::WrongInitial(p) => refused(35, p),
+            RecordRefusal::WrongArcs(e) => refused(36, e),
+            RecordRefusal::WrongMarks(e) => refused(37, e),
+            RecordRefusal::WrongKind(e) => refused(38, e),
+            RecordRefusal::BeforeItself(e) => refused(39, e),
+        }
     }
 }
 
 // What a net or a record is refused for, by the check, by replaying, by arranging and by the energies.
-fn of_refusal(x: Refusal) -> Numbers
-    ensures { result ≡ as_numbers (refused_by x) }
-{
-    match x {
-        Refusal::Net(y) => of_net_refusal(y),
-        Refusal::Record(y) => of_record_refusal(y),
+impl Refuses for Refusal {
+    ghost refusal = { λ x. refused_by x };
+
+    fn refused(self) -> Numbers {
+        match self {
+            Refusal::Net(y) => y.refused(),
+            Refusal::Record(y) => y.refused(),
+        }
     }
 }
 
-// The check: events, conditions and independent pairs.
-pub fn of_check(x: CheckAnswer) -> Numbers
-    ensures { result ≡ as_numbers (check_of x) }
-{
-    match x {
-        CheckAnswer::Checked(n, m, k) => accepted(n, m, k),
-        CheckAnswer::BufferShort => refused(30, 0),
-        CheckAnswer::Refused(y) => of_refusal(y),
+// What the check refuses.
+impl Refuses for CheckRefusal {
+    ghost refusal = { λ x. check_of (Err x) };
+
+    fn refused(self) -> Numbers {
+        match self {
+            CheckRefusal::BufferShort => refused(30, 0),
+            CheckRefusal::Refused(y) => y.refused(),
+        }
     }
 }
 
-// The lines of an arrangement: how many were played.
-fn of_lines(x: ArrangementAnswer) -> Numbers
-    ensures { result ≡ as_numbers (arrangement_answer x) }
-{
-    match x {
-        ArrangementAnswer::Keeps(n) => accepted(n, 0, 0),
-        ArrangementAnswer::Malformed(k) => refused(41, k),
-        ArrangementAnswer::Unknown(k) => refused(42, k),
-        ArrangementAnswer::Repeated(k) => refused(43, k),
-        ArrangementAnswer::Broken(k) => refused(44, k),
-        ArrangementAnswer::Missing(e) => refused(45, e),
+// What an arrangement is refused for.
+impl Refuses for ArrangementRefusal {
+    ghost refusal = { λ x. refused_as (arrangement_refusal x) };
+
+    fn refused(self) -> Numbers {
+        match self {
+            ArrangementRefusal::Malformed(k) => refused(41, k),
+            ArrangementRefusal::Unknown(k) => refused(42, k),
+            ArrangementRefusal::Repeated(k) => refused(43, k),
+            ArrangementRefusal::Broken(k) => refused(44, k),
+            ArrangementRefusal::Missing(e) => refused(45, e),
+        }
     }
 }
 
-// Replaying: lines played.
-pub fn of_replay(x: ReplayAnswer) -> Numbers
-    ensures { result ≡ as_numbers (replay_of x) }
-{
-    match x {
-        ReplayAnswer::BufferShort => refused(40, 0),
-        ReplayAnswer::Refused(y) => of_refusal(y),
-        ReplayAnswer::Lines(y) => of_lines(y),
+// What replaying refuses.
+impl Refuses for ReplayRefusal {
+    ghost refusal = { λ x. replay_of (Err x) };
+
+    fn refused(self) -> Numbers {
+        match self {
+            ReplayRefusal::BufferShort => refused(40, 0),
+            ReplayRefusal::Refused(y) => y.refused(),
+            ReplayRefusal::Lines(y) => y.refused(),
+        }
     }
 }
 
-// Arranging: bytes written and lines.
-pub fn of_arrange(x: ArrangeAnswer) -> Numbers
-    ensures { result ≡ as_numbers (arrange_answer x) }
-{
-    match x {
-        ArrangeAnswer::Arranged(bytes, lines) => accepted(bytes, lines, 0),
-        ArrangeAnswer::BufferShort => refused(50, 0),
-        ArrangeAnswer::Refused(y) => of_refusal(y),
+// What arranging refuses.
+impl Refuses for ArrangeRefusal {
+    ghost refusal = { λ x. arrange_answer (Err x) };
+
+    fn refused(self) -> Numbers {
+        match self {
+            ArrangeRefusal::BufferShort => refused(50, 0),
+            ArrangeRefusal::Refused(y) => y.refused(),
+        }
     }
 }
 
 // What an energy text is refused for.
-fn of_figures(x: EnergyRefusal) -> Numbers
-    ensures { result ≡ as_numbers (refused_as (figures_refusal x)) }
+impl Refuses for EnergyRefusal {
+    ghost refusal = { λ x. refused_as (figures_refusal x) };
+
+    fn refused(self) -> Numbers {
+        match self {
+            EnergyRefusal::WrongLine(k) => refused(52, k),
+            EnergyRefusal::LineCount => refused(53, 0),
+        }
+    }
+}
+
+// There is no such line.
+impl Refuses for NoSuchLine {
+    ghost refusal = { λ x. line_answer (Err x) };
+
+    fn refused(self) -> Numbers {
+        refused(46, self.0)
+    }
+}
+
+// ---- answers
+
+// The numbers of an answer: the values of what is returned, or the number and spot of what it is refused for.
+pub fn numbers_of<T: Returns, E: Refuses>(answer: Result<T, E>) -> Numbers
+    ensures { result ≡ as_numbers (answered T.values E.refusal answer) }
 {
-    match x {
-        EnergyRefusal::WrongLine(k) => refused(52, k),
-        EnergyRefusal::LineCount => refused(53, 0),
+    match answer {
+        Ok(value) => value.returned(),
+        Err(why) => why.refused(),
     }
 }
 
@@ -218,35 +313,18 @@ fn without_energies(n: Numbers) -> EnergyNumbers
 }
 
 // The energies: usable, draw and what is left.
-pub fn of_energy(x: EnergyAnswer) -> EnergyNumbers
-    ensures { result ≡ as_energy (energy_of x) }
+pub fn energies_of(answer: Result<Energies, EnergiesRefusal>) -> EnergyNumbers
+    ensures { result ≡ as_energy (energy_of answer) }
 {
-    match x {
-        EnergyAnswer::Given(e) => EnergyNumbers {
+    match answer {
+        Ok(e) => EnergyNumbers {
             number: 0,
             spot: 0,
             usable: e.usable,
             draw: e.draw,
             left: e.left,
         },
-        EnergyAnswer::Refused(y) => without_energies(of_refusal(y)),
-        EnergyAnswer::Text(y) => without_energies(of_figures(y)),
+        Err(EnergiesRefusal::Refused(y)) => without_energies(y.refused()),
+        Err(EnergiesRefusal::Text(y)) => without_energies(y.refused()),
     }
-}
-
-// The refused line: where it starts, and its length.
-pub fn of_line(x: LineAnswer) -> Numbers
-    ensures { result ≡ as_numbers (line_answer x) }
-{
-    match x {
-        LineAnswer::Shown(start, length) => accepted(start, length, 0),
-        LineAnswer::NoSuchLine(k) => refused(46, k),
-    }
-}
-
-// The program: bytes written, also of an `X` line.
-pub fn of_program(bytes: usize) -> Numbers
-    ensures { result ≡ as_numbers (gives (bytes, 0, 0)) }
-{
-    accepted(bytes, 0, 0)
 }

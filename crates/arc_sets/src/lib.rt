@@ -3,15 +3,13 @@
 // (02, 2026-06). So a step walks the arcs that are there, and not every place.
 #![tactic(auto)]
 
-ghost use Rattle.std.specs.Prelude.{◌≡◌, ◌+◌, ◌-◌, ◌*◌, ◌%◌, ◌^◌, ◌≤◌, ◌<◌, get_or, replicate};
-ghost use Rattle.std.specs.Int.Bits.{bit_or};
-ghost use Rattle.std.specs.Int.Count.{count_trailing_zeros};
+ghost use Rattle.std.specs.Prelude.{◌≡◌, ◌+◌, ◌-◌, ◌*◌, ◌%◌, ◌≤◌, ◌<◌, get_or, replicate};
 ghost use Rattle.spec.specs.Lists.{sum_of, up_to};
 ghost use Rattle.bit_sets.specs.Bits.{bit};
 ghost use Rattle.arc_sets.specs.Sets.{set_count, row_count, more_at, RowSet, Puttable, RowPut, SetsOf};
 ghost use Rattle.net.specs.NetArrays.{row_size, arc_count};
 
-use machine_numbers::wide_word;
+use bit_sets::members;
 use net::{ARCS, ROW};
 
 // All words: the sets of all kinds, by transition, and behind them the weights.
@@ -29,18 +27,11 @@ pub const READ: usize = 96;
 // more than 1.
 pub const WEIGHTS: usize = 128;
 
-// The lowest bit that is set.
-pub fn lowest(bits: u64) -> usize
-    ensures { result ≡ count_trailing_zeros 64 bits }
-{
-    wide_word(u64::trailing_zeros(bits))
-}
-
 // How many places a set has.
 pub fn size(set: u64) -> usize
     ensures { (result ≡ sum_of (bit set) (up_to 64)) × (result ≤ 64) }
 {
-    wide_word(u64::count_ones(set))
+    set.count_ones() as usize
 }
 
 // The set of the row that stands at `at`.
@@ -61,27 +52,16 @@ pub fn weight(sets: &[u64; SETS], row: usize, p: usize) -> usize
     1 + digit as usize
 }
 
-// A set with place p, if the row has something there.
-fn entered(set: u64, cell: u8, p: usize) -> u64
-    requires { p < 64 }
-    ensures { (0 < cell → result ≡ bit_or set ((1 * 2 ^ p) % 2 ^ 64)) × (cell ≤ 0 → result ≡ set) }
-{
-    if 0 < cell {
-        return set | (1 << p);
-    }
-    set
-}
-
 // The places of a row of arcs, among the first m.
 fn set_of(arcs: &[u8; ARCS], row: usize, m: usize) -> u64
     requires { (row + row_size ≤ arc_count) × (m ≤ 32) }
     ensures { RowSet arcs.now row m result }
 {
     let mut set: u64 = 0;
-    let mut p: usize = 0;
-    while p < m {
-        set = entered(set, arcs[row + p], p);
-        p += 1;
+    for p in 0..m {
+        if 0 < arcs[row + p] {
+            set |= 1 << p;
+        }
     }
     set
 }
@@ -91,7 +71,7 @@ fn more(cell: u8) -> u64
     requires { 0 < cell }
     ensures { result ≡ (cell - 1) % 16 }
 {
-    ((cell - 1) % 16) as u64
+    u64::from((cell - 1) % 16)
 }
 
 // A row of arcs, among the first m places: its set, and the weights of the places that are in it. A weight of 1 is there
@@ -103,15 +83,12 @@ fn put_row(sets: &mut [u64; SETS], arcs: &[u8; ARCS], row: usize, m: usize)
     let first = ROW * row;
     let set = set_of(arcs, first, m);
     sets[row] = set;
-    let mut bits = set;
-    while bits != 0 {
-        let p = lowest(bits);
+    for p in members(set) {
         let extra = more(arcs[first + p]);
         if extra != 0 {
             let i = WEIGHTS + 2 * row + p / 16;
             sets[i] = sets[i] | (extra << (4 * (p % 16)));
         }
-        bits = bits & (bits ^ (1 << p));
     }
 }
 
@@ -120,12 +97,10 @@ pub fn put_sets(sets: &mut [u64; SETS], arcs: &[u8; ARCS], m: usize, n: usize)
     requires { (m ≤ 32) × (n ≤ 32) × (sets.old ≡ replicate set_count 0) }
     ensures { SetsOf arcs.now m n sets.new }
 {
-    let mut t: usize = 0;
-    while t < n {
+    for t in 0..n {
         put_row(sets, arcs, t, m);
         put_row(sets, arcs, MADE + t, m);
         put_row(sets, arcs, GUARDS + t, m);
         put_row(sets, arcs, READ + t, m);
-        t += 1;
     }
 }

@@ -1,5 +1,5 @@
 -- What the rows say of late predecessors, from the last line to the first, is what the definitions say.
-use Prim.Native.Nat.{ℕ, zero, suc, ◌+◌, ◌-◌, ◌≤◌, ◌<◌, min, max}
+use Prim.Native.Nat.{ℕ, suc, ◌+◌, ◌-◌, ◌≤◌, ◌<◌, min, max}
 use mathlib.Core.Path.{◌≡◌, refl, sym, ap, ◌∙◌, subst}
 use mathlib.Core.Logic.{◌≢◌, ◌⊎◌, inl, inr}
 use mathlib.Core.Bool.{Bool, true, false, not, ◌&&◌, cond}
@@ -8,34 +8,33 @@ use mathlib.Core.List.{List, [], ◌∷◌, ◌++◌}
 use native.Mathlib.Decide.{ℕ_discrete}
 use native.Mathlib.Omega.{arith}
 use lib.Dec.{ltb}
-use lib.Seq.{take-suc, take-length, drop-cons, drop-length, get_or-take, get_or-drop}
-use borrow.Author.Tests.{lt-ltb, le-leb, ltb-true, ltb-false, leb-true}
-use lib.ListN.{length, get_or, take, drop, length-drop}
+use lib.Seq.{take-length, drop-cons, drop-length, get_or-take, get_or-drop}
+use borrow.Author.Tests.{lt-ltb, le-leb, ltb-true, leb-true}
+use lib.ListN.{length, get_or, take, drop, length-take}
 use Rattle.spec.specs.Lists.{In, any, up_to, is_in, flat}
 use Rattle.spec.specs.Record.{RunRecord}
 use Rattle.spec.specs.Order.{is_strictly_before, is_not_later}
 use Rattle.spec.specs.Replaying.{repeats, late, breaks}
-use Rattle.bit_sets.specs.Sets.{has, has-most, First}
+use Rattle.bit_sets.specs.Sets.{has, has-most, Picked}
+use Rattle.std.proofs.Common.{Option, Some, None, is_some, IfSome}
 use Rattle.bit_sets.specs.declared.Set.{Set}
 use Rattle.reach.specs.declared.Row.{Row}
 use Rattle.reach.specs.Rows.{cell_of, Good, Sub, row_of, value_of}
+use Rattle.lists.specs.Along.{take_more}
 use Rattle.lists.specs.Laws.{here, at_in, flat-take-suc, in-up_to, up_to-in, true-or-false, true-or-l, true-or-r, true-and, and-true, or-true, not-is-true, clash, same_tests, any-in, any_found}
-use Rattle.arrangement_reader.specs.Lined.{EventsIn, TellsOrder, Taken, IsSet, Meets, Unites, path_of, strict_of, Lacks, WithLacking, Grouped, broken_from}
+use Rattle.arrangement_reader.specs.Lined.{AllEvents, EventsIn, TellsOrder, Taken, IsSet, Meets, Unites, path_of, strict_of, Lacks, WithLacking, Grouped, or_zero, FindsBroken, broken_from}
 use Rattle.arrangement_reader.specs.declared.Group.{Group}
 use Rattle.arrangement_reader.proofs.Distinct.{member-in, in-member, repeats-apart, distinct-few}
 use Rattle.arrangement_reader.proofs.Ordering.{end-next, end-most, parted, line-out}
 
 -- ---- sets of events, and unions of their sets
 
-pub meets-is : (a b m : Set) (r : ℕ) → ((f : ℕ) → has m f ≡ min (has a f) (has b f)) → First m r → Meets a b (ltb r 128)
-meets-is a b m r h (inl x) = record {
+pub meets-is : (a b m : Set) (r : Option ℕ) → ((f : ℕ) → has m f ≡ min (has a f) (has b f)) → Picked m r → Meets a b (is_some r)
+meets-is a b m (Some r) h x = record {
   both = λ _. (r, omega (arith, h r, x.1, has-most a r), omega (arith, h r, x.1, has-most b r));
-  none = λ z. absurd (omega (arith, ltb-false r 128 z, x.0));
+  none = λ z. cc;
 }
-meets-is a b m r h (inr x) = record {
-  both = λ z. absurd (omega (arith, ltb-true r 128 z, x.0));
-  none = λ _ f l y. omega (arith, h f, x.1 f l, y);
-}
+meets-is a b m None h x = record { both = λ z. cc; none = λ _ f l y. omega (arith, h f, x f l, y) }
 
 set-none : {s : Set} → ((f : ℕ) → has s f ≡ 0) → IsSet [] s
 set-none h = record { low = λ e m. absurd (Memᴰ.not-nil m); has_all = λ e m. absurd (Memᴰ.not-nil m); no_more = λ e q. absurd (omega (arith, h e)) }
@@ -77,13 +76,12 @@ unites-one {sets} d {s} e = record { some = λ f q. (d, refl, rw (← e) q); all
 
 -- ---- the events of a line
 
-pub grouped-none : (t lined : List ℕ) (from : ℕ) {a b c : Set} → ((f : ℕ) → has a f ≡ 0) → ((f : ℕ) → has b f ≡ 0) → ((f : ℕ) → has c f ≡ 0)
-    → Grouped t (take (from - from) (drop from lined)) (record { line = a; path = b; strict = c })
-grouped-none t lined from p q r = let z : from - from ≡ 0 = omega arith in rw z (record {
+pub grouped-none : (t : List ℕ) {a b c : Set} → ((f : ℕ) → has a f ≡ 0) → ((f : ℕ) → has b f ≡ 0) → ((f : ℕ) → has c f ≡ 0) → Grouped t [] (record { line = a; path = b; strict = c })
+grouped-none t p q r = record {
   line = set-none p;
   path = unites-none q (λ d m. absurd (Memᴰ.not-nil m));
   strict = unites-none r (λ d m. absurd (Memᴰ.not-nil m));
-})
+}
 
 in-more : (sets : ℕ → Set) (es : List ℕ) (e : ℕ) (s o : Set) {r : Set} → o ≡ sets e → ((f : ℕ) → has r f ≡ max (has s f) (has o f)) → Unites sets (λ d. In d es) s → Unites sets (λ d. In d (es ++ e ∷ [])) r
 in-more sets es e s o q U u = unites-same
@@ -91,20 +89,14 @@ in-more sets es e s o q U u = unites-same
     (λ d m. elim (Memᴰ.append_cases es m) [ inl a ↦ inl a | inr a ↦ inr (Memᴰ.eq_of_singleton a) ])
     (unites-join U u (unites-one e q))
 
-pub grouped-more : (t lined : List ℕ) (from i e : ℕ) {row : Row} (o : Set) {a b c a' b' c' : Set} → from ≤ i → i < length lined → e ≡ get_or lined i 0 → e < 128 → row ≡ row_of t e → (has o e ≡ 1) × ((g : ℕ) → g ≢ e → has o g ≡ 0)
+pub grouped-more : (t es : List ℕ) (i e : ℕ) {row : Row} (o : Set) {a b c a' b' c' : Set} → i < length es → e ≡ get_or es i 0 → e < 128 → row ≡ row_of t e → (has o e ≡ 1) × ((g : ℕ) → g ≢ e → has o g ≡ 0)
     → ((f : ℕ) → has a' f ≡ max (has a f) (has o f)) → ((f : ℕ) → has b' f ≡ max (has b f) (has row.path f)) → ((f : ℕ) → has c' f ≡ max (has c f) (has row.strict f))
-    → Grouped t (take (i - from) (drop from lined)) (record { line = a; path = b; strict = c }) → Grouped t (take (i + 1 - from) (drop from lined)) (record { line = a'; path = b'; strict = c' })
-grouped-more t lined from i e {row} o {b = b} {c = c} h l q small x O p u v g = rw one_more (record {
+    → Grouped t (take i es) (record { line = a; path = b; strict = c }) → Grouped t (take (i + 1) es) (record { line = a'; path = b'; strict = c' })
+grouped-more t es i e {row} o {b = b} {c = c} l q small x O p u v g = rw (take_more 0 es i l, ← q) (record {
   line = set_more e o small O p g.line;
   path = in-more (path_of t) _ e b row.path (ap (λ (z : Row). z.path) x) u g.path;
   strict = in-more (strict_of t) _ e c row.strict (ap (λ (z : Row). z.strict) x) v g.strict;
 })
-  where
-    one_more : take (i + 1 - from) (drop from lined) ≡ take (i - from) (drop from lined) ++ e ∷ []
-    one_more =
-        let y : i + 1 - from ≡ suc (i - from) = omega arith in
-        let w : from + (i - from) ≡ i = omega arith in
-        rw (y, q) (take-suc (drop from lined) (i - from) 0 (omega (arith, length-drop from lined)) ∙ ap (λ (z : ℕ). take (i - from) (drop from lined) ++ z ∷ []) (get_or-drop from lined (i - from) 0 ∙ ap (λ (z : ℕ). get_or lined z 0) w))
 
 -- ---- the events without a line
 
@@ -126,12 +118,6 @@ module _ (t xs : List ℕ) (m : ℕ) where
         (λ y p. elim (ℕ_discrete y d) [ yes z ↦ inr z | no z ↦ inl (omega arith, p.1) ])
         (unites-join (w.lacking a) u (unites-one d (ap (λ (z : Row). z.path) e)))
   ]
-
-pub lacking-end : (t xs : List ℕ) (m : ℕ) (d n : ℕ) {s : Set} → d ≡ n → Unites (path_of t) (Lacks d m xs) s → Unites (path_of t) (Lacks n m xs) s
-lacking-end t xs m d n {s} e u = subst (λ (z : ℕ). Unites (path_of t) (Lacks z m xs) s) e u
-
-pub grouped-end : (t lined : List ℕ) (from i to : ℕ) {g : Group} → i ≡ to → Grouped t (take (i - from) (drop from lined)) g → Grouped t (take (to - from) (drop from lined)) g
-grouped-end t lined from i to {g} e h = subst (λ (z : ℕ). Grouped t (take (z - from) (drop from lined)) g) e h
 
 -- ---- a line that breaks the order
 
@@ -208,13 +194,15 @@ unfolding broken_from
 first-line R k done g gs = refl
 
 -- behind the first k lines: the first of the others that breaks the order, and what an event in none of the k is not later than
-pub record Behind (n m : ℕ) (t xs lined : List ℕ) (k r : ℕ) (s : Set) : Type 0 where
-  pub broken : (R : RunRecord) (gs : List (List ℕ)) → TellsOrder n t R → Taken n m xs lined gs → r ≡ broken_from R (suc k) (flat (take k gs)) (drop k gs)
+pub record Behind (n m : ℕ) (t xs lined : List ℕ) (k : ℕ) (r : Option ℕ) (s : Set) : Type 0 where
+  pub some : IfSome r (λ j. 0 < j)
+  pub broken : (R : RunRecord) (gs : List (List ℕ)) → TellsOrder n t R → Taken n m xs lined gs → or_zero r ≡ broken_from R (suc k) (flat (take k gs)) (drop k gs)
   pub late : (gs : List (List ℕ)) → Taken n m xs lined gs → Unites (path_of t) (λ d. (d < n) × (is_in d (flat (take k gs)) ≡ false)) s
 
-pub behind-all : {n m : ℕ} {t xs lined : List ℕ} {s : Set} → n ≤ 128 → Unites (path_of t) (Lacks n m xs) s → Behind n m t xs lined m 0 s
+pub behind-all : {n m : ℕ} {t xs lined : List ℕ} {s : Set} → n ≤ 128 → Unites (path_of t) (Lacks n m xs) s → Behind n m t xs lined m None s
 unfolding broken_from
 behind-all {n} {m} {t} {xs} few u = record {
+  some = tt;
   broken = λ R gs o T. rw (T.lines, drop-length gs);
   late = λ gs T. let e : take m gs ≡ gs = ap (λ (j : ℕ). take j gs) T.lines ∙ take-length gs in
       unites-same (λ d p. (p.0, rw e (T.earlier d (omega arith) ∙ p.1))) (λ d p. (p.0, sym (T.earlier d (omega arith)) ∙ rw e at p.1)) u;
@@ -239,14 +227,12 @@ module _ {n m : ℕ} {xs lined : List ℕ} {gs : List (List ℕ)} (T : Taken n m
   lines-most few = omega (arith, T.lines, T.full, distinct-few n (flat gs) T.known T.once)
 
   -- where line k starts and ends, and its events
-  pub line-ends : {k from to : ℕ} → n ≤ 128 → 0 < k → k ≤ m → from ≡ get_or lined (127 + k) 0 → to ≡ get_or lined (128 + k) 0
+  pub line-ends : {j from to : ℕ} → n ≤ 128 → j < m → from ≡ get_or lined (128 + j) 0 → to ≡ get_or lined (128 + j + 1) 0
       → EventsIn lined from to
-  line-ends {k} {from} {to} few some most p q =
-      let j : ℕ = k - 1 in
-      let a : 127 + k ≡ 128 + j = omega arith in
-      let b : k ≡ suc j = omega arith in
-      let x : from ≡ length (flat (take j gs)) = p ∙ ap (λ (z : ℕ). get_or lined z 0) a ∙ T.ordered.ends j (omega (arith, T.lines)) in
-      let y : to ≡ length (flat (take (suc j) gs)) = q ∙ T.ordered.ends k (omega (arith, T.lines)) ∙ ap (λ (z : ℕ). length (flat (take z gs))) b in
+  line-ends {j} {from} {to} few some p q =
+      let a : 128 + j + 1 ≡ 128 + suc j = omega arith in
+      let x : from ≡ length (flat (take j gs)) = p ∙ T.ordered.ends j (omega (arith, T.lines)) in
+      let y : to ≡ length (flat (take (suc j) gs)) = q ∙ ap (λ (z : ℕ). get_or lined z 0) a ∙ T.ordered.ends (suc j) (omega (arith, T.lines)) in
       let l : length (flat gs) ≤ n = distinct-few n (flat gs) T.known T.once in
       record {
         order = omega (arith, end-next T.ordered j (omega (arith, T.lines)));
@@ -256,11 +242,26 @@ module _ {n m : ℕ} {xs lined : List ℕ} {gs : List (List ℕ)} (T : Taken n m
             omega (arith, sym (get_or-take (length (flat gs)) lined i 0 u) ∙ ap (λ (z : List ℕ). get_or z i 0) T.ordered.events, T.known _ (at_in 0 (flat gs) i u));
       }
 
-pub behind_more : {n m : ℕ} {t xs lined : List ℕ} (j : ℕ) {r r' from to : ℕ} {late late' u : Set} {g : Group} {b : Bool} → n ≤ 128 → Good t → j < m → from ≡ get_or lined (128 + j) 0 → to ≡ get_or lined (128 + suc j) 0
-    → Grouped t (take (to - from) (drop from lined)) g → ((f : ℕ) → has u f ≡ max (has late f) (has g.strict f)) → Meets u g.line b → r' ≡ cond b (suc j) r
-    → ((f : ℕ) → has late' f ≡ max (has late f) (has g.path f)) → Behind n m t xs lined (suc j) r late → Behind n m t xs lined j r' late'
-behind_more {n} {m} {t} {xs} {lined} j {r} {from} {to} {late} {g = g} {b = b} few good h p q G U M c W B = record {
-  broken = λ R gs o T. c ∙ go R gs T (breaks-is R few good o (flat (take j gs)) (get_or gs j []) (line_known T j h) (line-apart T j h) (group gs T).line (group gs T).strict (rest gs T) U M) (B.broken R gs o T);
+-- those that stand in a part of the array are events
+pub part-events : {lined : List ℕ} {from to : ℕ} → EventsIn lined from to → AllEvents (take (to - from) (drop from lined))
+part-events {lined} {from} {to} E i h =
+    omega (arith, length-take (to - from) (drop from lined), get_or-take (to - from) (drop from lined) i 0 (omega (arith, length-take (to - from) (drop from lined))), get_or-drop from lined i 0, E.known (from + i) (omega (arith, length-take (to - from) (drop from lined))))
+
+-- line k where it breaks the order, else what was found behind it
+picked-zero : (b : Bool) (k : ℕ) (r : Option ℕ) → or_zero (cond b (Some k) r) ≡ cond b k (or_zero r)
+picked-zero true k r = refl
+picked-zero false k r = refl
+
+picked-some : (b : Bool) (k : ℕ) (r : Option ℕ) → 0 < k → IfSome r (λ j. 0 < j) → IfSome (cond b (Some k) r) (λ j. 0 < j)
+picked-some true k r h u = h
+picked-some false k r h u = u
+
+pub behind_more : {n m : ℕ} {t xs lined : List ℕ} (j : ℕ) {r : Option ℕ} {from to : ℕ} {late late' u : Set} {g : Group} {b : Bool} → n ≤ 128 → Good t → j < m → from ≡ get_or lined (128 + j) 0 → to ≡ get_or lined (128 + j + 1) 0
+    → Grouped t (take (to - from) (drop from lined)) g → ((f : ℕ) → has u f ≡ max (has late f) (has g.strict f)) → Meets u g.line b
+    → ((f : ℕ) → has late' f ≡ max (has late f) (has g.path f)) → Behind n m t xs lined (j + 1) r late → Behind n m t xs lined j (cond b (Some (j + 1)) r) late'
+behind_more {n} {m} {t} {xs} {lined} j {r} {from} {to} {late} {g = g} {b = b} few good h p q G U M W B' = record {
+  some = picked-some b (j + 1) r (omega arith) B.some;
+  broken = λ R gs o T. picked-zero b (j + 1) r ∙ ap (λ (k : ℕ). cond b k (or_zero r)) one ∙ go R gs T (breaks-is R few good o (flat (take j gs)) (get_or gs j []) (line_known T j h) (line-apart T j h) (group gs T).line (group gs T).strict (rest gs T) U M) (B.broken R gs o T);
   late = λ gs T. unites-same
       (λ d z. elim z [ inl a ↦ (a.0, before gs T d a.1) | inr a ↦ (line_known T j h d a, line-apart T j h d a) ])
       (λ d z. elim (true-or-false (is_in d (flat (take j gs) ++ get_or gs j []))) [
@@ -270,11 +271,20 @@ behind_more {n} {m} {t} {xs} {lined} j {r} {from} {to} {late} {g = g} {b = b} fe
       (unites-join W (rest gs T) (group gs T).path);
 }
   where
+    one : j + 1 ≡ suc j
+    one = omega arith
+
+    B : Behind n m t xs lined (suc j) r late
+    B = rw one at B'
+
+    next : 128 + j + 1 ≡ 128 + suc j
+    next = omega arith
+
     within : (gs : List (List ℕ)) → Taken n m xs lined gs → j < length gs
     within gs T = omega (arith, T.lines)
 
     group : (gs : List (List ℕ)) → Taken n m xs lined gs → Grouped t (get_or gs j []) g
-    group gs T = subst (λ (es : List ℕ). Grouped t es g) (line-out T.ordered j from to (within gs T) (p ∙ T.ordered.ends j (omega (arith, within gs T))) (q ∙ T.ordered.ends (suc j) (within gs T))) G
+    group gs T = subst (λ (es : List ℕ). Grouped t es g) (line-out T.ordered j from to (within gs T) (p ∙ T.ordered.ends j (omega (arith, within gs T))) (q ∙ ap (λ (z : ℕ). get_or lined z 0) next ∙ T.ordered.ends (suc j) (within gs T))) G
 
     rest : (gs : List (List ℕ)) → Taken n m xs lined gs → Unites (path_of t) (λ d. (d < n) × (is_in d (flat (take j gs) ++ get_or gs j []) ≡ false)) late
     rest gs T = rw (flat-take-suc gs j (within gs T)) at (B.late gs T)
@@ -285,21 +295,11 @@ behind_more {n} {m} {t} {xs} {lined} j {r} {from} {to} {late} {g = g} {b = b} fe
       | inr a ↦ a
     ]
 
-    go : (R : RunRecord) (gs : List (List ℕ)) → Taken n m xs lined gs → b ≡ breaks R (flat (take j gs)) (get_or gs j []) → r ≡ broken_from R (suc (suc j)) (flat (take (suc j) gs)) (drop (suc j) gs)
-        → cond b (suc j) r ≡ broken_from R (suc j) (flat (take j gs)) (drop j gs)
+    go : (R : RunRecord) (gs : List (List ℕ)) → Taken n m xs lined gs → b ≡ breaks R (flat (take j gs)) (get_or gs j []) → or_zero r ≡ broken_from R (suc (suc j)) (flat (take (suc j) gs)) (drop (suc j) gs)
+        → cond b (suc j) (or_zero r) ≡ broken_from R (suc j) (flat (take j gs)) (drop j gs)
     go R gs T x y = rw (drop-cons gs j [] (within gs T), x, y, flat-take-suc gs j (within gs T)) (first-line R (suc j) (flat (take j gs)) (get_or gs j []) (drop (suc j) gs))
 
--- the same, of line k
-pub behind-before : {n m : ℕ} {t xs lined : List ℕ} {k r r' from to : ℕ} {late late' u : Set} {g : Group} {b : Bool} → n ≤ 128 → Good t → 0 < k → k ≤ m → from ≡ get_or lined (127 + k) 0 → to ≡ get_or lined (128 + k) 0
-    → Grouped t (take (to - from) (drop from lined)) g → ((f : ℕ) → has u f ≡ max (has late f) (has g.strict f)) → Meets u g.line b → r' ≡ cond b k r
-    → ((f : ℕ) → has late' f ≡ max (has late f) (has g.path f)) → Behind n m t xs lined k r late → Behind n m t xs lined (k - 1) r' late'
-behind-before {lined = lined} {k = zero} few good some most p q G U M c W B = absurd (omega arith)
-behind-before {lined = lined} {k = suc j} few good some most p q G U M c W B =
-    let a : 127 + suc j ≡ 128 + j = omega arith in
-    let y : suc j - 1 ≡ j = omega arith in
-    rw y (behind_more j few good (omega arith) (p ∙ ap (λ (z : ℕ). get_or lined z 0) a) q G U M c W B)
-
 -- the whole
-pub behind-none : {n m : ℕ} {t xs lined : List ℕ} {k r : ℕ} {s : Set} → k ≤ 0 → Behind n m t xs lined k r s → (R : RunRecord) (gs : List (List ℕ)) → TellsOrder n t R → Taken n m xs lined gs → r ≡ broken_from R 1 [] gs
+pub behind-none : {n m : ℕ} {t xs lined : List ℕ} {r : Option ℕ} {s : Set} → Behind n m t xs lined 0 r s → FindsBroken n m t xs lined r
 unfolding flat
-behind-none {k = k} h B R gs o T = let z : k ≡ 0 = omega arith in rw z at (B.broken R gs o T)
+behind-none B = record { some = B.some; by = B.broken }

@@ -1,16 +1,14 @@
 -- The lines in an array: a line more, and a line taken out.
 use Prim.Native.Nat.{ℕ, suc, ◌+◌, ◌-◌, ◌≤◌, ◌<◌}
 use mathlib.Core.Path.{◌≡◌, refl, sym, ap, ◌∙◌}
-use mathlib.Core.List.{List, [], ◌∷◌, ◌++◌, append-nil, append_assoc}
-use native.Mathlib.Numerals.{add-one}
+use mathlib.Core.List.{List, [], ◌∷◌, ◌++◌}
 use native.Mathlib.Decide.{ℕ_discrete}
 use native.Mathlib.Omega.{arith}
-use lib.ListN.{length, get_or, take, drop, set, replicate, length-append, length-set, length-replicate, take-append-drop}
-use lib.Seq.{take-suc, take-suc-set, take-append-le, take-append_seam, drop_at, take-add, take-take, take-length, take-set-le, get_or-set_same, get_or-set_other}
+use lib.ListN.{length, get_or, take, drop, replicate, length-append, length-replicate, take-append-drop}
+use lib.Seq.{take-append-le, take-append_seam, drop_at, take-add, take-take, take-length}
 use Rattle.spec.specs.Lists.{flat}
 use Rattle.lists.specs.Laws.{flat-snoc, flat_append, flat-take-suc}
 use Rattle.lists.specs.Arrays.{blank}
-use Rattle.number_lines.specs.Numbers.{Begins}
 use Rattle.arrangement_reader.specs.Lined.{Ordered, AddsLine}
 
 -- ---- a line more
@@ -23,7 +21,7 @@ ordered-none = record { long = length-replicate {A = ℕ} 257 0; events = refl; 
 pub from_is : {gs : List (List ℕ)} {lined : List ℕ} {k : ℕ} → Ordered gs lined → k ≡ length gs + 1 → get_or lined (127 + k) 0 ≡ length (flat gs)
 from_is {gs} {lined} {k} o q = let z : 127 + k ≡ 128 + length gs = omega arith in rw z (o.ends (length gs) (omega arith) ∙ ap (λ (z : List (List ℕ)). length (flat z)) (take-length gs))
 
-module _ {gs : List (List ℕ)} {old events new es : List ℕ} {count k : ℕ} (o : Ordered gs old) (q : k ≡ length gs + 1) (c : count ≡ length es) (b : Begins events es) (a : AddsLine old events count k new) where
+module _ {gs : List (List ℕ)} {old es new : List ℕ} {k : ℕ} (o : Ordered gs old) (q : k ≡ length gs + 1) (a : AddsLine old es k new) where
   start : get_or old (127 + k) 0 ≡ length (flat gs)
   start = from_is o q
 
@@ -31,8 +29,8 @@ module _ {gs : List (List ℕ)} {old events new es : List ℕ} {count k : ℕ} (
   ordered-more = record {
     long = a.long;
     events =
-        let z : length (flat (gs ++ es ∷ [])) ≡ get_or old (127 + k) 0 + count = omega (arith, ap length (flat-snoc gs es), length-append (flat gs) es, start) in
-        ap (λ (j : ℕ). take j new) z ∙ a.behind ∙ rw (start, o.events, c, b.numbers) (sym (flat-snoc gs es));
+        let z : length (flat (gs ++ es ∷ [])) ≡ get_or old (127 + k) 0 + length es = omega (arith, ap length (flat-snoc gs es), length-append (flat gs) es, start) in
+        ap (λ (j : ℕ). take j new) z ∙ a.behind ∙ rw (start, o.events) (sym (flat-snoc gs es));
     ends = λ j h. elim (ℕ_discrete j k) [
       | yes e ↦ rw (e, a.end, start, whole) (omega (arith, ap length (flat-snoc gs es), length-append (flat gs) es))
       | no e ↦ rw (take-append-le j gs (es ∷ []) (omega (arith, length-append gs (es ∷ [])))) (a.other (128 + j) (omega arith) (λ z. e (omega arith)) ∙ o.ends j (omega (arith, length-append gs (es ∷ []))))
@@ -41,38 +39,6 @@ module _ {gs : List (List ℕ)} {old events new es : List ℕ} {count k : ℕ} (
     where
       whole : take k (gs ++ es ∷ []) ≡ gs ++ es ∷ []
       whole = let z : k ≡ length (gs ++ es ∷ []) = omega (arith, length-append gs (es ∷ [])) in ap (λ (j : ℕ). take j (gs ++ es ∷ [])) z ∙ take-length (gs ++ es ∷ [])
-
--- ---- the events of line k, put one after the other
-
-pub record Adding (old events : List ℕ) (from i : ℕ) (new : List ℕ) : Type 0 where
-  pub long : length new ≡ 257
-  pub behind : take (from + i) new ≡ take from old ++ take i events
-  pub other : (j : ℕ) → 128 ≤ j → get_or new j 0 ≡ get_or old j 0
-
-pub adding-none : {old events : List ℕ} {from : ℕ} → length old ≡ 257 → Adding old events from 0 old
-adding-none {old} {events} {from} h = record {
-  long = h;
-  behind = let z : from + 0 ≡ from = omega arith in rw z (sym (append-nil (take from old)));
-  other = λ j l. refl;
-}
-
-pub adding-more : {old events new : List ℕ} {from i : ℕ} → from + i < 128 → i < length events → Adding old events from i new → Adding old events from (i + 1) (set new (from + i) (get_or events i 0))
-adding-more {old} {events} {new} {from} {i} h l a = record {
-  long = length-set new (from + i) (get_or events i 0) ∙ a.long;
-  behind =
-      let z : from + (i + 1) ≡ suc (from + i) = omega arith in
-      rw (z, take-suc-set new (from + i) (get_or events i 0) (omega (arith, a.long)), a.behind, add-one i, take-suc events i 0 l)
-      (append_assoc (take from old) (take i events) (get_or events i 0 ∷ []));
-  other = λ j u. get_or-set_other new (from + i) j (get_or events i 0) 0 (λ z. absurd (omega arith)) ∙ a.other j u;
-}
-
-pub adding-end : {old events new : List ℕ} {from i count k v : ℕ} → from ≡ get_or old (127 + k) 0 → i ≡ count → from + count ≤ 128 → k ≤ 128 → 0 < k → v ≡ from + count → Adding old events from i new → AddsLine old events count k (set new (128 + k) v)
-adding-end {old} {events} {new} {from} {i} {count} {k} {v} e q room most some w a = record {
-  long = length-set new (128 + k) v ∙ a.long;
-  behind = rw (← e, ← q, take-set-le (from + i) new (128 + k) v (omega arith)) a.behind;
-  end = get_or-set_same new (128 + k) v 0 (omega (arith, a.long)) ∙ omega arith;
-  other = λ j u d. get_or-set_other new (128 + k) j v 0 d ∙ a.other j u;
-}
 
 -- ---- a line taken out
 

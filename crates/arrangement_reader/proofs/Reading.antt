@@ -1,15 +1,14 @@
 -- The lines of an arrangement, read one after the other by 41 to 43: what the definitions answer, where the order of the lines before is kept.
 use Prim.Native.Nat.{ℕ, suc, ◌+◌, ◌-◌, ◌≤◌, ◌<◌}
 use mathlib.Core.Path.{◌≡◌, refl, sym, ap, ◌∙◌, subst}
-use mathlib.Core.Bool.{Bool, true, false, ◌&&◌, cond, true≢false, false≢true}
+use mathlib.Core.Bool.{Bool, true, false, ◌&&◌, cond}
 use mathlib.Core.List.Memᴰ
 use mathlib.Core.List.{List, [], ◌∷◌, ◌++◌, append_assoc, append-nil}
 use mathlib.Core.Logic.{inl, inr}
-use native.Mathlib.Decide.{dec_le}
 use native.Mathlib.Omega.{arith}
 use lib.Dec.{leb, ltb}
 use lib.ListN.{length, get_or, take, drop, replicate, length-append}
-use lib.Seq.{get_or-take}
+use Rattle.std.proofs.Common.{Some, None, Result, Ok, Err}
 use borrow.Author.Tests.{le-leb, lt-leb, lt-ltb}
 use Rattle.spec.specs.Lists.{In, any, flat, is_in}
 use Rattle.spec.specs.Answer.{Answer, gives, refuses, ◌>>◌, refuse◌at◌when◌}
@@ -22,7 +21,7 @@ use Rattle.spec.specs.Replaying.{is_group_line, repeats, breaks, groups_line}
 use Rattle.spec.specs.declared.Class.TheVariants.{LetterG}
 use Rattle.lists.specs.Laws.{at_in, all-below, flat-snoc}
 use Rattle.byte_entries.specs.Entries.{class_by}
-use Rattle.lines.specs.Agree.{giving, refusing}
+use Rattle.lines.specs.Agree.{giving, refusing, refused_as}
 use Rattle.lines.specs.Lines.{line_of, LineAt}
 use Rattle.lines.specs.declared.Span.{Span}
 use Rattle.lines.proofs.ByLines.{line_taken, line_refused, lines-done}
@@ -32,11 +31,11 @@ use Rattle.number_lines.specs.Numbers.{Begins, Listing, ListAt}
 use Rattle.number_lines.specs.declared.Listed.{Listed}
 use Rattle.number_lines.proofs.Lines.{few-known}
 use Rattle.number_lines.proofs.Listing.{list-to}
-use Rattle.arrangement_reader.specs.Lined.{Enterable, Addable, Stands, Lined, Ordered, Taken, Entered, EntersFrom, AddsLine, broken_from}
-use Rattle.arrangement_reader.specs.Arrangement.{answer_of, goes_of, KnownBy, malformed, unknown, known, KnownLine, KnownAt, unless_broken, ReadsLines}
+use Rattle.arrangement_reader.specs.Lined.{Enterable, Addable, Stands, Lined, Ordered, Taken, Entered, Enters, AddsLine, broken_from}
+use Rattle.arrangement_reader.specs.Arrangement.{arrangement_refusal, KnownBy, malformed, unknown, known, KnownLine, KnownAt, unless_broken, ReadsLines}
 use Rattle.arrangement_reader.specs.declared.Known.{Known}
-use Rattle.arrangement_reader.specs.declared.ArrangementAnswer.{ArrangementAnswer}
-use Rattle.arrangement_reader.specs.declared.ArrangementAnswer.TheVariants.{Keeps, Malformed, Unknown, Repeated}
+use Rattle.arrangement_reader.specs.declared.ArrangementRefusal.{ArrangementRefusal}
+use Rattle.arrangement_reader.specs.declared.ArrangementRefusal.TheVariants.{Malformed, Unknown, Repeated}
 use Rattle.arrangement_reader.proofs.Distinct.{distinct-few, repeats-right, too_many}
 use Rattle.arrangement_reader.proofs.Standing.{stands-none, stands-next}
 use Rattle.arrangement_reader.proofs.Ordering.{from_is, ordered-none, ordered-more}
@@ -62,16 +61,18 @@ module _ {text : List ℕ} {i : ℕ} {f : Listed} {xs : List ℕ} (r : ListAt (c
   formed : is_group_line (line_of listing.bytes true) ≡ true
   formed = sym (group-line listing.bytes true) ∙ rw (← g-class) listing.list
 
-  pub plain-unknown : (n k : ℕ) → n ≤ f.high → KnownAt n k text i (record { answer = Unknown k; count = 0; next = f.next }) xs
-  plain-unknown n k u = record { long = r.long; found = list-to listing h; by = unknown refl formed (sym (listing.high n) ∙ le-leb n f.high u) }
+  pub plain-unknown : (n k : ℕ) → n ≤ f.high → KnownAt n k text i (Err (Unknown k)) xs
+  plain-unknown n k u = record { long = r.long; next = f.next; on = tt; found = list-to listing h; by = unknown refl formed (sym (listing.high n) ∙ le-leb n f.high u) }
 
-  pub plain-kept : (n k : ℕ) → f.high < n → KnownAt n k text i (record { answer = Keeps k; count = f.count; next = f.next }) xs
-  plain-kept n k u = record { long = r.long; found = list-to listing h; by = known refl formed (sym (listing.high n) ∙ lt-leb n f.high u) listing.count listing.numbers }
+  pub plain-kept : (n k : ℕ) → f.high < n → KnownAt n k text i (Ok (record { count = f.count; next = f.next })) xs
+  plain-kept n k u = record { long = r.long; next = f.next; on = refl; found = list-to listing h; by = known _ refl formed (sym (listing.high n) ∙ lt-leb n f.high u) listing.count listing.numbers }
 
-pub line-known-at : {n k : ℕ} {text : List ℕ} {i : ℕ} {s : Span} {a : Known} {xs : List ℕ} → LineAt text i s → KnownLine n k (line_of (take (s.end - i) (drop i text)) s.ended) s.next a xs → KnownAt n k text i a xs
+pub line-known-at : {n k : ℕ} {text : List ℕ} {i : ℕ} {s : Span} {a : Result Known ArrangementRefusal} {xs : List ℕ} → LineAt text i s → KnownLine n k (line_of (take (s.end - i) (drop i text)) s.ended) s.next a xs → KnownAt n k text i a xs
 line-known-at {text = text} {i} {s} w r = record {
   long = r.long;
-  found = record { line = line_of (take (s.end - i) (drop i text)) s.ended; lines = rw r.on w.lines; on = omega (arith, r.on, w.start, w.on); within = omega (arith, r.on, w.next) };
+  next = s.next;
+  on = r.on;
+  found = record { line = line_of (take (s.end - i) (drop i text)) s.ended; lines = w.lines; on = omega (arith, w.start, w.on); within = w.next };
   by = r.by;
 }
 
@@ -165,14 +166,15 @@ module _ {n k : ℕ} {xs : List ℕ} {gs : List (List ℕ)} (L : Lined n k xs gs
       stands = rw (flat-snoc gs es) (stands-next s);
     }
 
-pub record Reading (n : ℕ) (text : List ℕ) (k i : ℕ) (xs lined : List ℕ) : Type 0 where
+-- m lines are taken, and i is where the next one starts
+pub record Reading (n : ℕ) (text : List ℕ) (m i : ℕ) (xs lined : List ℕ) : Type 0 where
   pub few : n ≤ 128
   pub groups : List (List ℕ)
-  pub stood : Lined n k xs groups
+  pub stood : Lined n (m + 1) xs groups
   pub ordered : Ordered groups lined
-  pub whole : (R : RunRecord) → n ≡ length R.events → by_lines (groups_line R) 1 (lines_of text) [] ≡ unless_broken (broken_from R 1 [] groups) (by_lines (groups_line R) k (lines_of (drop i text)) groups)
+  pub whole : (R : RunRecord) → n ≡ length R.events → by_lines (groups_line R) 1 (lines_of text) [] ≡ unless_broken (broken_from R 1 [] groups) (by_lines (groups_line R) (m + 1) (lines_of (drop i text)) groups)
 
-pub begun : {n : ℕ} (text : List ℕ) {xs lined : List ℕ} → n ≤ 128 → xs ≡ replicate 128 0 → lined ≡ replicate 257 0 → Reading n text 1 0 xs lined
+pub begun : {n : ℕ} (text : List ℕ) {xs lined : List ℕ} → n ≤ 128 → xs ≡ replicate 128 0 → lined ≡ replicate 257 0 → Reading n text 0 0 xs lined
 unfolding flat repeats broken_from unless_broken
 begun text few e q = rw (e, q) (record {
   few = few;
@@ -189,131 +191,132 @@ record Kept (n : ℕ) (l : Line) (count : ℕ) (events : List ℕ) : Type 0 wher
   counted : count ≡ length (values_of most_digits l.bytes)
   begins : count ≤ 128 → Begins events (values_of most_digits l.bytes)
 
-kept_of : {n k : ℕ} {l : Line} {a : Known} {events : List ℕ} → n ≤ 128 → KnownBy n k l a events → goes_of a.answer ≡ true → Kept n l a.count events
-kept_of few (malformed e p) f = absurd (false≢true (sym (ap goes_of e) ∙ f))
-kept_of few (unknown e p q) f = absurd (false≢true (sym (ap goes_of e) ∙ f))
-kept_of {n} {l = l} few (known e p q c b) f = record { formed = p; low = q; counted = c; begins = λ h. b (few-known 256 n (values_of most_digits l.bytes) (omega arith) q (omega arith)) }
+kept_of : {n k : ℕ} {l : Line} {m : Known} {events : List ℕ} → n ≤ 128 → KnownBy n k l (Ok m) events → Kept n l m.count events
+kept_of few (malformed e p) = cc
+kept_of few (unknown e p q) = cc
+kept_of {n} {l = l} {m} few (known m' e p q c b) = let z : m.count ≡ m'.count = cc in record { formed = p; low = q; counted = z ∙ c; begins = λ h. b (few-known 256 n (values_of most_digits l.bytes) (omega arith) q (omega arith)) }
 
-module _ {n : ℕ} {text : List ℕ} {k i : ℕ} {xs lined : List ℕ} (g : Reading n text k i xs lined) where
+module _ {n : ℕ} {text : List ℕ} {m i : ℕ} {xs lined : List ℕ} (g : Reading n text m i xs lined) where
+  abbrev k : ℕ
+  k = m + 1
+
   -- the lines before, and an array in which events of this line may be entered
-  taken_of : {xs' : List ℕ} → ((e : ℕ) → e < 128 → is_in e (flat g.groups) ≡ (ltb 0 (get_or xs' e 0) && ltb (get_or xs' e 0) k)) → Taken n (k - 1) xs' lined g.groups
-  taken_of h = let z : k - 1 + 1 ≡ k = omega (arith, g.stood.lines) in record {
+  taken_of : {xs' : List ℕ} → ((e : ℕ) → e < 128 → is_in e (flat g.groups) ≡ (ltb 0 (get_or xs' e 0) && ltb (get_or xs' e 0) k)) → Taken n m xs' lined g.groups
+  taken_of h = record {
     lines = omega (arith, g.stood.lines);
     full = g.stood.full;
     known = g.stood.known;
     once = g.stood.once;
     ordered = g.ordered;
-    earlier = rw z h;
+    earlier = h;
   }
 
-  refused : (a : ArrangementAnswer) (q : ℕ) {xs' : List ℕ} → goes_of a ≡ false → answer_of a ≡ refuses q k → Taken n (k - 1) xs' lined g.groups
-      → ((R : RunRecord) → n ≡ length R.events → by_lines (groups_line R) k (lines_of (drop i text)) g.groups ≡ refuses q k) → ReadsLines n text (record { answer = a; lines = k - 1 }) xs' lined
-  refused a q f e t h = record {
+  refused : (x : ArrangementRefusal) (q : ℕ) {xs' : List ℕ} → arrangement_refusal x ≡ (q, k) → Taken n m xs' lined g.groups
+      → ((R : RunRecord) → n ≡ length R.events → by_lines (groups_line R) k (lines_of (drop i text)) g.groups ≡ refuses q k) → ReadsLines n text (record { lines = m; refused = Some x }) xs' lined
+  refused x q e t h = record {
     groups = g.groups;
     taken = t;
-    stood = λ z. absurd (true≢false (sym z ∙ f));
+    stood = λ z. cc;
     last = refuses q k;
-    answer = refusing q k refl e;
+    answer = refusing q k refl (ap (λ (y : ℕ × ℕ). refused_as y) e);
     whole = λ R o. g.whole R o ∙ ap (unless_broken (broken_from R 1 [] g.groups)) (h R o);
   }
 
-  pub done : length text ≤ i → ReadsLines n text (record { answer = Keeps (k - 1); lines = k - 1 }) xs lined
+  pub done : length text ≤ i → ReadsLines n text (record { lines = m; refused = None }) xs lined
   done h = record {
     groups = g.groups;
     taken = taken_of g.stood.stands.earlier;
-    stood = λ _. let z : k - 1 + 1 ≡ k = omega (arith, g.stood.lines) in rw z g.stood;
+    stood = λ _. g.stood;
     last = gives g.groups;
-    answer = let z : k - 1 ≡ length g.groups = omega (arith, g.stood.lines) in giving g.groups refl (ap (λ (j : ℕ). gives (j, 0, 0)) z) refl;
+    answer = let z : m ≡ length g.groups = omega (arith, g.stood.lines) in giving g.groups refl (ap (λ (j : ℕ). gives (j, 0, 0)) z) refl;
     whole = λ R o. g.whole R o ∙ ap (unless_broken (broken_from R 1 [] g.groups)) (lines-done (groups_line R) k g.groups text i h);
   }
 
-  module _ {a : Known} {events : List ℕ} (K : KnownAt n k text i a events) where
+  module _ {a : Result Known ArrangementRefusal} {events : List ℕ} (K : KnownAt n k text i a events) where
     abbrev now : List ℕ
     now = values_of most_digits K.found.line.bytes
 
     stranger : (R : RunRecord) → n ≡ length R.events → {b : Bool} → any (leb n) now ≡ b → any (leb (length R.events)) now ≡ b
     stranger R o h = ap (λ (j : ℕ). any (leb j) now) (sym o) ∙ h
 
-    pub stop : goes_of a.answer ≡ false → ReadsLines n text (record { answer = a.answer; lines = k - 1 }) xs lined
-    stop f = go K.by
+    pub stop : {x : ArrangementRefusal} → a ≡ Err x → ReadsLines n text (record { lines = m; refused = Some x }) xs lined
+    stop {x} f = go K.by
       where
-        go : KnownBy n k K.found.line a events → ReadsLines n text (record { answer = a.answer; lines = k - 1 }) xs lined
-        go (malformed e p) = rw e (refused (Malformed k) 41 refl refl (taken_of g.stood.stands.earlier) (λ R o. line_refused (groups_line R) k g.groups K.found (malformed-line R k K.found.line g.groups p)))
-        go (unknown e p q) = rw e (refused (Unknown k) 42 refl refl (taken_of g.stood.stands.earlier) (λ R o. line_refused (groups_line R) k g.groups K.found (unknown-line R k K.found.line g.groups p (stranger R o q))))
-        go (known e p q c b) = absurd (true≢false (sym (ap goes_of e) ∙ f))
+        go : KnownBy n k K.found.line a events → ReadsLines n text (record { lines = m; refused = Some x }) xs lined
+        go (malformed e p) = let z : x ≡ Malformed k = cc in rw z (refused (Malformed k) 41 refl (taken_of g.stood.stands.earlier) (λ R o. line_refused (groups_line R) k g.groups K.found (malformed-line R k K.found.line g.groups p)))
+        go (unknown e p q) = let z : x ≡ Unknown k = cc in rw z (refused (Unknown k) 42 refl (taken_of g.stood.stands.earlier) (λ R o. line_refused (groups_line R) k g.groups K.found (unknown-line R k K.found.line g.groups p (stranger R o q))))
+        go (known l e p q c b) = cc
 
-    module _ (f : goes_of a.answer ≡ true) where
-      kept : Kept n K.found.line a.count events
-      kept = kept_of g.few K.by f
+    module _ {l : Known} (f : a ≡ Ok l) where
+      kept : Kept n K.found.line l.count events
+      kept = kept_of g.few (rw f at K.by)
 
       low : (e : ℕ) → In e now → e < n
       low = (all-below n now).0 kept.low
 
-      -- what entering the events relies on
-      pub enter-room : Enterable k xs events a.count
-      enter-room = record {
-        line = omega (arith, g.stood.lines);
-        long = g.stood.stands.long;
-        events-long = K.long;
-        known = λ h j l.
-            let b = kept.begins h in
-            let u : j < length now = omega (arith, kept.counted) in
-            omega (arith, low _ (at_in 0 now j u), g.few, sym (get_or-take (length now) events j 0 u) ∙ ap (λ (zs : List ℕ). get_or zs j 0) b.numbers);
-      }
+      refused-again : repeats (flat g.groups ++ now) ≡ true → {xs' : List ℕ} → ((e : ℕ) → e < 128 → is_in e (flat g.groups) ≡ (ltb 0 (get_or xs' e 0) && ltb (get_or xs' e 0) k))
+          → ReadsLines n text (record { lines = m; refused = Some (Repeated k) }) xs' lined
+      refused-again c t = refused (Repeated k) 43 refl (taken_of t) (λ R o. line_refused (groups_line R) k g.groups K.found (repeated-line R k K.found.line g.groups kept.formed (stranger R o kept.low) c))
 
-      own : a.count ≤ 128 → take a.count events ≡ now
-      own h = ap (λ (j : ℕ). take j events) kept.counted ∙ (kept.begins h).numbers
+      -- more numbers than there are events
+      pub many-stop : 128 < l.count → ReadsLines n text (record { lines = m; refused = Some (Repeated k) }) xs lined
+      many-stop h = refused-again (repeats-right (flat g.groups) now (too_many 128 now (λ e m. omega (arith, low e m, g.few)) (omega (arith, kept.counted)))) g.stood.stands.earlier
 
-      module _ {again : Bool} {xs' : List ℕ} (E : EntersFrom k xs events a.count again xs') where
-        entered : a.count ≤ 128 → Entered k (flat g.groups) now again xs'
-        entered h = rw (← own h) (E.few h (flat g.groups) g.stood.stands g.stood.once)
+      module _ (short : l.count ≤ 128) where
+        pub own : take l.count events ≡ now
+        own = ap (λ (j : ℕ). take j events) kept.counted ∙ (kept.begins short).numbers
 
-        pub again-stop : again ≡ true → ReadsLines n text (record { answer = Repeated k; lines = k - 1 }) xs' lined
-        again-stop q = elim (dec_le a.count 128) [
-          | yes h ↦ stopped (sym (entered h).repeated ∙ q) (entered h).earlier
-          | no h ↦ stopped (repeats-right (flat g.groups) now (too_many 128 now (λ e m. omega (arith, low e m, g.few)) (omega (arith, kept.counted)))) (rw (E.many (omega arith)).1 g.stood.stands.earlier)
-        ]
-          where
-            stopped : repeats (flat g.groups ++ now) ≡ true → ((e : ℕ) → e < 128 → is_in e (flat g.groups) ≡ (ltb 0 (get_or xs' e 0) && ltb (get_or xs' e 0) k)) → ReadsLines n text (record { answer = Repeated k; lines = k - 1 }) xs' lined
-            stopped c t = refused (Repeated k) 43 refl refl (taken_of t) (λ R o. line_refused (groups_line R) k g.groups K.found (repeated-line R k K.found.line g.groups kept.formed (stranger R o kept.low) c))
+        -- what entering the events relies on
+        pub enter-room : Enterable k xs (take l.count events)
+        enter-room = rw own (record {
+          line = omega arith;
+          long = g.stood.stands.long;
+          known = λ j u. omega (arith, low _ (at_in 0 now j u), g.few);
+        })
 
-        module _ (q : again ≡ false) where
-          short : a.count ≤ 128
-          short = elim (dec_le a.count 128) [ yes h ↦ h | no h ↦ absurd (true≢false (sym (E.many (omega arith)).0 ∙ q)) ]
+        module _ {again : Bool} {xs' : List ℕ} (E : Enters k xs (take l.count events) again xs') where
+          entered : Entered k (flat g.groups) now again xs'
+          entered = rw (← own) (E (flat g.groups) g.stood.stands g.stood.once)
 
-          once : repeats (flat g.groups ++ now) ≡ false
-          once = sym (entered short).repeated ∙ q
+          pub again-stop : again ≡ true → ReadsLines n text (record { lines = m; refused = Some (Repeated k) }) xs' lined
+          again-stop q = refused-again (sym entered.repeated ∙ q) entered.earlier
 
-          stood-more : Lined n (k + 1) xs' (g.groups ++ now ∷ [])
-          stood-more = lined-more g.stood low once (has-number K.found.line kept.formed) ((entered short).stands q)
+          module _ (q : again ≡ false) where
+            once : repeats (flat g.groups ++ now) ≡ false
+            once = sym entered.repeated ∙ q
 
-          -- what putting the events behind those before relies on
-          pub add-room : Addable lined events a.count k
-          add-room = record {
-            long = g.ordered.long;
-            events-long = K.long;
-            some = omega (arith, g.stood.lines);
-            few = omega (arith, lines-few stood-more g.few);
-            room = omega (arith, from_is g.ordered g.stood.lines, all-few g.stood low once g.few, kept.counted);
-          }
+            stood-more : Lined n (k + 1) xs' (g.groups ++ now ∷ [])
+            stood-more = lined-more g.stood low once (has-number K.found.line kept.formed) (entered.stands q)
 
-          pub turn : {lined' : List ℕ} → AddsLine lined events a.count k lined' → Reading n text (k + 1) a.next xs' lined'
-          turn A = record {
-            few = g.few;
-            groups = g.groups ++ now ∷ [];
-            stood = stood-more;
-            ordered = ordered-more g.ordered g.stood.lines kept.counted (kept.begins short) A;
-            whole = λ R o. g.whole R o ∙ go R o (breaks R (flat g.groups) now) refl;
-          }
-            where
-              count-is : 1 + length g.groups ≡ k
-              count-is = omega (arith, g.stood.lines)
+            -- what putting the events behind those before relies on
+            pub add-room : Addable lined (take l.count events) k
+            add-room = rw own (record {
+              long = g.ordered.long;
+              some = omega arith;
+              few = omega (arith, lines-few stood-more g.few);
+              room = omega (arith, from_is g.ordered g.stood.lines, all-few g.stood low once g.few);
+            })
 
-              snoc : (R : RunRecord) {b : Bool} → breaks R (flat g.groups) now ≡ b → broken_from R 1 [] (g.groups ++ now ∷ []) ≡ cond (ltb 0 (broken_from R 1 [] g.groups)) (broken_from R 1 [] g.groups) (cond b k 0)
-              snoc R e = broken-snoc R 1 [] g.groups now (omega arith) ∙ rw (e, count-is) refl
+            pub turn : {lined' : List ℕ} → AddsLine lined (take l.count events) k lined' → Reading n text k l.next xs' lined'
+            turn A = record {
+              few = g.few;
+              groups = g.groups ++ now ∷ [];
+              stood = stood-more;
+              ordered = ordered-more g.ordered g.stood.lines (rw own at A);
+              whole = λ R o. g.whole R o ∙ go R o (breaks R (flat g.groups) now) refl;
+            }
+              where
+                count-is : 1 + length g.groups ≡ k
+                count-is = omega (arith, g.stood.lines)
 
-              go : (R : RunRecord) → n ≡ length R.events → (b : Bool) → breaks R (flat g.groups) now ≡ b
-                  → unless_broken (broken_from R 1 [] g.groups) (by_lines (groups_line R) k (lines_of (drop i text)) g.groups)
-                  ≡ unless_broken (broken_from R 1 [] (g.groups ++ now ∷ [])) (by_lines (groups_line R) (k + 1) (lines_of (drop a.next text)) (g.groups ++ now ∷ []))
-              go R o true e = rw (snoc R e, line_refused (groups_line R) k g.groups K.found (broken-line R k K.found.line g.groups kept.formed (stranger R o kept.low) once e)) (still-broken (broken_from R 1 [] g.groups) k _ (omega (arith, g.stood.lines)))
-              go R o false e = rw (snoc R e, line_taken (groups_line R) k g.groups K.found (kept_line R k K.found.line g.groups kept.formed (stranger R o kept.low) once e)) (still_kept (broken_from R 1 [] g.groups) _)
+                on : K.next ≡ l.next
+                on = sym (rw f at K.on)
+
+                snoc : (R : RunRecord) {b : Bool} → breaks R (flat g.groups) now ≡ b → broken_from R 1 [] (g.groups ++ now ∷ []) ≡ cond (ltb 0 (broken_from R 1 [] g.groups)) (broken_from R 1 [] g.groups) (cond b k 0)
+                snoc R e = broken-snoc R 1 [] g.groups now (omega arith) ∙ rw (e, count-is) refl
+
+                go : (R : RunRecord) → n ≡ length R.events → (b : Bool) → breaks R (flat g.groups) now ≡ b
+                    → unless_broken (broken_from R 1 [] g.groups) (by_lines (groups_line R) k (lines_of (drop i text)) g.groups)
+                    ≡ unless_broken (broken_from R 1 [] (g.groups ++ now ∷ [])) (by_lines (groups_line R) (k + 1) (lines_of (drop l.next text)) (g.groups ++ now ∷ []))
+                go R o true e = rw (snoc R e, line_refused (groups_line R) k g.groups K.found (broken-line R k K.found.line g.groups kept.formed (stranger R o kept.low) once e)) (still-broken (broken_from R 1 [] g.groups) k _ (omega arith))
+                go R o false e = rw (snoc R e, ← on, line_taken (groups_line R) k g.groups K.found (kept_line R k K.found.line g.groups kept.formed (stranger R o kept.low) once e)) (still_kept (broken_from R 1 [] g.groups) _)

@@ -6,15 +6,14 @@ use mathlib.Core.List.{List, [], ◌∷◌, ◌++◌, append_assoc, append-nil}
 use native.Mathlib.Decide.{ℕ_discrete}
 use native.Mathlib.Omega.{arith}
 use lib.Dec.{ltb}
-use lib.ListN.{length, get_or, set, replicate, length-set, length-replicate, take, drop, drop_of_length-le}
-use lib.Seq.{get_or-set_same, get_or-set_other, get_or-take, length-take-le}
+use lib.ListN.{length, get_or, set, replicate, length-set, length-replicate}
+use lib.Seq.{get_or-set_same, get_or-set_other}
 use borrow.Author.Tests.{lt-ltb, le-ltb, eq-eqb, ne_eqb}
 use Rattle.spec.specs.Lists.{In, any, is_in}
 use Rattle.spec.specs.Replaying.{repeats}
 use Rattle.lists.specs.Laws.{here, there, in-at}
-use Rattle.lists.specs.Along.{rest_at}
 use Rattle.lists.specs.Arrays.{blank}
-use Rattle.arrangement_reader.specs.Lined.{Stands, Entered, Enters}
+use Rattle.arrangement_reader.specs.Lined.{AllEvents, Stands, Entered, Enters}
 use Rattle.arrangement_reader.proofs.Distinct.{member-snoc, repeats-hit, repeats-more}
 
 -- no event has come
@@ -125,19 +124,5 @@ module _ {k : ℕ} {old es xs rest rest' : List ℕ} {v : ℕ} (e : rest ≡ v �
 pub entries-end : {k : ℕ} {old es xs rest : List ℕ} → rest ≡ [] → Entries k old es xs rest → Enters k old es false xs
 entries-end e g done s r = entering-end e (g.entering done s r)
 
--- ---- the numbers in an array
-
-module _ (events : List ℕ) (count : ℕ) (l : count ≤ length events) where
-  size : length (take count events) ≡ count
-  size = length-take-le count events l
-
-  pub event-at : {v : ℕ} (i : ℕ) → i < count → v ≡ get_or events i 0 → drop i (take count events) ≡ v ∷ drop (i + 1) (take count events)
-  event-at i h e = rest_at (take count events) i (omega (arith, size)) ∙ ap (λ (z : ℕ). z ∷ drop (i + 1) (take count events)) (get_or-take count events i 0 h ∙ sym e)
-
-  pub events-done : (i : ℕ) → count ≤ i → drop i (take count events) ≡ []
-  events-done i h = let z : length (take count events) ≤ i = omega (arith, size) in drop_of_length-le (take count events) z
-
-  pub entries_from : {k : ℕ} {xs : List ℕ} → length xs ≡ 128 → ((i : ℕ) → i < count → get_or events i 0 < 128) → Entries k xs (take count events) xs (take count events)
-  entries_from h low = entries_none (take count events) h (λ v m.
-      let r = in-at 0 v (take count events) m in
-      omega (arith, low r.0 (omega (arith, size, r.1)), r.2, get_or-take count events r.0 0 (omega (arith, size, r.1))))
+pub entries_from : {k : ℕ} {xs : List ℕ} (es : List ℕ) → length xs ≡ 128 → AllEvents es → Entries k xs es xs es
+entries_from es h low = entries_none es h (λ v m. let r = in-at 0 v es m in omega (arith, low r.0 r.1, r.2))

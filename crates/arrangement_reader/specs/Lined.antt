@@ -1,5 +1,5 @@
 -- The lines of an arrangement so far, as the code keeps them, and a record's closed order in rows of bits.
-use Rattle.std.specs.Prelude.{ℕ, suc, ◌+◌, ◌≤◌, ◌<◌, max, ◌≡◌, ◌≢◌, Bool, true, false, ◌&&◌, cond, List, [], ◌∷◌, ◌++◌, length, get_or, take, ltb, leb}
+use Rattle.std.specs.Prelude.{ℕ, suc, ◌+◌, ◌≤◌, ◌<◌, max, ◌≡◌, ◌≢◌, Bool, true, false, ◌&&◌, cond, List, [], ◌∷◌, ◌++◌, length, get_or, take, ltb, leb, Option, Some, None, IfSome}
 use Rattle.spec.specs.Lists.{In, flat, is_in}
 use Rattle.spec.specs.Record.{RunRecord}
 use Rattle.spec.specs.Order.{is_strictly_before, is_not_later}
@@ -71,12 +71,15 @@ pub record AnyTaken (n m : ℕ) (xs lined : List ℕ) : Type 0 where
 
 -- ---- 43: the events of line k, entered
 
--- what entering them relies on: arrays of their sizes, and numbers of events, where there are no more than can be
-pub record Enterable (k : ℕ) (xs events : List ℕ) (count : ℕ) : Type 0 where
+-- these are numbers of events
+abbrev pub AllEvents : List ℕ → Type 0
+AllEvents es = (i : ℕ) → i < length es → get_or es i 0 < event_count
+
+-- what entering them relies on: an array of its size, and numbers of events
+pub record Enterable (k : ℕ) (xs es : List ℕ) : Type 0 where
   pub line : 0 < k
   pub long : length xs ≡ event_count
-  pub events-long : length events ≡ event_count
-  pub known : count ≤ event_count → (i : ℕ) → i < count → get_or events i 0 < event_count
+  pub known : AllEvents es
 
 pub record Entered (k : ℕ) (done es : List ℕ) (again : Bool) (xs : List ℕ) : Type 0 where
   pub repeated : again ≡ repeats (done ++ es)
@@ -86,25 +89,18 @@ pub record Entered (k : ℕ) (done es : List ℕ) (again : Bool) (xs : List ℕ)
 abbrev pub Enters : ℕ → List ℕ → List ℕ → Bool → List ℕ → Type 0
 Enters k xs es again xs' = (done : List ℕ) → Stands k xs done [] → repeats done ≡ false → Entered k done es again xs'
 
--- the first numbers of an array are entered, if there are no more than can be
-pub record EntersFrom (k : ℕ) (xs events : List ℕ) (count : ℕ) (again : Bool) (xs' : List ℕ) : Type 0 where
-  pub few : count ≤ event_count → Enters k xs (take count events) again xs'
-  pub many : event_count < count → (again ≡ true) × (xs' ≡ xs)
-
 -- what putting line k behind the lines before it relies on: it has a place of its own, and there is room for its events
-pub record Addable (lined events : List ℕ) (count k : ℕ) : Type 0 where
+pub record Addable (lined es : List ℕ) (k : ℕ) : Type 0 where
   pub long : length lined ≡ lined_size
-  pub events-long : length events ≡ event_count
   pub some : 0 < k
   pub few : k ≤ event_count
-  pub room : get_or lined (ends_before + k) 0 + count ≤ event_count
+  pub room : get_or lined (ends_before + k) 0 + length es ≤ event_count
 
 -- line k is put behind the lines before it
-pub record AddsLine (old events : List ℕ) (count k : ℕ) (new : List ℕ) : Type 0 where
+pub record AddsLine (old es : List ℕ) (k : ℕ) (new : List ℕ) : Type 0 where
   pub long : length new ≡ lined_size
-  pub behind : take (get_or old (ends_before + k) 0 + count) new
-      ≡ take (get_or old (ends_before + k) 0) old ++ take count events
-  pub end : get_or new (ends_at + k) 0 ≡ get_or old (ends_before + k) 0 + count
+  pub behind : take (get_or old (ends_before + k) 0 + length es) new ≡ take (get_or old (ends_before + k) 0) old ++ es
+  pub end : get_or new (ends_at + k) 0 ≡ get_or old (ends_before + k) 0 + length es
   pub other : (j : ℕ) → ends_at ≤ j → j ≢ ends_at + k → get_or new j 0 ≡ get_or old j 0
 
 -- ---- 44: predecessors that are late
@@ -159,6 +155,11 @@ unfoldable pub broken_from : RunRecord → ℕ → List ℕ → List (List ℕ) 
 broken_from R k done [] = 0
 broken_from R k done (g ∷ gs) = cond (breaks R done g) k (broken_from R (suc k) (done ++ g) gs)
 
-abbrev pub FindsBroken : ℕ → ℕ → List ℕ → List ℕ → List ℕ → ℕ → Type 0
-FindsBroken n m t xs lined r =
-    (R : RunRecord) (gs : List (List ℕ)) → TellsOrder n t R → Taken n m xs lined gs → r ≡ broken_from R 1 [] gs
+-- the number of a line that was found, or 0
+abbrev pub or_zero : Option ℕ → ℕ
+or_zero (Some k) = k
+or_zero None = 0
+
+pub record FindsBroken (n m : ℕ) (t xs lined : List ℕ) (r : Option ℕ) : Type 0 where
+  pub some : IfSome r (λ k. 0 < k)
+  pub by : (R : RunRecord) (gs : List (List ℕ)) → TellsOrder n t R → Taken n m xs lined gs → or_zero r ≡ broken_from R 1 [] gs

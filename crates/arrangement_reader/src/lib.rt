@@ -2,21 +2,19 @@
 // events from the last to the first (44), and searched for an event that is missing (45).
 #![tactic(auto)]
 
-ghost use Rattle.std.specs.Prelude.{◌≡◌, cond, ◌-◌, ◌<◌, ◌≤◌, length, take, drop, replicate};
-ghost use Rattle.byte_classes.specs.Table.{byte_table};
+ghost use Rattle.std.specs.Prelude.{◌≡◌, ◌<◌, ◌≤◌, length, replicate};
 ghost use Rattle.lines.specs.Lines.{line_of, EndedTo};
 ghost use Rattle.reach.specs.Rows.{Good};
-ghost use Rattle.arrangement_reader.specs.Lined.{event_count, lined_size, Enterable, EntersFrom, Addable};
+ghost use Rattle.arrangement_reader.specs.Lined.{event_count, lined_size, Enterable, Enters, Addable};
 ghost use Rattle.arrangement_reader.specs.Lined.{AddsLine, AnyTaken, Meets, Unites, path_of, Lacks, WithLacking};
-ghost use Rattle.arrangement_reader.specs.Lined.{EventsIn, Grouped, FindsBroken};
-ghost use Rattle.arrangement_reader.specs.Arrangement.{answer_of, goes_of, lines_in, KnownLine, KnownAt};
+ghost use Rattle.arrangement_reader.specs.Lined.{AllEvents, Grouped, FindsBroken};
+ghost use Rattle.arrangement_reader.specs.Arrangement.{answer_of, KnownLine, KnownAt};
 ghost use Rattle.arrangement_reader.specs.Arrangement.{ReadsLines, finished};
 
-use bit_sets::{Set, first, meet, none, one, union};
-use byte_classes::byte_table;
+use bit_sets::Set;
+use byte_classes::{Table, byte_table};
 use byte_entries::LETTER_G;
 use lines::{Cursor, ended_to, line_at};
-use machine_numbers::wide;
 use number_lines::{NUMBERS, any_unknown, count_numbers, is_list_line, list_at, numbers};
 use reach::{WORDS, row_at};
 use spec::Class;
@@ -32,10 +30,9 @@ pub const ENDS: usize = 128;
 
 const BEFORE: usize = ENDS - 1;
 
-// What is answered to an arrangement: how many lines keep the order, or a refusal with its line or the missing event.
-#[derive(Clone, Copy)]
-pub enum ArrangementAnswer {
-    Keeps(usize),
+// Why an arrangement is refused: its line, or the event that no line has.
+#[derive(Clone, Copy, Debug, PartialEq, Eq)]
+pub enum ArrangementRefusal {
     Malformed(usize),
     Unknown(usize),
     Repeated(usize),
@@ -43,17 +40,16 @@ pub enum ArrangementAnswer {
     Missing(usize),
 }
 
-// The lines of an arrangement by 41 to 43: the answer to them, and how many were taken.
+// The lines of an arrangement by 41 to 43: how many were taken, and why the next one was not, where one was refused.
 #[derive(Clone, Copy)]
 pub struct LinesRead {
-    pub answer: ArrangementAnswer,
     pub lines: usize,
+    pub refused: Option<ArrangementRefusal>,
 }
 
-// A line by 41 and 42: the answer to it, how many numbers it has, and where the next one starts.
+// A line by 41 and 42: how many numbers it has, and where the next one starts.
 #[derive(Clone, Copy)]
 pub struct Known {
-    pub answer: ArrangementAnswer,
     pub count: usize,
     pub next: usize,
 }
@@ -66,83 +62,43 @@ pub struct Group {
     pub strict: Set,
 }
 
-// The answer to a line, its count and the next line together.
-fn line_known(answer: ArrangementAnswer, count: usize, next: usize) -> Known
-    ensures { result ≡ record { answer = answer; count = count; next = next } }
-{
-    Known {
-        answer,
-        count,
-        next,
-    }
-}
-
-// Whether the lines go on behind this answer.
-pub fn goes(a: ArrangementAnswer) -> bool
-    ensures { result ≡ goes_of a }
-{
-    match a {
-        ArrangementAnswer::Keeps(_) => true,
-        ArrangementAnswer::Malformed(_) => false,
-        ArrangementAnswer::Unknown(_) => false,
-        ArrangementAnswer::Repeated(_) => false,
-        ArrangementAnswer::Broken(_) => false,
-        ArrangementAnswer::Missing(_) => false,
-    }
-}
-
-// How many lines keep the order.
-pub fn lines_in(a: ArrangementAnswer) -> usize
-    ensures { result ≡ lines_in a }
-{
-    match a {
-        ArrangementAnswer::Keeps(k) => k,
-        ArrangementAnswer::Malformed(_) => 0,
-        ArrangementAnswer::Unknown(_) => 0,
-        ArrangementAnswer::Repeated(_) => 0,
-        ArrangementAnswer::Broken(_) => 0,
-        ArrangementAnswer::Missing(_) => 0,
-    }
-}
-
 // 41 and 42 of a line, with its numbers, if there is room for them in an array.
 fn known_line(
-    table: &[u8; 256],
+    table: &Table,
     k: usize,
     l: &[u8],
     ended: bool,
     n: usize,
     next: usize,
     events: &mut [u8; NUMBERS],
-) -> Known
-    requires { (table.now ≡ byte_table) × (n ≤ event_count) × (length events.old ≡ event_count) }
+) -> Result<Known, ArrangementRefusal>
+    requires { (n ≤ event_count) × (length events.old ≡ event_count) }
     ensures { KnownLine n k (line_of l.now ended) next result events.new }
 {
     if !is_list_line(table, Class::LetterG, l, ended) {
-        return line_known(ArrangementAnswer::Malformed(k), 0, next);
+        return Err(ArrangementRefusal::Malformed(k));
     }
     if any_unknown(table, l, n) {
-        return line_known(ArrangementAnswer::Unknown(k), 0, next);
+        return Err(ArrangementRefusal::Unknown(k));
     }
     let count = count_numbers(table, l);
     if NUMBERS < count {
-        return line_known(ArrangementAnswer::Keeps(k), count, next);
+        return Ok(Known { count, next });
     }
-    let xs = numbers(table, l);
-    *events = xs;
-    line_known(ArrangementAnswer::Keeps(k), count, next)
+    *events = numbers(table, l);
+    Ok(Known { count, next })
 }
 
 // 41 and 42 of the line at a cursor. A plain line, where a line end is ahead, is read in one walk; any other goes to
 // the readers of lines and fields, and so does every malformed one.
 fn known_at(
-    table: &[u8; 256],
+    table: &Table,
     text: &[u8],
     c: Cursor,
     n: usize,
     events: &mut [u8; NUMBERS],
-) -> Known
-    requires { (table.now ≡ byte_table) × (c.at < length text.now) × EndedTo text.now c.ended
+) -> Result<Known, ArrangementRefusal>
+    requires { (c.at < length text.now) × EndedTo text.now c.ended
         × (n ≤ event_count) × (length events.old ≡ event_count) }
     ensures { KnownAt n c.line text.now c.at result events.new }
 {
@@ -152,9 +108,12 @@ fn known_at(
         let f = list_at(table, LETTER_G, text, at, events);
         if at < f.next {
             if n <= f.high {
-                return line_known(ArrangementAnswer::Unknown(k), 0, f.next);
+                return Err(ArrangementRefusal::Unknown(k));
             }
-            return line_known(ArrangementAnswer::Keeps(k), f.count, f.next);
+            return Ok(Known {
+                count: f.count,
+                next: f.next,
+            });
         }
     }
     let line = line_at(table, text, at);
@@ -162,45 +121,30 @@ fn known_at(
     known_line(table, k, &text[at..end], line.ended, n, line.next, events)
 }
 
-// 43: each event of line k is entered; whether one of them has a line already, as it is with more than there are.
-fn enter_events(stands: &mut [u8; STANDS], events: &[u8; NUMBERS], count: usize, k: u8) -> bool
-    requires { Enterable k stands.old events.now count }
-    ensures { EntersFrom k stands.old events.now count result stands.new }
+// 43: each event of line k is entered; whether one of them has a line already.
+fn enter_events(stands: &mut [u8; STANDS], events: &[u8], k: u8) -> bool
+    requires { Enterable k stands.old events.now }
+    ensures { Enters k stands.old events.now result stands.new }
 {
-    if NUMBERS < count {
-        return true;
-    }
-    let mut i: usize = 0;
-    while i < count {
-        let e = wide(events[i]);
+    for event in events {
+        let e = usize::from(*event);
         if 0 < stands[e] {
             return true;
         }
         stands[e] = k;
-        i += 1;
     }
     false
 }
 
 // The events of line k are put behind those of the lines before it.
-fn add_line(lined: &mut [u8; LINED], events: &[u8; NUMBERS], count: usize, k: usize)
-    requires { Addable lined.old events.now count k }
-    ensures { AddsLine lined.old events.now count k lined.new }
+fn add_line(lined: &mut [u8; LINED], events: &[u8], k: usize)
+    requires { Addable lined.old events.now k }
+    ensures { AddsLine lined.old events.now k lined.new }
 {
-    let from = wide(lined[BEFORE + k]);
-    let mut i: usize = 0;
-    while i < count {
-        lined[from + i] = events[i];
-        i += 1;
-    }
-    lined[ENDS + k] = (from + count) as u8;
-}
-
-// The answer to the lines, and how many were taken.
-fn read_to(answer: ArrangementAnswer, lines: usize) -> LinesRead
-    ensures { result ≡ record { answer = answer; lines = lines } }
-{
-    LinesRead { answer, lines }
+    let from = usize::from(lined[BEFORE + k]);
+    let end = from + events.len();
+    lined[from..end].copy_from_slice(events);
+    lined[ENDS + k] = end as u8;
 }
 
 // 41 to 43: the lines of a text, of n events, are entered one after the other.
@@ -216,31 +160,48 @@ pub fn read_lines(
     let table = byte_table();
     let ended = ended_to(&table, text);
     let mut events = [0u8; NUMBERS];
-    let mut k: usize = 1;
-    let mut at: usize = 0;
+    let mut lines = 0;
+    let mut at = 0;
+    // A while: the place moves by the line that is read, which no range or iterator says.
     while at < text.len() {
+        let k = lines + 1;
         let here = Cursor { line: k, at, ended };
-        let line = known_at(&table, text, here, n, &mut events);
-        let answer = line.answer;
-        let count = line.count;
-        if !goes(answer) {
-            return read_to(answer, k - 1);
+        let line = match known_at(&table, text, here, n, &mut events) {
+            Ok(line) => line,
+            Err(refusal) => {
+                return LinesRead {
+                    lines,
+                    refused: Some(refusal),
+                };
+            }
+        };
+        let repeated = LinesRead {
+            lines,
+            refused: Some(ArrangementRefusal::Repeated(k)),
+        };
+        // A line with more numbers than there are events has one of them twice.
+        if NUMBERS < line.count {
+            return repeated;
         }
-        if enter_events(stands, &events, count, k as u8) {
-            return read_to(ArrangementAnswer::Repeated(k), k - 1);
+        let es = &events[..line.count];
+        if enter_events(stands, es, k as u8) {
+            return repeated;
         }
-        add_line(lined, &events, count, k);
-        k += 1;
+        add_line(lined, es, k);
+        lines = k;
         at = line.next;
     }
-    read_to(ArrangementAnswer::Keeps(k - 1), k - 1)
+    LinesRead {
+        lines,
+        refused: None,
+    }
 }
 
 // Whether a number is in both sets.
 fn meets(a: Set, b: Set) -> bool
     ensures { Meets a b result }
 {
-    first(meet(a, b)) < 128
+    a.meet(b).first().is_some()
 }
 
 // The set, and with it that of an event in line x where x is none of the first lines.
@@ -248,10 +209,10 @@ fn with_lacking(r: Set, more: Set, lines: usize, x: usize) -> Set
     requires { lines ≤ event_count }
     ensures { WithLacking r more lines x result }
 {
-    if (0 < x) & (x < lines + 1) {
+    if 0 < x && x <= lines {
         return r;
     }
-    union(r, more)
+    r.union(more)
 }
 
 // What one of the events without a line is not later than.
@@ -259,44 +220,32 @@ fn behind_lacking(w: &[u64; WORDS], n: usize, stands: &[u8; STANDS], lines: usiz
     requires { (n ≤ event_count) × (lines ≤ event_count) }
     ensures { Unites (path_of w.now) (Lacks n lines stands.now) result }
 {
-    let mut r = none();
-    let mut d: usize = 0;
-    while d < n {
-        let row = row_at(w, d);
-        r = with_lacking(r, row.path, lines, wide(stands[d]));
-        d += 1;
+    let mut r = Set::none();
+    for d in 0..n {
+        r = with_lacking(r, row_at(w, d).path, lines, usize::from(stands[d]));
     }
     r
 }
 
-// The events from one place of an array up to another.
-fn group_of(w: &[u64; WORDS], lined: &[u8; LINED], from: usize, to: usize) -> Group
-    requires { EventsIn lined.now from to }
-    ensures { Grouped w.now (take (to - from) (drop from lined.now)) result }
+// The events of a line as sets.
+fn group_of(w: &[u64; WORDS], events: &[u8]) -> Group
+    requires { AllEvents events.now }
+    ensures { Grouped w.now events.now result }
 {
-    let mut line = none();
-    let mut path = none();
-    let mut strict = none();
-    let mut i = from;
-    while i < to {
-        let e = wide(lined[i]);
+    let mut line = Set::none();
+    let mut path = Set::none();
+    let mut strict = Set::none();
+    for event in events {
+        let e = usize::from(*event);
         let row = row_at(w, e);
-        line = union(line, one(e));
-        path = union(path, row.path);
-        strict = union(strict, row.strict);
-        i += 1;
+        line = line.union(Set::one(e));
+        path = path.union(row.path);
+        strict = strict.union(row.strict);
     }
     Group { line, path, strict }
 }
 
-// The first of two numbers where a test holds, else the second.
-fn choose(t: bool, k: usize, r: usize) -> usize
-    ensures { result ≡ cond t k r }
-{
-    if t { k } else { r }
-}
-
-// 44: the lowest line that breaks the order, or 0. From the last line to the first `late` has what an event that stands
+// 44: the lowest line that breaks the order. From the last line to the first `late` has what an event that stands
 // in no line up to this one is not later than.
 pub fn first_broken(
     w: &[u64; WORDS],
@@ -304,35 +253,34 @@ pub fn first_broken(
     stands: &[u8; STANDS],
     lined: &[u8; LINED],
     lines: usize,
-) -> usize
+) -> Option<usize>
     requires { (n ≤ event_count) × Good w.now × AnyTaken n lines stands.now lined.now }
     ensures { FindsBroken n lines w.now stands.now lined.now result }
 {
     let mut late = behind_lacking(w, n, stands, lines);
-    let mut r: usize = 0;
-    let mut k = lines;
-    while 0 < k {
-        let from = wide(lined[BEFORE + k]);
-        let to = wide(lined[ENDS + k]);
-        let g = group_of(w, lined, from, to);
-        r = choose(meets(union(late, g.strict), g.line), k, r);
-        late = union(late, g.path);
-        k -= 1;
+    let mut broken = None;
+    for k in (0..lines).rev() {
+        let from = usize::from(lined[ENDS + k]);
+        let to = usize::from(lined[ENDS + k + 1]);
+        let g = group_of(w, &lined[from..to]);
+        let breaks = meets(late.union(g.strict), g.line);
+        late = late.union(g.path);
+        if breaks {
+            broken = Some(k + 1);
+        }
     }
-    r
+    broken
 }
 
-// 45: the lowest event that no line has, after so many lines.
-pub fn finish(stands: &[u8; STANDS], n: usize, lines: usize) -> ArrangementAnswer
+// 45: the lowest event that no line has is missing; where each has one, so many lines keep the order.
+pub fn finish(stands: &[u8; STANDS], n: usize, lines: usize) -> Result<usize, ArrangementRefusal>
     requires { n ≤ event_count }
     ensures { answer_of result ≡ finished stands.now n lines }
 {
-    let mut e: usize = 0;
-    while e < n {
+    for e in 0..n {
         if stands[e] == 0 {
-            return ArrangementAnswer::Missing(e);
+            return Err(ArrangementRefusal::Missing(e));
         }
-        e += 1;
     }
-    ArrangementAnswer::Keeps(lines)
+    Ok(lines)
 }

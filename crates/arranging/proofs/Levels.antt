@@ -1,6 +1,6 @@
 -- The levels of a record's events in rows and in an array, and the room that its arrangement takes.
 use Prim.Native.Nat.{ℕ, ◌-◌, ◌≤◌}
-use mathlib.Core.Path.{◌≡◌, sym, ap₂, ◌∙◌}
+use mathlib.Core.Path.{◌≡◌, sym, ◌∙◌}
 use mathlib.Core.List.{List}
 use native.Mathlib.Omega.{arith}
 use lib.ListN.{length, take}
@@ -23,7 +23,6 @@ use Rattle.writing.specs.Written.{Wrote}
 use Rattle.writing.proofs.Laws.{put-over}
 use Rattle.accepting.specs.Relation.{HoldsOrder}
 use Rattle.arranging.specs.Answers.{levels_in, WritesLines}
-use Rattle.arranging.specs.declared.ArrangeAnswer.TheVariants.{Arranged}
 
 -- ---- rows that have the closed order of a record
 
@@ -64,8 +63,9 @@ module _ (n : ℕ) (t : List ℕ) {blank a : List ℕ} (l : n ≤ length blank) 
   lines-room room = rw levels-stand room
 
   pub lines-written : {old new : List ℕ} {bytes lines : ℕ} → length (arrangement_bytes (arranged_lines (levels_in n t))) ≤ length old
-      → lines ≡ line_count (take (n - 0) a) → Wrote old 0 (arrangement_bytes (arranged_lines (take (n - 0) a))) bytes new → WritesLines (levels_in n t) old (Arranged bytes lines) new
+      → lines ≡ line_count (take (n - 0) a) → Wrote old 0 (arrangement_bytes (arranged_lines (take (n - 0) a))) bytes new → WritesLines (levels_in n t) old (record { bytes = bytes; lines = lines }) new
   lines-written {old} room c w = rw (← levels-stand) (record {
-    answer = ap₂ Arranged (omega (arith, w.next)) c;
+    bytes = omega (arith, w.next);
+    lines = c;
     buffer = w.bytes ∙ put-over old (arrangement_bytes (arranged_lines (take (n - 0) a))) (lines-room room);
   })

@@ -1,5 +1,5 @@
 -- What ties the answer of building, and the buffer that it leaves, to those of the definitions.
-use Rattle.std.specs.Prelude.{ℕ, ◌≡◌, List, length}
+use Rattle.std.specs.Prelude.{ℕ, ◌≡◌, List, length, Result, Ok, Err, IfOk}
 use Rattle.spec.specs.Answer.{Answer, gives, refuses, returned}
 use Rattle.spec.specs.Text.{lines_of}
 use Rattle.spec.specs.Net.{Net as NetD, read_net}
@@ -12,18 +12,28 @@ use Rattle.spec.specs.Values.{byte_values}
 use Rattle.record_columns.specs.declared.Counts.{Counts}
 use Rattle.log_steps.specs.RunArrays.{log_refused}
 use Rattle.representation.specs.Noted.{Noted}
-use Rattle.building.specs.declared.BuildAnswer.{BuildAnswer}
-use Rattle.building.specs.declared.BuildAnswer.TheVariants.{Written, BufferShort, Net, Log}
+use Rattle.building.specs.declared.BuildNoted.{BuildNoted}
+use Rattle.building.specs.declared.BuildRefusal.{BuildRefusal}
+use Rattle.building.specs.declared.BuildRefusal.TheVariants.{BufferShort, Net, Log}
+
+-- the paper's number and spot of a refusal of building
+abbrev pub build_refused : {A : Type 0} → BuildRefusal → Answer A
+build_refused BufferShort = refuses 20 0
+build_refused (Net x) = refused_as (net_refusal x)
+build_refused (Log x) = log_refused x
 
 -- the paper's number and values of an answer of building
-abbrev pub build_answer : BuildAnswer → Answer (ℕ × ℕ × ℕ)
-build_answer (Written n) = gives (n, 0, 0)
-build_answer BufferShort = refuses 20 0
-build_answer (Net x) = refused_as (net_refusal x)
-build_answer (Log x) = log_refused x
+abbrev pub build_answer : Result ℕ BuildRefusal → Answer (ℕ × ℕ × ℕ)
+build_answer (Ok n) = gives (n, 0, 0)
+build_answer (Err x) = build_refused x
+
+-- how many bytes an answer says
+abbrev pub bytes_of : Result BuildNoted BuildRefusal → Result ℕ BuildRefusal
+bytes_of (Ok b) = Ok b.bytes
+bytes_of (Err x) = Err x
 
 -- the answer is the paper's, and the buffer is left as the paper says
-pub record Builds (net log old : List ℕ) (r : BuildAnswer) (new : List ℕ) : Type 0 where
+pub record Builds (net log old : List ℕ) (r : Result ℕ BuildRefusal) (new : List ℕ) : Type 0 where
   pub answer : build_answer r ≡ returned byte_values (build net log (length old))
   pub buffer : new ≡ build_leaves (build net log (length old)) old
 
@@ -35,5 +45,5 @@ pub record Runs (net log : List ℕ) (s : Counts) (rec words : List ℕ) : Type 
   pub builds : built bench model (lines_of log) ≡ gives noted.run
 
 -- so it is where a record is written
-abbrev pub NotesRun : List ℕ → List ℕ → BuildAnswer → Counts → List ℕ → List ℕ → Type 0
-NotesRun net log r s rec words = (w : ℕ) → r ≡ Written w → Runs net log s rec words
+abbrev pub NotesRun : List ℕ → List ℕ → Result BuildNoted BuildRefusal → List ℕ → List ℕ → Type 0
+NotesRun net log r rec words = IfOk r (λ b. Runs net log b.counts rec words)

@@ -5,12 +5,13 @@ use mathlib.Core.Path.{◌≡◌, refl, ap, ap₂, ◌∙◌}
 use mathlib.Core.Bool.{Bool, true, ◌&&◌}
 use mathlib.Core.List.{List, [], ◌∷◌, map}
 use denote.Enum.Declared.{tag_of}
+use denote.Enum.Bare.{sameb}
 use lib.ListN.{length, get_or}
 use lib.Dec.{eqb}
 use borrow.Author.Tests.{eqb-true}
 use Rattle.spec.specs.Lists.{from}
 use Rattle.spec.specs.Text.{class_and_digit}
-use Rattle.spec.specs.Classes.{class_code}
+use Rattle.spec.specs.Classes.{class_code, alike}
 use Rattle.spec.specs.declared.Class.{Class}
 use Rattle.spec.specs.declared.Class.TheVariants.{Digit, Comma, Dash, LineEnd, LetterP, LetterT, LetterI, LetterO, LetterH, LetterS, LetterE, LetterC, LetterB, LetterA, LetterG, LetterR, LetterK, LetterJ, LetterW, Return, Foreign}
 use Rattle.spec.specs.contracts.Class
@@ -45,7 +46,7 @@ table-agrees b h = rw (entry_at refl b h, class-named b, value-told b)
 -- ---- the number of a class
 
 -- its place among the classes
-pub place-is-code : (k : Class) → tag_of Class.the_type k ≡ class_code k
+place-is-code : (k : Class) → tag_of Class.the_type k ≡ class_code k
 place-is-code Digit = refl
 place-is-code Comma = refl
 place-is-code Dash = refl
@@ -67,3 +68,8 @@ place-is-code LetterJ = refl
 place-is-code LetterW = refl
 place-is-code Return = refl
 place-is-code Foreign = refl
+
+-- so `==` on classes says whether they are alike
+pub equal_alike : (k l : Class) → sameb Class.the_type k l ≡ alike k l
+unfolding alike
+equal_alike k l = rw (place-is-code k, place-is-code l)

@@ -1,27 +1,16 @@
--- The entry of a byte by the range rule: a digit has its value; a byte that is no digit and that the list of names leaves
--- out has the number of the foreign class. And the search for the byte that ends a line: a byte that is passed has another
+-- The entry of a byte by the range rule: a byte that is no digit and that the list of names leaves out has the number of the
+-- foreign class. And the search for the byte that ends a line: a byte that is passed has another
 -- entry, so that what is sought stays the same.
 -- Assumes nothing.
-use Prim.Native.Nat.{ℕ, ◌+◌, ◌-◌, ◌≤◌, ◌<◌}
-use mathlib.Core.Path.{◌≡◌, refl, sym, ◌∙◌}
-use mathlib.Core.Bool.{Bool, true, false, ◌&&◌}
-use mathlib.Core.List.{List, [], ◌∷◌}
-use native.Mathlib.Omega.{arith}
-use lib.ListN.{get_or, drop}
-use lib.Dec.{leb}
-use borrow.Author.Tests.{le-leb, leb-true, eq-eqb, ne_eqb}
+use Rattle.std.proofs.Common.{◌≡◌, ℕ, ◌+◌, ◌≤◌, ◌<◌, Bool, true, false, ◌&&◌, leb, List, [], ◌∷◌, get_or, drop, refl, sym, ◌∙◌, arith, leb-true, eq-eqb, ne_eqb}
 use Rattle.spec.specs.Lists.{up_to}
-use Rattle.spec.specs.Text.{named, class_names, in_digits, class_of, digit_of}
+use Rattle.spec.specs.Text.{named, class_names, in_digits, class_of}
 use Rattle.spec.specs.declared.Class.{Class}
 use Rattle.spec.specs.declared.Class.TheVariants.{LineEnd, Foreign}
 use Rattle.lists.specs.Laws.{length-up_to, get_or-from}
 use Rattle.byte_entries.specs.Entries.{code_of, entry_of, is_entry, before_first}
 use Rattle.byte_entries.proofs.Scans.{before_here, before_on, before-end}
 use Rattle.byte_table.specs.TableText.{line_end_byte}
-
-pub digit : (b : ℕ) → 48 ≤ b → b ≤ 57 → b - 48 ≡ entry_of b
-unfolding entry_of digit_of in_digits
-digit b p q = simp le-leb
 
 -- the byte is none of those that the list names
 abbrev pub None : ℕ → List (ℕ × Class) → Type 0

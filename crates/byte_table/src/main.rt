@@ -13,7 +13,7 @@ use byte_entries::{
     RETURN,
 };
 use std::process::ExitCode;
-use streams::{Output, write_all};
+use streams::write_all;
 use writing::{put_byte, put_number};
 
 // How many bytes there are.
@@ -23,6 +23,7 @@ const BYTES: usize = 256;
 const ROOM: usize = 4096;
 
 // What a byte is, by the range rule: the value of a digit, or the number of another class.
+#[tactic(auto, using(crate::proofs::Entries::foreign), unfolding(byte_entries::specs::Entries::entry_of, spec::specs::Text::class_of, spec::specs::Text::named, spec::specs::Text::in_digits, spec::specs::Text::digit_of))]
 fn entry_of(b: u8) -> u8
     ensures { result ≡ entry_of b }
 {
@@ -55,14 +56,12 @@ fn entry_of(b: u8) -> u8
 fn line_end_byte() -> usize
     ensures { result ≡ line_end_byte }
 {
-    let mut b: usize = 0;
-    while b < BYTES {
+    for b in 0..BYTES {
         if entry_of(b as u8) == LINE_END {
             return b;
         }
-        b += 1;
     }
-    b
+    BYTES
 }
 
 // Bytes as they stand.
@@ -71,10 +70,8 @@ fn put_bytes(out: &mut [u8], at: usize, bs: &[u8]) -> usize
     ensures { Wrote out.old at bs.now result out.new }
 {
     let mut next = at;
-    let mut i: usize = 0;
-    while i < bs.len() {
-        next = put_byte(out, next, bs[i]);
-        i += 1;
+    for b in bs {
+        next = put_byte(out, next, *b);
     }
     next
 }
@@ -114,10 +111,8 @@ fn put_entries(out: &mut [u8], at: usize) -> usize
     ensures { Wrote out.old at entry_lines result out.new }
 {
     let mut next = at;
-    let mut b: usize = 0;
-    while b < BYTES {
+    for b in 0..BYTES {
         next = put_entry(out, next, b as u8);
-        b += 1;
     }
     next
 }
@@ -148,8 +143,8 @@ fn main(rt: HostRuntime) -> ExitCode {
     let mut out = [0u8; ROOM];
     let n = put_text(&mut out);
     match write_all(&mut rt.stdout(), &out[..n]) {
-        Output::Written(_) => ExitCode::SUCCESS,
-        Output::Failed(e) => {
+        Ok(_) => ExitCode::SUCCESS,
+        Err(e) => {
             // Where standard error fails too, the exit status alone says so.
             let _ = eprintln!(rt; "byte_table: standard output: {e}");
             ExitCode::FAILURE

@@ -6,7 +6,8 @@ ghost use Rattle.std.specs.Prelude.{◌≡◌, length, ◌<◌};
 ghost use Rattle.condition_sets.specs.Sets.{sets_size, whole_word, EmptyRow, JoinsRow, Placeable, Placed, InPlaces};
 ghost use Rattle.condition_sets.specs.Sets.{WatchedBy, Watches, Ready, guards_of};
 
-use arc_sets::{GUARDS, SETS, lowest};
+use arc_sets::{GUARDS, SETS};
+use bit_sets::members;
 use record_columns::PLACES;
 
 // The words of the sets, one set for each place or for each transition; the words of a set, and the conditions of a
@@ -25,11 +26,9 @@ pub fn enter_places(places: &mut [u64; WORDS], rec: &[u8], n: usize)
     requires { Placeable rec.now n places.old }
     ensures { Placed rec.now n places.new }
 {
-    let mut c: usize = 0;
-    while c < n {
+    for c in 0..n {
         let i = SET * (rec[PLACES + c] as usize) + c / WORD;
         places[i] = places[i] | (1 << (c % WORD));
-        c += 1;
     }
 }
 
@@ -38,11 +37,9 @@ fn join(watched: &mut [u64; WORDS], t: usize, places: &[u64; WORDS], p: usize)
     requires { (t < 32) × (p < 32) × (length watched.old ≡ sets_size) }
     ensures { JoinsRow watched.old t places.now p watched.new }
 {
-    let mut w: usize = 0;
-    while w < SET {
+    for w in 0..SET {
         let i = SET * t + w;
         watched[i] = watched[i] | places[SET * p + w];
-        w += 1;
     }
 }
 
@@ -51,11 +48,8 @@ fn watch(watched: &mut [u64; WORDS], t: usize, places: &[u64; WORDS], guards: u6
     requires { (t < 32) × (length watched.old ≡ sets_size) × EmptyRow watched.old t × InPlaces guards }
     ensures { Watches guards places.now t whole_word watched.old watched.new }
 {
-    let mut bits = guards;
-    while bits != 0 {
-        let p = lowest(bits);
+    for p in members(guards) {
         join(watched, t, places, p);
-        bits = bits & (bits ^ (1 << p));
     }
 }
 

@@ -15,6 +15,8 @@ use Rattle.spec.specs.Building.{is_free, consumed_by, consume}
 use Rattle.lists.specs.Tables.{table-set}
 use Rattle.runs.specs.Flows.{Flow, flow}
 use Rattle.runs.specs.Consume.{taking}
+use Rattle.std.specs.Prelude.{Option, Some, None, MatchOption}
+use Rattle.std.specs.Option.{unwrap_or}
 use Rattle.conditions.proofs.Coded.{length-conditions, condition-at, event-coded, free-is}
 use Rattle.conditions.specs.Conditions.{condition_in, conditions_in, free_at, FirstFree, Ready, Took}
 
@@ -24,9 +26,12 @@ pub free-test : (p : ℕ) (ps fs : List ℕ) (i x : ℕ) (b : Bool) → x ≡ ge
 unfolding free_at
 free-test p ps fs i x b e h = rw (← e) h
 
--- one more number is passed
-pub passed-more : (start i : ℕ) (w : ℕ → Bool) → ((j : ℕ) → start ≤ j → j < i → w j ≡ false) → w i ≡ false → (j : ℕ) → start ≤ j → j < i + 1 → w j ≡ false
-passed-more start i w h e j l m = elim (ℕ_discrete j i) [ yes q ↦ ap w q ∙ e | no q ↦ h j l (omega arith) ]
+-- what a search from a number on finds
+pub first-free : {p start end r : ℕ} {ps fs : List ℕ} (o : Option ℕ) → start ≤ end
+    → MatchOption o ((k : ℕ) → start ≤ k → k < end → free_at p ps fs k ≡ false) (λ i. (start ≤ i) × (i < end) × (free_at p ps fs i ≡ true) × ((k : ℕ) → start ≤ k → k < i → free_at p ps fs k ≡ false))
+    → r ≡ unwrap_or o end → FirstFree p start end ps fs r
+first-free None l h e = record { low = omega arith; high = omega arith; passed = λ j a b. h j a (omega arith); free = λ m. absurd (omega arith) }
+first-free (Some i) l h e = record { low = omega (arith, h.0); high = omega (arith, h.1); passed = λ j a b. h.3 j a (omega arith); free = λ m. rw e h.2 }
 
 -- ---- which condition is taken
 

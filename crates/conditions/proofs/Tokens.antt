@@ -6,7 +6,7 @@ use mathlib.Core.List.{List, [], ◌∷◌, ◌++◌, map, map-append, append-ni
 use native.Mathlib.Omega.{arith}
 use native.Mathlib.Numerals.{add-one}
 use lib.ListN.{length, get_or, take, drop, replicate, length-append, length-replicate}
-use lib.Seq.{take-suc, take-add, length-take-le}
+use lib.Seq.{take-suc, take-add, take-length, length-take-le}
 use Rattle.spec.specs.Lists.{from, up_to, flat}
 use Rattle.lists.specs.Laws
 use Rattle.bit_sets.specs.Bits.{bit}
@@ -122,3 +122,8 @@ event-fits sets at e ts i n t l h q =
       ap length (flows-append (arc_at sets at) 64 e xs ys),
       ap (λ z. length (flows (arc_at sets at) 64 e z)) (ap (λ (z : ℕ). take z ts) k ∙ take-add (i + 1) (n - (i + 1)) ts),
     )
+
+-- the same, of all the events that a walk goes over
+pub walked-fits : (sets : List ℕ) (at e : ℕ) (ts : List ℕ) (i t : ℕ) → i < length ts → t ≡ get_or ts i 0
+    → length (flows (arc_at sets at) 64 e (take i ts)) + length (tokens_of sets (at + t) (e + i) 64) ≤ length (flows (arc_at sets at) 64 e ts)
+walked-fits sets at e ts i t l q = rw take-length at (event-fits sets at e ts i (length ts) t l (omega arith) q)

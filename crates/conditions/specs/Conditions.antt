@@ -1,5 +1,5 @@
 -- Conditions held by arrays, and what it is to take and to make some of them.
-use Rattle.std.specs.Prelude.{ℕ, ◌+◌, ◌≤◌, ◌<◌, ◌≡◌, Bool, true, false, ◌&&◌, cond, List, ◌++◌, map, eqb, length, get_or, take}
+use Rattle.std.specs.Prelude.{ℕ, ◌+◌, ◌≤◌, ◌<◌, ◌≡◌, Bool, true, false, ◌&&◌, cond, List, ◌++◌, map, eqb, length, get_or}
 use Rattle.std.proofs.Math.Option.{Option, none, some}
 use Rattle.spec.specs.Lists.{up_to}
 use Rattle.spec.specs.Record.{Condition}
@@ -16,11 +16,11 @@ unfoldable pub tokens_of : List ℕ → ℕ → ℕ → ℕ → List Flow
 tokens_of sets row e n = map (flow e) (spread (weight_at sets row) n)
 
 -- the tokens that the next step of a run takes, and those that it makes: each with its event and its place
-abbrev pub taken_next : (sets step : List ℕ) → ℕ → Extent → List Flow
-taken_next sets step count x = flows (arc_at sets 0) 64 x.events (take count step)
+abbrev pub taken_next : (sets step : List ℕ) → Extent → List Flow
+taken_next sets step x = flows (arc_at sets 0) 64 x.events step
 
-abbrev pub made_next : (sets step : List ℕ) → ℕ → Extent → List Flow
-made_next sets step count x = flows (arc_at sets made_at) 64 x.events (take count step)
+abbrev pub made_next : (sets step : List ℕ) → Extent → List Flow
+made_next sets step x = flows (arc_at sets made_at) 64 x.events step
 
 -- an event's number, or 128 for none
 unfoldable pub decoded : ℕ → Option ℕ

@@ -1,20 +1,19 @@
 // Conditions held by columns of a record's bytes: those that the events of a step take, and those that they make.
 #![tactic(auto)]
 
-ghost use Rattle.std.specs.Prelude.{[], ◌∷◌, map, ◌+◌, ◌≤◌, ◌<◌, length, replicate};
+ghost use Rattle.std.specs.Prelude.{[], ◌∷◌, map, ◌≡◌, ◌+◌, ◌≤◌, ◌<◌, length, replicate};
 ghost use Rattle.runs.specs.Flows.{flow};
 ghost use Rattle.runs.specs.Consume.{made_of};
 ghost use Rattle.arc_sets.specs.Sets.{row_count, Within};
-ghost use Rattle.steps.specs.StepArrays.{IsStep};
+ghost use Rattle.run_counts.specs.Tally.{StepEvents};
 ghost use Rattle.conditions.specs.Conditions.{tokens_of, taken_next, made_next, place_column, consumer_column};
-ghost use Rattle.conditions.specs.Conditions.{FirstFree, fresh, ReadyAt, TookAt, MadeAt};
+ghost use Rattle.conditions.specs.Conditions.{free_at, FirstFree, fresh, ReadyAt, TookAt, MadeAt};
 ghost use Rattle.record_columns.specs.Layout.{record_bytes};
 
-use arc_sets::{MADE, SETS, lowest, set_at, weight};
-use machine_numbers::{wide, wide_word};
+use arc_sets::{MADE, SETS, set_at, weight};
+use bit_sets::members;
 use record_columns::{CONSUMERS, NO_EVENT, PLACES, PRODUCERS};
 use run_counts::COUNTS;
-use steps::STEP;
 
 // How far a run has come, beside the arrays that hold it: the line of the log that is next, its events and its
 // conditions, how often an event made a condition in a place that inhibits it, and how many places its events read,
@@ -33,19 +32,20 @@ pub struct Extent {
 // Where the first condition of each place that may be free stands among the counts by place.
 pub const NEXT: usize = 64;
 
-// The first condition of place p from a number on that no event has taken, or the end.
+// Whether condition i is one of place p that no event has taken.
+fn is_free(p: usize, rec: &[u8], i: usize) -> bool
+    requires { (i < 512) × (record_bytes ≤ length rec.now) }
+    ensures { result ≡ free_at p (place_column rec.now) (consumer_column rec.now) i }
+{
+    (usize::from(rec[PLACES + i]) == p) & (rec[CONSUMERS + i] == NO_EVENT)
+}
+
+// The first one from a number on, or the end.
 fn first_free(p: usize, start: usize, end: usize, rec: &[u8]) -> usize
     requires { (start ≤ end) × (end ≤ 512) × (record_bytes ≤ length rec.now) }
     ensures { FirstFree p start end (place_column rec.now) (consumer_column rec.now) result }
 {
-    let mut i = start;
-    while i < end {
-        if (wide(rec[PLACES + i]) == p) & (rec[CONSUMERS + i] == NO_EVENT) {
-            return i;
-        }
-        i += 1;
-    }
-    i
+    (start..end).find(|&i| is_free(p, rec, i)).unwrap_or(end)
 }
 
 // Event e takes the first free condition of place p among the first n.
@@ -54,7 +54,7 @@ fn take_one(e: usize, p: usize, n: usize, rec: &mut [u8], counts: &mut [u32; COU
     ensures { TookAt (flow e p ∷ []) n rec.old counts.old
         rec.new counts.new }
 {
-    let i = first_free(p, wide_word(counts[NEXT + p]), n, rec);
+    let i = first_free(p, counts[NEXT + p] as usize, n, rec);
     if n <= i {
         return;
     }
@@ -75,10 +75,8 @@ fn take_times(
     ensures { TookAt (replicate count (flow e p)) n rec.old counts.old
         rec.new counts.new }
 {
-    let mut taken: usize = 0;
-    while taken < count {
+    for _ in 0..count {
         take_one(e, p, n, rec, counts);
-        taken += 1;
     }
 }
 
@@ -95,34 +93,28 @@ fn take_event(
     ensures { TookAt (tokens_of sets.now row e 64) n rec.old counts.old
         rec.new counts.new }
 {
-    let mut bits = set_at(sets, row);
-    while bits != 0 {
-        let p = lowest(bits);
+    for p in members(set_at(sets, row)) {
         take_times(e, p, weight(sets, row, p), n, rec, counts);
-        bits = bits & (bits ^ (1 << p));
     }
 }
 
 // The events of a step, numbered behind those of the run, take from the conditions of the run, in their order.
 pub fn take_step(
-    step: &[u8; STEP],
-    count: usize,
+    step: &[u8],
     sets: &[u64; SETS],
     x: Extent,
     rec: &mut [u8],
     counts: &mut [u32; COUNTS],
 )
-    requires { (x.events + count ≤ 128) × IsStep step.now count × Within 32 sets.now
+    requires { (x.events + length step.now ≤ 128) × StepEvents step.now × Within 32 sets.now
         × ReadyAt x.conditions rec.old counts.old }
-    ensures { TookAt (taken_next sets.now step.now count x) x.conditions
+    ensures { TookAt (taken_next sets.now step.now x) x.conditions
         rec.old counts.old rec.new counts.new }
 {
     let e = x.events;
     let n = x.conditions;
-    let mut i: usize = 0;
-    while i < count {
-        take_event(e + i, sets, wide(step[i]), n, rec, counts);
-        i += 1;
+    for (i, &t) in step.iter().enumerate() {
+        take_event(e + i, sets, usize::from(t), n, rec, counts);
     }
 }
 
@@ -132,15 +124,13 @@ pub fn make_times(v: u8, p: usize, count: usize, n: usize, rec: &mut [u8]) -> us
     requires { (p < 32) × (n + count ≤ 512) × (record_bytes ≤ length rec.old) }
     ensures { MadeAt (replicate count (fresh v p)) n rec.old result rec.new }
 {
-    let mut k: usize = 0;
-    while k < count {
-        let i = n + k;
+    let end = n + count;
+    for i in n..end {
         rec[PLACES + i] = p as u8;
         rec[PRODUCERS + i] = v;
         rec[CONSUMERS + i] = NO_EVENT;
-        k += 1;
     }
-    n + count
+    end
 }
 
 // Event e makes what the arcs of a row stand for, by place.
@@ -151,34 +141,23 @@ fn make_event(e: usize, sets: &[u64; SETS], row: usize, n: usize, rec: &mut [u8]
         rec.old result rec.new }
 {
     let mut r = n;
-    let mut bits = set_at(sets, row);
-    while bits != 0 {
-        let p = lowest(bits);
+    for p in members(set_at(sets, row)) {
         r = make_times(e as u8, p, weight(sets, row, p), r, rec);
-        bits = bits & (bits ^ (1 << p));
     }
     r
 }
 
 // The events of a step, numbered behind those of the run, make theirs; how many conditions there are then.
-pub fn make_step(
-    step: &[u8; STEP],
-    count: usize,
-    sets: &[u64; SETS],
-    x: Extent,
-    rec: &mut [u8],
-) -> usize
-    requires { (x.events + count ≤ 128) × IsStep step.now count × Within 32 sets.now
-        × (x.conditions + length (made_next sets.now step.now count x) ≤ 512) × (record_bytes ≤ length rec.old) }
-    ensures { MadeAt (map made_of (made_next sets.now step.now count x)) x.conditions
+pub fn make_step(step: &[u8], sets: &[u64; SETS], x: Extent, rec: &mut [u8]) -> usize
+    requires { (x.events + length step.now ≤ 128) × StepEvents step.now × Within 32 sets.now
+        × (x.conditions + length (made_next sets.now step.now x) ≤ 512) × (record_bytes ≤ length rec.old) }
+    ensures { MadeAt (map made_of (made_next sets.now step.now x)) x.conditions
         rec.old result rec.new }
 {
     let e = x.events;
     let mut r = x.conditions;
-    let mut i: usize = 0;
-    while i < count {
-        r = make_event(e + i, sets, MADE + wide(step[i]), r, rec);
-        i += 1;
+    for (i, &t) in step.iter().enumerate() {
+        r = make_event(e + i, sets, MADE + usize::from(t), r, rec);
     }
     r
 }

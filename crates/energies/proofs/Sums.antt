@@ -12,7 +12,7 @@ use Rattle.spec.specs.Lists.{sum_of}
 use Rattle.spec.specs.Rounding.{float_of}
 use Rattle.lists.specs.Along.{sum_of-more}
 use Rattle.rounding.proofs.Whole.{add-whole}
-use Rattle.hold_up.specs.declared.EventDraw.{EventDraw}
+use Rattle.hold_up.specs.declared.Draw.{Draw}
 use Rattle.hold_up.specs.Floats.{no_draw}
 use Rattle.energies.specs.Promises.{Drawn}
 use Rattle.energies.proofs.Ranges.{draw-held, event-small, sum-small}
@@ -25,9 +25,9 @@ pub no-events : (ns events : List ℕ) → of_bits binary64 0 ≡ float_of (firs
 unfolding of_bits float_of round sum_of
 no-events ns events = refl
 
-module _ {draws : List EventDraw} {ns events : List ℕ} (d : Drawn draws ns events) where
+module _ {draws : List Draw} {ns events : List ℕ} (d : Drawn draws ns events) where
   each-small : (t : ℕ) → t < length ns → get_or ns t 0 ≤ 1000000000000
-  each-small t l = event-small (get_or draws t no_draw).draw (get_or ns t 0) (d.stand t l)
+  each-small t l = event-small (get_or draws t no_draw) (get_or ns t 0) (d.stand t l)
 
   pub all_small : sum_of (λ t. get_or ns t 0) events ≤ 128 * 1000000000000
   all_small = sum-small ns events each-small d.few

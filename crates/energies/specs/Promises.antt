@@ -9,7 +9,7 @@ use Rattle.spec.specs.Record.{RunRecord}
 use Rattle.spec.specs.Energy.{Ratings, draw_of, energies_of}
 use Rattle.spec.specs.declared.Energies.{Energies}
 use Rattle.hold_up.specs.declared.Capacitor.{Capacitor}
-use Rattle.hold_up.specs.declared.EventDraw.{EventDraw}
+use Rattle.hold_up.specs.declared.Draw.{Draw}
 use Rattle.hold_up.specs.Floats.{Stand, Holds}
 
 -- each event's transition is below n
@@ -17,17 +17,17 @@ abbrev pub Below : ℕ → List ℕ → Type 0
 Below n events = (i : ℕ) → i < length events → get_or events i 0 < n
 
 -- the draws stand for ns, and at most 128 events are of transitions that have one
-pub record Drawn (draws : List EventDraw) (ns events : List ℕ) : Type 0 where
+pub record Drawn (draws : List Draw) (ns events : List ℕ) : Type 0 where
   pub stand : Stand draws ns
   pub known : Below (length ns) events
   pub few : length events ≤ 128
 
 -- r is exactly what the events draw
-abbrev pub GivesDraw : List EventDraw → List ℕ → Float → Type 0
+abbrev pub GivesDraw : List Draw → List ℕ → Float → Type 0
 GivesDraw draws events r = (ns : List ℕ) → Drawn draws ns events → r ≡ float_of (sum_of (λ t. get_or ns t 0) events)
 
 -- r is the three energies of a capacitor with the figures k and of a record R with these events
-abbrev pub GivesEnergies : Capacitor → List EventDraw → List ℕ → Energies → Type 0
+abbrev pub GivesEnergies : Capacitor → List Draw → List ℕ → Energies → Type 0
 GivesEnergies c draws events r =
     (k : Ratings) (ns : List ℕ) (R : RunRecord) → Holds c k → Drawn draws ns events → R.events ≡ events → r ≡ energies_of k (draw_of ns R)
 

@@ -7,8 +7,7 @@ ghost use Rattle.spec.specs.Energy.{Ratings, usable_of, left_of};
 ghost use Rattle.hold_up.specs.Floats.{Stands, Holds};
 ghost use Rattle.energies.specs.Promises.{Below, NotNegative, GivesDraw, GivesEnergies};
 
-use hold_up::{Capacitor, DRAWS, Draw, EventDraw};
-use machine_numbers::wide;
+use hold_up::{Capacitor, DRAWS, Draw};
 use spec::Energies;
 
 // What one event draws: mW for ms are µJ, and the product is exact.
@@ -22,17 +21,13 @@ fn event_draw(d: Draw) -> f64
 }
 
 // What the events draw, each by its transition, summed in their order: each partial sum is exact.
-fn total_draw(draws: [EventDraw; DRAWS], events: &[u8]) -> f64
+fn total_draw(draws: &[Draw; DRAWS], events: &[u8]) -> f64
     requires { Below 32 events.now }
-    ensures { GivesDraw draws events.now result }
+    ensures { GivesDraw draws.now events.now result }
 {
     let mut sum = 0.0;
-    let mut at: usize = 0;
-    while at < events.len() {
-        let here = draws[wide(events[at])];
-        let d = here.draw;
-        sum = sum + event_draw(d);
-        at += 1;
+    for t in events {
+        sum += event_draw(draws[usize::from(*t)]);
     }
     sum
 }
@@ -54,9 +49,9 @@ fn left(usable: f64, draw: f64) -> f64
 }
 
 // The three energies, of events that are each given by its transition.
-pub fn energies_of(c: Capacitor, draws: [EventDraw; DRAWS], events: &[u8]) -> Energies
+pub fn energies_of(c: Capacitor, draws: &[Draw; DRAWS], events: &[u8]) -> Energies
     requires { Below 32 events.now }
-    ensures { GivesEnergies c draws events.now result }
+    ensures { GivesEnergies c draws.now events.now result }
 {
     let most = usable(c);
     let draw = total_draw(draws, events);

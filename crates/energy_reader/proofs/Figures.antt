@@ -3,7 +3,7 @@
 -- Assumes nothing.
 use Prim.Native.Nat.{ℕ, suc, ◌*◌}
 use Prim.Native.Char.{Char, code}
-use mathlib.Core.Path.{◌≡◌, refl, ap, ◌∙◌}
+use mathlib.Core.Path.{◌≡◌, refl, sym, ap, ◌∙◌}
 use mathlib.Core.Bool.{Bool, true, false, ◌&&◌, ◌||◌, and_assoc, and-false, cond, false≢true}
 use mathlib.Core.Option.{none, some}
 use mathlib.Core.List.{List, [], ◌∷◌, map}
@@ -17,13 +17,13 @@ use Rattle.spec.specs.Energy.{Ratings, energy_digits, is_figures, figure_at, is_
 use Rattle.spec.specs.Classes.{alike}
 use Rattle.spec.specs.declared.Class.{Class}
 use Rattle.spec.specs.declared.Class.TheVariants.{LetterK, LetterJ, LetterW, Foreign}
-use Rattle.line_forms.specs.Rows.{a_number, a_number_or_dash, absent, value_of, slot_of, letter_in, slots_of, row_of, is_one, is_two, is_three}
+use Rattle.line_forms.specs.Rows.{a_number, a_number_or_dash, absent, value_of, slot_of, letter_in, slots_of, row_of, is_one, is_two, is_three, is_triple}
 use Rattle.line_forms.specs.declared.Row.{Row}
 use Rattle.line_forms.specs.declared.Slot.{Slot}
 use Rattle.line_forms.specs.declared.Slot.TheVariants.{Number, Dash, Wrong, Absent}
 use Rattle.lines.specs.Lines.{line_of}
-use Rattle.line_forms.proofs.Ties.{number-slot, present, event-there, event-value, letter-slot}
-use Rattle.energy_reader.specs.Reads.{line_draw, line_ratings, row_draw, row_ratings, row_in}
+use Rattle.line_forms.proofs.Ties.{number-slot, present, event-there, event-value, letter-slot, triple_by_three}
+use Rattle.energy_reader.specs.Reads.{line_draw, line_ratings, figures_of, row_draw, row_ratings, row_in}
 
 -- ---- the fields of a line
 
@@ -156,3 +156,19 @@ ratings-by-row l = go l.bytes l.ended
     go : (b : List ℕ) (e : Bool) → line_ratings (line_of b e) ≡ row_ratings (row_in (line_of b e))
     go b true = ended-ratings b
     go b false = refl
+
+-- ---- three numbers as a row's test
+
+pub by-triple : (w : Row) → row_ratings w ≡ cond (is_triple LetterK w) (figures_of (value_of w.first) (value_of w.second) (value_of w.third)) none
+unfolding row_ratings
+by-triple w =
+    ap (λ b. cond b (figures_of (value_of w.first) (value_of w.second) (value_of w.third)) none)
+    (turned (a_number w.second) (a_number w.third) (is_three LetterK w) ∙ sym (triple_by_three LetterK w))
+  where
+    turned : (a b c : Bool) → (a && b && c) ≡ (c && a && b)
+    turned true true true = refl
+    turned true true false = refl
+    turned true false true = refl
+    turned true false false = refl
+    turned false b true = refl
+    turned false b false = refl

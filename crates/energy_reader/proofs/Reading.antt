@@ -19,11 +19,9 @@ use Rattle.lines.proofs.ByLines.{Running, line_taken, line_refused, lines-done}
 use Rattle.hold_up.specs.Floats.{Stands, no_draw, Holds}
 use Rattle.hold_up.specs.declared.Capacitor.{Capacitor}
 use Rattle.hold_up.specs.declared.Draw.{Draw}
-use Rattle.hold_up.specs.declared.EventDraw.{EventDraw}
-use Rattle.energy_reader.specs.Reads.{line_draw, line_ratings, Both, draw_made, capacitor_made, ReadsCapacitor, ReadsDraw, ReadsEnergy}
-use Rattle.energy_reader.specs.declared.EnergyRead.{EnergyRead}
+use Rattle.energy_reader.specs.Reads.{line_draw, line_ratings, Both, made_of, ReadsCapacitor, ReadsDraw, ReadsEnergy}
 use Rattle.energy_reader.specs.declared.EnergyRefusal.TheVariants.{WrongLine, LineCount}
-use Rattle.energy_reader.specs.declared.EnergyTextAnswer.TheVariants.{Read, Refused}
+use Rattle.std.specs.Prelude.{Ok, Err}
 use Rattle.energy_reader.specs.declared.CapacitorAt.{CapacitorAt}
 use Rattle.energy_reader.specs.declared.DrawAt.{DrawAt}
 
@@ -70,31 +68,31 @@ module _ {A B : Type 0} (P : A → B → Type 0) (x : Option A) (y : Option B) (
 -- ---- the lines so far
 
 -- the text of k - 1 lines: its capacitor and its draws are held, each draw as long as there is room
-pub record Holding (c : Capacitor) (kept : List EventDraw) (k : ℕ) (e : EnergyText) : Type 0 where
+pub record Holding (c : Capacitor) (kept : List Draw) (k : ℕ) (e : EnergyText) : Type 0 where
   pub capacitor : Holds c e.capacitor
-  pub draws : (t : ℕ) → t < length e.draws → t < 32 → Stands (get_or kept t no_draw).draw (get_or e.draws t 0)
+  pub draws : (t : ℕ) → t < length e.draws → t < 32 → Stands (get_or kept t no_draw) (get_or e.draws t 0)
   pub count : length e.draws + 2 ≡ k
 
 -- line k starts at position i, and what stands before it is held
-pub record Reading (text : List ℕ) (c : Capacitor) (kept : List EventDraw) (k i : ℕ) : Type 0 where
+pub record Reading (text : List ℕ) (c : Capacitor) (kept : List Draw) (k i : ℕ) : Type 0 where
   pub lines : Running energy_line text no_energy k i (Holding c kept k)
   pub count : k + length (lines_of (drop i text)) ≡ length (lines_of text) + 1
 
 -- a draw is stored at place i, if there is room
-pub record Stores (kept : List EventDraw) (i : ℕ) (d : Draw) (kept' : List EventDraw) : Type 0 where
+pub record Stores (kept : List Draw) (i : ℕ) (d : Draw) (kept' : List Draw) : Type 0 where
   pub long : length kept' ≡ 32
   pub old : (t : ℕ) → t < i → get_or kept' t no_draw ≡ get_or kept t no_draw
-  pub new : i < 32 → get_or kept' i no_draw ≡ record { draw = d }
+  pub new : i < 32 → get_or kept' i no_draw ≡ d
 
-module _ (kept : List EventDraw) (i : ℕ) (d : Draw) (h : length kept ≡ 32) where
-  pub stored : i < 32 → Stores kept i d (set kept i (record { draw = d }))
+module _ (kept : List Draw) (i : ℕ) (d : Draw) (h : length kept ≡ 32) where
+  pub stored : i < 32 → Stores kept i d (set kept i d)
   stored l = record { long = length-set kept i _ ∙ h; old = λ t u. get_or-set_other kept i t _ no_draw (λ e. omega arith); new = λ u. get_or-set_same kept i _ no_draw (omega arith) }
 
   pub no_room : 32 ≤ i → Stores kept i d kept
   no_room u = record { long = h; old = λ t l. refl; new = λ l. absurd (omega arith) }
 
 module _ {text : List ℕ} {r : CapacitorAt} (h : ReadsCapacitor text r) where
-  pub capacitor-read : {c : Capacitor} (kept : List EventDraw) → capacitor_made r.capacitor ≡ some c → Reading text c kept 2 r.next
+  pub capacitor-read : {c : Capacitor} (kept : List Draw) → made_of r.capacitor ≡ some c → Reading text c kept 2 r.next
   unfolding returned found
   capacitor-read {c} kept e = let m = made Holds _ (line_ratings h.found.line) h.rated _ e in record {
     lines = record {
@@ -105,22 +103,22 @@ module _ {text : List ℕ} {r : CapacitorAt} (h : ReadsCapacitor text r) where
     count = omega (arith, ap length h.found.lines);
   }
 
-  pub capacitor-no : capacitor_made r.capacitor ≡ none → by_lines energy_line 1 (lines_of text) no_energy ≡ refuses 52 1
+  pub capacitor-no : made_of r.capacitor ≡ none → by_lines energy_line 1 (lines_of text) no_energy ≡ refuses 52 1
   unfolding returned found
   capacitor-no e = line_refused energy_line 1 no_energy h.found (capacitor-said 1 h.found.line no_energy refl ∙ rw (none_made Holds _ (line_ratings h.found.line) h.rated e))
 
-module _ {text : List ℕ} {c : Capacitor} {kept : List EventDraw} {k i : ℕ} (g : Reading text c kept k i) {r : DrawAt} (h : ReadsDraw text i r) where
+module _ {text : List ℕ} {c : Capacitor} {kept : List Draw} {k i : ℕ} (g : Reading text c kept k i) {r : DrawAt} (h : ReadsDraw text i r) where
   late : 2 ≤ k
   late = omega (arith, g.lines.holds.count)
 
-  pub draw-read : {d : Draw} {kept' : List EventDraw} → draw_made r.draw ≡ some d → Stores kept (k - 2) d kept' → Reading text c kept' (k + 1) r.next
+  pub draw-read : {d : Draw} {kept' : List Draw} → made_of r.draw ≡ some d → Stores kept (k - 2) d kept' → Reading text c kept' (k + 1) r.next
   unfolding returned found
   draw-read {d} {kept'} e w = let m = made Stands _ (line_draw h.found.line) h.draws _ e in let s = g.lines.state in let b = g.lines.holds in record {
     lines = record {
       state = more s m.0;
       holds = record {
         capacitor = b.capacitor;
-        draws = index-snoc (λ t n. t < 32 → Stands (get_or kept' t no_draw).draw n) 0 s.draws m.0 (λ t l u. rw (w.old t (omega (arith, b.count))) (b.draws t l u)) (λ u. let z : k - 2 ≡ length s.draws = omega (arith, b.count) in rw (← z, w.new (omega arith)) m.2);
+        draws = index-snoc (λ t n. t < 32 → Stands (get_or kept' t no_draw) n) 0 s.draws m.0 (λ t l u. rw (w.old t (omega (arith, b.count))) (b.draws t l u)) (λ u. let z : k - 2 ≡ length s.draws = omega (arith, b.count) in rw (← z, w.new (omega arith)) m.2);
         count = omega (arith, length-append s.draws (m.0 ∷ []), b.count);
       };
       answers = g.lines.answers ∙ line_taken energy_line k s h.found (draw-said k h.found.line s late ∙ ap (λ (o : Option ℕ). returned (more s) (found 52 k o)) m.1);
@@ -128,7 +126,7 @@ module _ {text : List ℕ} {c : Capacitor} {kept : List EventDraw} {k i : ℕ} (
     count = omega (arith, ap length h.found.lines, g.count);
   }
 
-  pub draw-no : draw_made r.draw ≡ none → by_lines energy_line 1 (lines_of text) no_energy ≡ refuses 52 k
+  pub draw-no : made_of r.draw ≡ none → by_lines energy_line 1 (lines_of text) no_energy ≡ refuses 52 k
   unfolding returned found
   draw-no e = let s = g.lines.state in g.lines.answers ∙ line_refused energy_line k s h.found (draw-said k h.found.line s late ∙ rw (none_made Stands _ (line_draw h.found.line) h.draws e))
 
@@ -139,25 +137,25 @@ no_lines text i u = rw (drop_of_length-le text u, no-first)
 
 -- the lines are judged first, and then counted
 module _ (transitions : ℕ) (text : List ℕ) where
-  pub line-no : (r : EnergyRead) {k : ℕ} → r.answer ≡ Refused (WrongLine k) → by_lines energy_line 1 (lines_of text) no_energy ≡ refuses 52 k → ReadsEnergy transitions text r
+  pub line-no : {k : ℕ} → by_lines energy_line 1 (lines_of text) no_energy ≡ refuses 52 k → ReadsEnergy transitions text (Err (WrongLine k))
   unfolding read_energy ◌>>=◌
-  line-no r {k} a h N m = rw a (refusing 52 k (rw h) refl)
+  line-no {k} h N m = refusing 52 k (rw h) refl
 
-  count_no : (r : EnergyRead) {e : EnergyText} → r.answer ≡ Refused LineCount → by_lines energy_line 1 (lines_of text) no_energy ≡ gives e → (length (lines_of text) ≡ transitions + 1 → ⊥) → ReadsEnergy transitions text r
+  count_no : {e : EnergyText} → by_lines energy_line 1 (lines_of text) no_energy ≡ gives e → (length (lines_of text) ≡ transitions + 1 → ⊥) → ReadsEnergy transitions text (Err LineCount)
   unfolding read_energy ◌>>=◌ ◌>>◌ refuse◌at◌when◌
-  count_no r a g d N m = rw a (refusing 53 0 (rw (g, m, ne_eqb (length (lines_of text)) (transitions + 1) d)) refl)
+  count_no g d N m = refusing 53 0 (rw (g, m, ne_eqb (length (lines_of text)) (transitions + 1) d)) refl
 
-  pub empty-text : (r : EnergyRead) → r.answer ≡ Refused LineCount → length text ≤ 0 → ReadsEnergy transitions text r
-  empty-text r a u = count_no r a (lines-done energy_line 1 no_energy text 0 u) (λ q. omega (arith, no_lines text 0 u))
+  pub empty-text : length text ≤ 0 → ReadsEnergy transitions text (Err LineCount)
+  empty-text u = count_no (lines-done energy_line 1 no_energy text 0 u) (λ q. omega (arith, no_lines text 0 u))
 
-  module _ {c : Capacitor} {kept : List EventDraw} {k i : ℕ} (g : Reading text c kept k i) (u : length text ≤ i) where
+  module _ {c : Capacitor} {kept : List Draw} {k i : ℕ} (g : Reading text c kept k i) (u : length text ≤ i) where
     all_read : by_lines energy_line 1 (lines_of text) no_energy ≡ gives g.lines.state
     all_read = g.lines.answers ∙ lines-done energy_line k g.lines.state text i u
 
-    pub other-count : (r : EnergyRead) → r.answer ≡ Refused LineCount → (k ≡ transitions + 2 → ⊥) → ReadsEnergy transitions text r
-    other-count r a d = count_no r a all_read (λ q. d (omega (arith, g.count, no_lines text i u)))
+    pub other-count : (k ≡ transitions + 2 → ⊥) → ReadsEnergy transitions text (Err LineCount)
+    other-count d = count_no all_read (λ q. d (omega (arith, g.count, no_lines text i u)))
 
-    pub text-read : transitions ≤ 32 → k ≡ transitions + 2 → ReadsEnergy transitions text (record { answer = Read; capacitor = c; draws = kept })
+    pub text-read : transitions ≤ 32 → k ≡ transitions + 2 → ReadsEnergy transitions text (Ok (record { capacitor = c; draws = kept }))
     unfolding read_energy ◌>>=◌ ◌>>◌ refuse◌at◌when◌
     text-read l e N m =
         let b = g.lines.holds in

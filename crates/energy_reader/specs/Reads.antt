@@ -1,5 +1,5 @@
 -- What the functions of the reader promise.
-use Rattle.std.specs.Prelude.{ℕ, ◌*◌, ◌≡◌, ◌&&◌, ◌||◌, cond, List, length, leb}
+use Rattle.std.specs.Prelude.{ℕ, ◌*◌, ◌≡◌, ◌&&◌, ◌||◌, cond, List, length, leb, Option as Maybe, Some, None, Result, Ok, Err}
 use Rattle.std.proofs.Math.Option.{Option, none, some}
 use Rattle.spec.specs.Answer.{Answer, gives}
 use Rattle.spec.specs.Text.{Line}
@@ -13,20 +13,13 @@ use Rattle.lines.specs.Agree.{Agrees, refused_as}
 use Rattle.lines.specs.Lines.{LineTo}
 use Rattle.hold_up.specs.Floats.{Stands, Stand, Holds}
 use Rattle.hold_up.specs.declared.Draw.{Draw}
-use Rattle.hold_up.specs.declared.EventDraw.{EventDraw}
 use Rattle.hold_up.specs.declared.Capacitor.{Capacitor}
 use Rattle.energy_reader.specs.declared.EnergyRefusal.{EnergyRefusal}
 use Rattle.energy_reader.specs.declared.EnergyRefusal.TheVariants.{WrongLine, LineCount}
-use Rattle.energy_reader.specs.declared.EnergyTextAnswer.{EnergyTextAnswer}
-use Rattle.energy_reader.specs.declared.EnergyTextAnswer.TheVariants.{Read, Refused}
-use Rattle.energy_reader.specs.declared.MayDraw.{MayDraw}
-use Rattle.energy_reader.specs.declared.MayDraw.TheVariants.{Says, NoDraw}
-use Rattle.energy_reader.specs.declared.MayHold.{MayHold}
-use Rattle.energy_reader.specs.declared.MayHold.TheVariants.{Figures, NoFigures}
 use Rattle.energy_reader.specs.declared.RowAt.{RowAt}
 use Rattle.energy_reader.specs.declared.CapacitorAt.{CapacitorAt}
 use Rattle.energy_reader.specs.declared.DrawAt.{DrawAt}
-use Rattle.energy_reader.specs.declared.EnergyRead.{EnergyRead}
+use Rattle.energy_reader.specs.declared.EnergyText.{EnergyText as TextRead}
 
 -- ---- what a line says
 
@@ -77,21 +70,17 @@ Both P none (some b) = ⊥
 Both P none none = Unit {0}
 
 -- what was made of a line, if anything
-abbrev pub draw_made : MayDraw → Option Draw
-draw_made (Says d) = some d
-draw_made NoDraw = none
-
-abbrev pub capacitor_made : MayHold → Option Capacitor
-capacitor_made (Figures c) = some c
-capacitor_made NoFigures = none
+abbrev pub made_of : {A : Type 0} → Maybe A → Option A
+made_of (Some a) = some a
+made_of None = none
 
 -- a draw that stands for the number, if there is one
-abbrev pub Draws : MayDraw → Option ℕ → Type 0
-Draws v n = Both Stands (draw_made v) n
+abbrev pub Draws : Maybe Draw → Option ℕ → Type 0
+Draws v n = Both Stands (made_of v) n
 
 -- a capacitor with the figures, if there are any
-abbrev pub Rated : MayHold → Option Ratings → Type 0
-Rated v f = Both Holds (capacitor_made v) f
+abbrev pub Rated : Maybe Capacitor → Option Ratings → Type 0
+Rated v f = Both Holds (made_of v) f
 
 -- ---- the line that starts at a position, where the next one starts at `next`
 
@@ -114,22 +103,27 @@ abbrev pub refusal_of : EnergyRefusal → ℕ × ℕ
 refusal_of (WrongLine k) = (52, k)
 refusal_of LineCount = (53, 0)
 
-abbrev pub answer_of : EnergyTextAnswer → Answer (Unit {0})
-answer_of Read = gives tt
-answer_of (Refused x) = refused_as (refusal_of x)
+abbrev pub answer_of : Result TextRead EnergyRefusal → Answer (Unit {0})
+answer_of (Ok t) = gives tt
+answer_of (Err x) = refused_as (refusal_of x)
 
 -- nothing is returned of a text beside the capacitor and the draws
 abbrev pub no_values : EnergyText → Unit {0}
 no_values e = tt
 
 -- the capacitor and the draws are those of the text, a draw for each transition
-pub record HoldsText (transitions : ℕ) (c : Capacitor) (ds : List EventDraw) (e : EnergyText) : Type 0 where
+pub record HoldsText (transitions : ℕ) (c : Capacitor) (ds : List Draw) (e : EnergyText) : Type 0 where
   pub capacitor : Holds c e.capacitor
   pub draws : Stand ds e.draws
   pub count : length e.draws ≡ transitions
 
--- the answer is the paper's beside any net with so many transitions, and where it is Read, what was read is the text's
-abbrev pub ReadsEnergy : ℕ → List ℕ → EnergyRead → Type 0
+-- what was read is the text's
+abbrev pub HoldsRead : ℕ → Result TextRead EnergyRefusal → EnergyText → Type 0
+HoldsRead transitions (Ok t) e = HoldsText transitions t.capacitor t.draws e
+HoldsRead transitions (Err x) e = ⊥
+
+-- the answer is the paper's beside any net with so many transitions, and where a text was read, it is that text
+abbrev pub ReadsEnergy : ℕ → List ℕ → Result TextRead EnergyRefusal → Type 0
 ReadsEnergy transitions text r =
     (N : Net) → N.transitions ≡ transitions
-    → Agrees no_values (answer_of r.answer) (HoldsText transitions r.capacitor r.draws) (read_energy N text)
+    → Agrees no_values (answer_of r) (HoldsRead transitions r) (read_energy N text)

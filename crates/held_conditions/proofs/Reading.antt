@@ -42,10 +42,6 @@ module _ (rec ks : List ℕ) (p e c : ℕ) where
   unfolding held_at
   held-later d q t = rw (ne_eqb (producer_in rec c) 128 d, sym q ∙ t)
 
--- one more that does not pass
-pub none_more : (q : ℕ → Bool) (start i : ℕ) → ((j : ℕ) → start ≤ j → j < i → q j ≡ false) → q i ≡ false → (j : ℕ) → start ≤ j → j < i + 1 → q j ≡ false
-none_more q start i h t j l m = elim (ℕ_discrete j i) [ yes e ↦ ap q e ∙ t | no d ↦ h j l (omega arith) ]
-
 -- ---- what is not left did not hold
 
 pub not-held : (rec ks : List ℕ) (p e c : ℕ) → left_at rec ks p e c ≡ false → held_at rec ks p e c ≡ false

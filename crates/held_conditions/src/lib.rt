@@ -3,85 +3,85 @@
 #![tactic(auto)]
 
 ghost use Rattle.std.specs.Prelude.{◌≡◌, ◌≤◌, ◌<◌, length};
-ghost use Rattle.record_columns.specs.Layout.{conditions_most, record_bytes};
+ghost use Rattle.record_columns.specs.Layout.{conditions_most};
 ghost use Rattle.condition_sets.specs.Sets.{InPlaces};
-ghost use Rattle.held_conditions.specs.Held.{earlier_at, consumer_in, producer_in, Coded, left_at, held_at};
+ghost use Rattle.held_conditions.specs.Held.{earlier_at, left_at, held_at};
 ghost use Rattle.held_conditions.specs.Held.{FirstOf, Joins, Passed, Readable, ReadsPlace, ReadsOf};
 
-use arc_sets::lowest;
+use bit_sets::members;
 use condition_sets::{SET, WORD};
-use machine_numbers::{wide, wide_half};
 use record_columns::{CONSUMERS, EVENTS, NO_EVENT, PLACES, PRODUCERS};
 
 // A condition for each place: those of the place before it were consumed.
 pub const NEXTS: usize = 32;
 
-// Whether a condition's producer or consumer is an event of an earlier step than event e.
-pub fn earlier(end: u8, steps: &[u8; EVENTS], e: usize) -> bool
-    requires { (e < 128) × (end ≤ 128) }
-    ensures { result ≡ earlier_at steps.now e end }
-{
-    if end == NO_EVENT {
-        return false;
-    }
-    steps[end as usize] < steps[e]
+// The moment when the step of an event begins, in a run whose history a record's bytes hold, with the steps of its events.
+#[derive(Clone, Copy)]
+pub struct Moment<'a> {
+    pub rec: &'a [u8],
+    pub steps: &'a [u8; EVENTS],
+    pub event: usize,
+    pub conditions: usize,
+    pub ghost readable: { Readable rec.now event conditions },
 }
 
-// Whether condition c is of place p and was not consumed in an earlier step than that of event e.
-fn left(rec: &[u8], steps: &[u8; EVENTS], p: usize, e: usize, c: usize) -> bool
-    requires { (e < 128) × (c < conditions_most) × (record_bytes ≤ length rec.now) × (consumer_in rec.now c ≤ 128) }
-    ensures { result ≡ left_at rec.now steps.now p e c }
-{
-    if wide(rec[PLACES + c]) == p {
-        return !earlier(rec[CONSUMERS + c], steps, e);
-    }
-    false
-}
-
-// Whether it held when the step of event e began: it was produced in an earlier step, if at all, and consumed in none.
-fn held(rec: &[u8], steps: &[u8; EVENTS], p: usize, e: usize, c: usize) -> bool
-    requires { (e < 128) × (c < conditions_most) × (record_bytes ≤ length rec.now)
-        × (consumer_in rec.now c ≤ 128) × (producer_in rec.now c ≤ 128) }
-    ensures { result ≡ held_at rec.now steps.now p e c }
-{
-    let producer = rec[PRODUCERS + c];
-    if producer == NO_EVENT {
-        return left(rec, steps, p, e, c);
-    }
-    if earlier(producer, steps, e) {
-        return left(rec, steps, p, e, c);
-    }
-    false
-}
-
-// The first condition of place p from a number on that was not consumed in an earlier step, or n.
-fn first_left(rec: &[u8], steps: &[u8; EVENTS], p: usize, e: usize, start: usize, n: usize) -> usize
-    requires { (e < 128) × (start ≤ n) × (n ≤ conditions_most) × (record_bytes ≤ length rec.now) × Coded rec.now n }
-    ensures { FirstOf (left_at rec.now steps.now p e) start n result }
-{
-    let mut c = start;
-    while c < n {
-        if left(rec, steps, p, e, c) {
-            return c;
+impl Moment<'_> {
+    // Whether a condition's producer or consumer is an event of an earlier step.
+    pub fn earlier(&self, end: u8) -> bool
+        requires { end ≤ 128 }
+        ensures { result ≡ earlier_at self.now.steps.now self.now.event end }
+    {
+        if end == NO_EVENT {
+            return false;
         }
-        c += 1;
+        self.steps[end as usize] < self.steps[self.event]
     }
-    c
-}
 
-// The first one that held, or n.
-fn first_held(rec: &[u8], steps: &[u8; EVENTS], p: usize, e: usize, start: usize, n: usize) -> usize
-    requires { (e < 128) × (start ≤ n) × (n ≤ conditions_most) × (record_bytes ≤ length rec.now) × Coded rec.now n }
-    ensures { FirstOf (held_at rec.now steps.now p e) start n result }
-{
-    let mut c = start;
-    while c < n {
-        if held(rec, steps, p, e, c) {
-            return c;
+    // Whether condition c is of place p and was not consumed in an earlier step.
+    fn left(&self, p: usize, c: usize) -> bool
+        requires { c < self.now.conditions }
+        ensures { result ≡ left_at self.now.rec.now self.now.steps.now p self.now.event c }
+    {
+        if usize::from(self.rec[PLACES + c]) == p {
+            return !self.earlier(self.rec[CONSUMERS + c]);
         }
-        c += 1;
+        false
     }
-    c
+
+    // Whether it held: it was produced in an earlier step, if at all, and consumed in none.
+    fn held(&self, p: usize, c: usize) -> bool
+        requires { c < self.now.conditions }
+        ensures { result ≡ held_at self.now.rec.now self.now.steps.now p self.now.event c }
+    {
+        let producer = self.rec[PRODUCERS + c];
+        if producer == NO_EVENT {
+            return self.left(p, c);
+        }
+        if self.earlier(producer) {
+            return self.left(p, c);
+        }
+        false
+    }
+
+    // The first condition of place p from a number on that was not consumed in an earlier step, or how many there are.
+    fn first_left(&self, p: usize, start: usize) -> usize
+        requires { start ≤ self.now.conditions }
+        ensures { FirstOf (left_at self.now.rec.now self.now.steps.now p self.now.event) start self.now.conditions result }
+    {
+        (start..self.conditions)
+            .find(|&c| self.left(p, c))
+            .unwrap_or(self.conditions)
+    }
+
+    // The first one that held, or how many there are.
+    fn first_held(&self, p: usize, start: usize) -> usize
+        requires { start ≤ self.now.conditions }
+        ensures { FirstOf (held_at self.now.rec.now self.now.steps.now p self.now.event) start self.now.conditions result }
+    {
+        (start..self.conditions)
+            .find(|&c| self.held(p, c))
+            .unwrap_or(self.conditions)
+    }
 }
 
 // Condition c joins a set.
@@ -93,49 +93,30 @@ fn join(reads: &mut [u64; SET], c: usize)
     reads[w] = reads[w] | (1 << (c % WORD));
 }
 
-// The condition of place p that event e reads joins a set. The search starts where an earlier one showed that nothing
-// before it is left, and steps only ascend.
-fn read_place(
-    reads: &mut [u64; SET],
-    nexts: &mut [u16; NEXTS],
-    rec: &[u8],
-    steps: &[u8; EVENTS],
-    p: usize,
-    e: usize,
-    n: usize,
-)
-    requires { (p < 32) × (length reads.old ≡ 8) × Readable rec.now e n
-        × Passed rec.now steps.now e n nexts.old }
-    ensures { ReadsPlace rec.now steps.now p e n reads.old reads.new
-        × Passed rec.now steps.now e n nexts.new }
+// The condition of place p that the event of a moment reads joins a set. The search starts where an earlier one showed that
+// nothing before it is left, and steps only ascend.
+fn read_place(reads: &mut [u64; SET], nexts: &mut [u16; NEXTS], m: &Moment, p: usize)
+    requires { (p < 32) × (length reads.old ≡ 8) × Passed m.now.rec.now m.now.steps.now m.now.event m.now.conditions nexts.old }
+    ensures { ReadsPlace m.now.rec.now m.now.steps.now p m.now.event m.now.conditions reads.old reads.new
+        × Passed m.now.rec.now m.now.steps.now m.now.event m.now.conditions nexts.new }
 {
-    let start = first_left(rec, steps, p, e, wide_half(nexts[p]), n);
+    let start = m.first_left(p, usize::from(nexts[p]));
     nexts[p] = start as u16;
-    let c = first_held(rec, steps, p, e, start, n);
-    if c < n {
+    let c = m.first_held(p, start);
+    if c < m.conditions {
         join(reads, c);
     }
 }
 
-// The set of the conditions that event e reads, in the places of a set.
-pub fn reads_of(
-    nexts: &mut [u16; NEXTS],
-    places: u64,
-    rec: &[u8],
-    steps: &[u8; EVENTS],
-    e: usize,
-    n: usize,
-) -> [u64; SET]
-    requires { InPlaces places × Readable rec.now e n × Passed rec.now steps.now e n nexts.old }
-    ensures { ReadsOf rec.now steps.now places e n result
-        × Passed rec.now steps.now e n nexts.new }
+// The set of the conditions that the event of a moment reads, in the places of a set.
+pub fn reads_of(nexts: &mut [u16; NEXTS], places: u64, m: &Moment) -> [u64; SET]
+    requires { InPlaces places × Passed m.now.rec.now m.now.steps.now m.now.event m.now.conditions nexts.old }
+    ensures { ReadsOf m.now.rec.now m.now.steps.now places m.now.event m.now.conditions result
+        × Passed m.now.rec.now m.now.steps.now m.now.event m.now.conditions nexts.new }
 {
     let mut reads = [0u64; SET];
-    let mut bits = places;
-    while bits != 0 {
-        let p = lowest(bits);
-        read_place(&mut reads, nexts, rec, steps, p, e, n);
-        bits = bits & (bits ^ (1 << p));
+    for p in members(places) {
+        read_place(&mut reads, nexts, m, p);
     }
     reads
 }

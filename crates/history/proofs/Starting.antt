@@ -1,11 +1,11 @@
 -- The history before the first step.
-use Prim.Native.Nat.{ℕ, suc, ◌+◌, ◌-◌, ◌≤◌, ◌<◌}
+use Prim.Native.Nat.{ℕ, suc, ◌+◌, ◌≤◌, ◌<◌}
 use mathlib.Core.Path.{◌≡◌, refl, sym, ap, ap₂, ◌∙◌}
 use mathlib.Core.Option.{none}
 use mathlib.Core.List.{List, [], ◌∷◌, ◌++◌, append-nil, append_assoc}
 use native.Mathlib.Omega.{arith}
-use lib.ListN.{length, get_or, take, drop, replicate}
-use lib.Seq.{take-add, length-take-le}
+use lib.ListN.{length, get_or, take, drop, replicate, take-append-drop}
+use lib.Seq.{length-take-le}
 use Rattle.spec.specs.Lists.{from, up_to, sum}
 use Rattle.spec.specs.Record.{Condition}
 use Rattle.spec.specs.Building.{initial_of}
@@ -38,18 +38,16 @@ module _ (ks : List ℕ) (p v : ℕ) (l : p < length ks) (e : v ≡ get_or ks p 
       ∙ ap₂ (λ (x y : ℕ). initial_of 0 (take p ks) ++ replicate x (fresh 128 y)) (sym e) (omega (arith, length-take-le p ks (omega arith)))
       )
 
-  pub initial-fits : (m : ℕ) → p < m → m ≤ length ks → length (initial_of 0 (take p ks)) + v ≤ sum (take m ks)
+  pub initial-fits : length (initial_of 0 (take p ks)) + v ≤ sum ks
   unfolding sum
-  initial-fits m h q =
-      let d : m ≡ p + 1 + (m - (p + 1)) = omega arith in
-      omega (
-        arith,
-        initial-length 0 (take p ks),
-        ap sum (take_more 0 ks p l),
-        sum-append (take p ks) (get_or ks p 0 ∷ []),
-        sum-append (take (p + 1) ks) (take (m - (p + 1)) (drop (p + 1) ks)),
-        ap sum (ap (λ (z : ℕ). take z ks) d ∙ take-add (p + 1) (m - (p + 1)) ks),
-      )
+  initial-fits = omega (
+    arith,
+    initial-length 0 (take p ks),
+    ap sum (take_more 0 ks p l),
+    sum-append (take p ks) (get_or ks p 0 ∷ []),
+    sum-append (take (p + 1) ks) (drop (p + 1) ks),
+    ap sum (take-append-drop (p + 1) ks),
+  )
 
 pub starts : {tokens rec rec' steps next : List ℕ} {r : ℕ} → sum tokens ≤ 512 → 1664 ≤ length rec → length steps ≡ 128 → length next ≡ 32 → ((p : ℕ) → get_or next p 0 ≡ 0)
     → MadeAt (initial_of 0 tokens) 0 rec r rec' → Starts tokens (history_at 0 r rec' steps next)

@@ -3,7 +3,7 @@
 
 ghost use Rattle.std.specs.Prelude.{◌≡◌, ◌+◌, ◌≤◌, ◌<◌, length, take};
 ghost use Rattle.arc_sets.specs.Sets.{Within};
-ghost use Rattle.steps.specs.StepArrays.{step_long, IsStep};
+ghost use Rattle.run_counts.specs.Tally.{StepEvents};
 ghost use Rattle.spec.specs.Lists.{sum};
 ghost use Rattle.spec.specs.Building.{initial_of};
 ghost use Rattle.conditions.specs.Conditions.{made_next, MadeAt};
@@ -12,54 +12,41 @@ ghost use Rattle.record_columns.specs.Layout.{record_bytes};
 
 use arc_sets::SETS;
 use conditions::{Extent, make_step, make_times, take_step};
-use machine_numbers::wide_half;
 use net::TOKENS;
 use record_columns::{EVENTS, NO_EVENT};
 use run_counts::COUNTS;
-use steps::STEP;
 
 // The events of step k are put behind the first n.
-fn add_events(
-    k: usize,
-    step: &[u8; STEP],
-    count: usize,
-    n: usize,
-    rec: &mut [u8],
-    steps: &mut [u8; EVENTS],
-)
-    requires { (k < 256) × (n + count ≤ 128) × (length step.now ≡ step_long)
+fn add_events(k: usize, step: &[u8], n: usize, rec: &mut [u8], steps: &mut [u8; EVENTS])
+    requires { (k < 256) × (n + length step.now ≤ 128)
         × (record_bytes ≤ length rec.old) × (length steps.old ≡ 128) }
-    ensures { AddedAt k (take count step.now) n rec.old steps.old
-        (n + count) rec.new steps.new }
+    ensures { AddedAt k step.now n rec.old steps.old
+        (n + length step.now) rec.new steps.new }
 {
-    let mut i: usize = 0;
-    while i < count {
-        let at = n + i;
-        rec[at] = step[i];
-        steps[at] = k as u8;
-        i += 1;
+    for (i, &t) in step.iter().enumerate() {
+        rec[n + i] = t;
+        steps[n + i] = k as u8;
     }
 }
 
 // The history after a step, in the lent arrays; how many conditions it has.
 pub fn grow(
-    step: &[u8; STEP],
-    count: usize,
+    step: &[u8],
     sets: &[u64; SETS],
     x: Extent,
     rec: &mut [u8],
     steps: &mut [u8; EVENTS],
     counts: &mut [u32; COUNTS],
 ) -> usize
-    requires { IsStep step.now count × Within 32 sets.now
-        × Growable count (length (made_next sets.now step.now count x)) x rec.old steps.old counts.old }
-    ensures { GrownAt (take count step.now) count sets.now x
+    requires { StepEvents step.now × Within 32 sets.now
+        × Growable (length step.now) (length (made_next sets.now step.now x)) x rec.old steps.old counts.old }
+    ensures { GrownAt step.now (length step.now) sets.now x
         rec.old steps.old counts.old
         result rec.new steps.new counts.new }
 {
-    add_events(x.line, step, count, x.events, rec, steps);
-    take_step(step, count, sets, x, rec, counts);
-    make_step(step, count, sets, x, rec)
+    add_events(x.line, step, x.events, rec, steps);
+    take_step(step, sets, x, rec, counts);
+    make_step(step, sets, x, rec)
 }
 
 // The conditions of the initial marking, by place; how many there are.
@@ -69,10 +56,8 @@ pub fn start(tokens: &[u16; TOKENS], m: usize, rec: &mut [u8]) -> usize
     ensures { MadeAt (initial_of 0 (take m tokens.now)) 0 rec.old result rec.new }
 {
     let mut r: usize = 0;
-    let mut p: usize = 0;
-    while p < m {
-        r = make_times(NO_EVENT, p, wide_half(tokens[p]), r, rec);
-        p += 1;
+    for (p, &count) in tokens[..m].iter().enumerate() {
+        r = make_times(NO_EVENT, p, usize::from(count), r, rec);
     }
     r
 }

@@ -5,7 +5,6 @@ use Rattle.spec.specs.Rounding.{float_of}
 use Rattle.spec.specs.Energy.{Ratings}
 use Rattle.hold_up.specs.declared.Draw.{Draw}
 use Rattle.hold_up.specs.declared.Draw.TheVariants.{Pulse, Load}
-use Rattle.hold_up.specs.declared.EventDraw.{EventDraw}
 use Rattle.hold_up.specs.declared.Capacitor.{Capacitor}
 
 -- a load of `power` mW for `time` ms, which takes n µJ
@@ -24,12 +23,12 @@ Stands (Pulse x) n = (x ≡ float_of n) × (n ≤ 1000000)
 Stands (Load x y) n = LoadOf x y n
 
 -- beyond the last transition
-abbrev pub no_draw : EventDraw
-no_draw = record { draw = Pulse nan }
+abbrev pub no_draw : Draw
+no_draw = Pulse nan
 
 -- the draws of transitions stand for these numbers, one for each
-abbrev pub Stand : List EventDraw → List ℕ → Type 0
-Stand draws ns = (t : ℕ) → t < length ns → Stands (get_or draws t no_draw).draw (get_or ns t 0)
+abbrev pub Stand : List Draw → List ℕ → Type 0
+Stand draws ns = (t : ℕ) → t < length ns → Stands (get_or draws t no_draw) (get_or ns t 0)
 
 -- a capacitor with these figures, in their ranges
 pub record Holds (c : Capacitor) (r : Ratings) : Type 0 where

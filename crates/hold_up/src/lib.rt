@@ -24,12 +24,6 @@ pub enum Draw {
     Load(f64, f64),
 }
 
-// The same in an array with one for each transition: a struct can have an array of structs as a field, and none of enums.
-#[derive(Clone, Copy)]
-pub struct EventDraw {
-    pub draw: Draw,
-}
-
 // A whole number that a float can hold.
 fn float_of(n: usize) -> f64
     requires { n ≤ 2 ^ 53 }

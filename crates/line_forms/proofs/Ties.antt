@@ -19,6 +19,7 @@ use Rattle.spec.specs.Forms.{number, number_or_dash, has_letter, fields_of, is_o
 use Rattle.spec.specs.declared.Class.{Class}
 use Rattle.spec.specs.declared.Class.TheVariants.{Foreign}
 use Rattle.line_forms.specs.Rows.{a_number, a_number_or_dash, absent, value_of, event_of, slot_of, letter_of, letter_in, slots_of, row_of, is_alone, is_one, is_two, is_triple, is_three, is_list, values_of}
+use Rattle.line_forms.specs.declared.Row.{Row}
 use Rattle.line_forms.specs.declared.Slot.{Slot}
 use Rattle.line_forms.specs.declared.Slot.TheVariants.{Number, Dash, Wrong, Absent}
 
@@ -80,6 +81,30 @@ letter-slot k h p = go (eqb (length p) 1)
     go : (t : Bool) → (t && alike (class_of (get_or p 0 0)) k) ≡ alike (cond t (class_of (get_or p 0 0)) Foreign) k
     go true = refl
     go false = sym h
+
+-- ---- a row
+
+-- three numbers are a number and two that can be dashes, neither of which is
+pub triple_by_three : (k : Class) (r : Row) → is_triple k r ≡ (is_three k r && a_number r.second && a_number r.third)
+unfolding is_triple is_three
+triple_by_three k r = go (alike r.letter k && a_number r.first) r.second r.third (absent r.fourth)
+  where
+    go : (x : Bool) (s t : Slot) (d : Bool) → (x && a_number s && a_number t && d) ≡ ((x && a_number_or_dash s && a_number_or_dash t && d) && a_number s && a_number t)
+    go false s t d = refl
+    go true (Number n) (Number m) true = refl
+    go true (Number n) (Number m) false = refl
+    go true (Number n) Dash true = refl
+    go true (Number n) Dash false = refl
+    go true (Number n) Wrong d = refl
+    go true (Number n) Absent d = refl
+    go true Dash (Number m) true = refl
+    go true Dash (Number m) false = refl
+    go true Dash Dash true = refl
+    go true Dash Dash false = refl
+    go true Dash Wrong d = refl
+    go true Dash Absent d = refl
+    go true Wrong t d = refl
+    go true Absent t d = refl
 
 -- ---- the fields of a line
 

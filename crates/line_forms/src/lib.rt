@@ -4,7 +4,6 @@
 ghost use Rattle.std.specs.Prelude.{◌≡◌};
 ghost use Rattle.line_forms.specs.Rows.{a_number, a_number_or_dash, absent, value_of, is_alone, is_one, is_two, is_triple, is_three};
 
-use byte_classes::alike;
 use spec::Class;
 
 // What stands in a field of a line. Wrong is neither a number nor a dash; Absent stands beyond the last field.
@@ -29,34 +28,19 @@ pub struct Row {
 pub fn a_number(f: Slot) -> bool
     ensures { result ≡ a_number f }
 {
-    match f {
-        Slot::Number(_) => true,
-        Slot::Dash => false,
-        Slot::Wrong => false,
-        Slot::Absent => false,
-    }
+    matches!(f, Slot::Number(_))
 }
 
 fn a_number_or_dash(f: Slot) -> bool
     ensures { result ≡ a_number_or_dash f }
 {
-    match f {
-        Slot::Number(_) => true,
-        Slot::Dash => true,
-        Slot::Wrong => false,
-        Slot::Absent => false,
-    }
+    matches!(f, Slot::Number(_) | Slot::Dash)
 }
 
 fn absent(f: Slot) -> bool
     ensures { result ≡ absent f }
 {
-    match f {
-        Slot::Number(_) => false,
-        Slot::Dash => false,
-        Slot::Wrong => false,
-        Slot::Absent => true,
-    }
+    matches!(f, Slot::Absent)
 }
 
 // The number in a slot, and 0 where there is none.
@@ -65,66 +49,53 @@ pub fn number_in(f: Slot) -> usize
 {
     match f {
         Slot::Number(n) => n,
-        Slot::Dash => 0,
-        Slot::Wrong => 0,
-        Slot::Absent => 0,
+        _ => 0,
     }
 }
 
+// A function for each form, as the definitions spell it: a row's fields have names, so that a count of them as a parameter
+// reads no plainer.
+
 // The letter alone.
+#[tactic(auto, using(byte_classes::proofs::Tabulated::equal_alike), unfolding(crate::specs::Rows::is_alone))]
 pub fn is_alone(k: Class, r: Row) -> bool
     ensures { result ≡ is_alone k r }
 {
-    let letter = r.letter;
-    let first = r.first;
-    alike(letter, k) & absent(first)
+    r.letter == k && absent(r.first)
 }
 
 // The letter and a number.
+#[tactic(auto, using(byte_classes::proofs::Tabulated::equal_alike), unfolding(crate::specs::Rows::is_one))]
 pub fn is_one(k: Class, r: Row) -> bool
     ensures { result ≡ is_one k r }
 {
-    let letter = r.letter;
-    let first = r.first;
-    let second = r.second;
-    alike(letter, k) & a_number(first) & absent(second)
+    r.letter == k && a_number(r.first) && absent(r.second)
 }
 
 // The letter and two numbers.
+#[tactic(auto, using(byte_classes::proofs::Tabulated::equal_alike), unfolding(crate::specs::Rows::is_two))]
 pub fn is_two(k: Class, r: Row) -> bool
     ensures { result ≡ is_two k r }
 {
-    let letter = r.letter;
-    let first = r.first;
-    let second = r.second;
-    let third = r.third;
-    alike(letter, k) & a_number(first) & a_number(second) & absent(third)
-}
-
-// The letter and three numbers.
-pub fn is_triple(k: Class, r: Row) -> bool
-    ensures { result ≡ is_triple k r }
-{
-    let letter = r.letter;
-    let first = r.first;
-    let second = r.second;
-    let third = r.third;
-    let fourth = r.fourth;
-    alike(letter, k) & a_number(first) & a_number(second) & a_number(third) & absent(fourth)
+    r.letter == k && a_number(r.first) && a_number(r.second) && absent(r.third)
 }
 
 // The letter, a number, and two that can be dashes.
+#[tactic(auto, using(byte_classes::proofs::Tabulated::equal_alike), unfolding(crate::specs::Rows::is_three))]
 pub fn is_three(k: Class, r: Row) -> bool
     ensures { result ≡ is_three k r }
 {
-    let letter = r.letter;
-    let first = r.first;
-    let second = r.second;
-    let third = r.third;
-    let fourth = r.fourth;
-    alike(letter, k)
-        & a_number(first)
-        & a_number_or_dash(second)
-        & a_number_or_dash(third)
-        & absent(fourth)
+    r.letter == k
+        && a_number(r.first)
+        && a_number_or_dash(r.second)
+        && a_number_or_dash(r.third)
+        && absent(r.fourth)
+}
+
+// The letter and three numbers.
+#[tactic(auto, using(crate::proofs::Ties::triple_by_three))]
+pub fn is_triple(k: Class, r: Row) -> bool
+    ensures { result ≡ is_triple k r }
+{
+    is_three(k, r) && a_number(r.second) && a_number(r.third)
 }

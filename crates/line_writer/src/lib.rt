@@ -12,7 +12,7 @@ use record_columns::NO_EVENT;
 use spec::MarkKind;
 use writing::{put_byte, put_next};
 
-// A comma, and the producer or consumer behind it: 128 stands for no event.
+// A comma, and the producer or consumer behind it, by its byte in a column of fixed memory: 128 stands for no event.
 fn put_end(out: &mut [u8], at: usize, v: u8) -> usize
     requires { at + length (fields_bytes (event_field (decoded v) ∷ [])) ≤ length out.old }
     ensures { Wrote out.old at (fields_bytes (event_field (decoded v) ∷ [])) result out.new }
@@ -46,6 +46,7 @@ pub fn put_condition(out: &mut [u8], at: usize, place: u8, producer: u8, consume
     put_byte(out, end, 10)
 }
 
+// The letter of a kind. Not a From: MarkKind is of a crate below, and this is the one use.
 fn letter(x: MarkKind) -> u8
     ensures { result ≡ letter_of x }
 {

@@ -4,10 +4,9 @@
 ghost use Rattle.std.specs.Prelude.{◌≡◌, ◌+◌, ◌<◌, ◌≤◌, max, length};
 ghost use Rattle.spec.specs.declared.Class.TheVariants.{Return};
 ghost use Rattle.byte_entries.specs.Entries.{code_of};
-ghost use Rattle.byte_classes.specs.Table.{byte_table};
-ghost use Rattle.lines.specs.Lines.{end_from, span_to, RawLineAt, LineAt, past_by, EndedTo, opening_of, opens_with};
+ghost use Rattle.lines.specs.Lines.{end_from, RawLineAt, LineAt, past_by, EndedTo, opening_of, opens_with};
 
-use byte_classes::{byte_table, end_of, entry_of};
+use byte_classes::{Table, byte_table};
 use byte_entries::{COMMA, FOREIGN, LINE_END, RETURN};
 
 // A line of a text: it ends before `end`, and the next one starts at `next`.
@@ -20,64 +19,39 @@ pub struct Span {
 
 // ---- a reading position
 
-// It belongs to one text and moves forward only. The borrow checker covers no function over a struct that holds a
-// reference, so `reader_at`, `line_end` and `moved` are thin and proved by hand, and so is `raw_line_at` right above them;
-// `find_end`, `later` and `span_of` do the work, on a slice and numbers.
+// It belongs to one text and moves forward only.
 #[derive(Clone, Copy)]
 pub struct Reader<'a> {
     pub text: &'a [u8],
     pub at: usize,
 }
 
-// Where the line ends that starts at a place. The table is made here, since none comes with a reader: lines in their form
-// do not come this way.
-fn find_end(s: &[u8], at: usize) -> usize
-    requires { at ≤ length s.now }
-    ensures { (result ≡ end_from s.now at) × (result ≤ length s.now) }
-{
-    let table = byte_table();
-    end_of(&table, LINE_END, s, at)
-}
-
-// The later of two places.
-fn later(at: usize, to: usize) -> usize
-    ensures { (result ≡ max at to) × (at ≤ result) }
-{
-    if at < to { to } else { at }
-}
-
-// A line by its end and where the next one starts.
-fn span_of(s: &[u8], end: usize, next: usize) -> Span
-    ensures { result ≡ span_to s.now end next }
-{
-    Span {
-        end,
-        next,
-        ended: end < s.len(),
+impl<'a> Reader<'a> {
+    // At a place of a text.
+    pub fn new(text: &'a [u8], at: usize) -> Reader<'a>
+        ensures { (result.text ≡ text.entry) × (result.at ≡ at) }
+    {
+        Reader { text, at }
     }
-}
 
-// At a place of a text.
-pub fn reader_at<'a>(text: &'a [u8], at: usize) -> Reader<'a>
-    ensures { (result.text ≡ text.entry) × (result.at ≡ at) }
-{
-    Reader { text, at }
-}
+    // Where the line ends at which the reader stands. The table is made here, since none comes with a reader: lines in
+    // their form do not come this way.
+    pub fn line_end(self) -> usize
+        requires { self.at ≤ length self.text.now }
+        ensures { (result ≡ end_from self.entry.text.now self.entry.at) × (result ≤ length self.entry.text.now) }
+    {
+        byte_table().end_of(LINE_END, self.text, self.at)
+    }
 
-// Where the line ends at which the reader stands.
-pub fn line_end<'a>(r: Reader<'a>) -> usize
-    requires { r.at ≤ length r.text.now }
-    ensures { (result ≡ end_from r.entry.text.now r.entry.at) × (result ≤ length r.entry.text.now) }
-{
-    find_end(r.text, r.at)
-}
-
-// The same text, and a place that is no earlier.
-pub fn moved<'a>(r: Reader<'a>, to: usize) -> Reader<'a>
-    ensures { (result.text ≡ r.entry.text) × (result.at ≡ max r.entry.at to) × (r.entry.at ≤ result.at) }
-{
-    let at = later(r.at, to);
-    Reader { text: r.text, at }
+    // The same text, and a place that is no earlier.
+    pub fn moved(self, to: usize) -> Reader<'a>
+        ensures { (result.text ≡ self.entry.text) × (result.at ≡ max self.entry.at to) × (self.entry.at ≤ result.at) }
+    {
+        Reader {
+            text: self.text,
+            at: self.at.max(to),
+        }
+    }
 }
 
 // What starts at a position up to the next byte 10: a reader stands there, sees where the line ends, and moves past that
@@ -86,17 +60,20 @@ fn raw_line_at(s: &[u8], at: usize) -> Span
     requires { at < length s.now }
     ensures { RawLineAt s.now at result }
 {
-    let here = reader_at(s, at);
-    let end = line_end(here);
-    let past = moved(here, end + 1);
-    span_of(s, end, past.at)
+    let here = Reader::new(s, at);
+    let end = here.line_end();
+    Span {
+        end,
+        next: here.moved(end + 1).at,
+        ended: end < s.len(),
+    }
 }
 
 // ---- line endings: byte 10, or 13 and 10
 
 // The line that starts at a position. A byte 13 in front of its byte 10 belongs to the ending.
-pub fn line_at(table: &[u8; 256], s: &[u8], at: usize) -> Span
-    requires { (table.now ≡ byte_table) × (at < length s.now) }
+pub fn line_at(table: &Table, s: &[u8], at: usize) -> Span
+    requires { at < length s.now }
     ensures { LineAt s.now at result }
 {
     let raw = raw_line_at(s, at);
@@ -104,7 +81,7 @@ pub fn line_at(table: &[u8; 256], s: &[u8], at: usize) -> Span
     if !raw.ended | (end <= at) {
         return raw;
     }
-    if entry_of(table, s[end - 1]) != RETURN {
+    if table.entry_of(s[end - 1]) != RETURN {
         return raw;
     }
     Span {
@@ -115,8 +92,8 @@ pub fn line_at(table: &[u8; 256], s: &[u8], at: usize) -> Span
 }
 
 // Where the next line starts if an ending stands at a position, of which the entry is known; else the position.
-pub fn past_ending(table: &[u8; 256], s: &[u8], entry: u8, at: usize) -> usize
-    requires { (table.now ≡ byte_table) × (entry ≡ code_of Return → at + 1 < length s.now) × (at ≤ length s.now) }
+pub fn past_ending(table: &Table, s: &[u8], entry: u8, at: usize) -> usize
+    requires { (entry ≡ code_of Return → at + 1 < length s.now) × (at ≤ length s.now) }
     ensures { result ≡ past_by entry s.now at }
 {
     if entry == LINE_END {
@@ -125,7 +102,7 @@ pub fn past_ending(table: &[u8; 256], s: &[u8], entry: u8, at: usize) -> usize
     if entry != RETURN {
         return at;
     }
-    if entry_of(table, s[at + 1]) != LINE_END {
+    if table.entry_of(s[at + 1]) != LINE_END {
         return at;
     }
     at + 2
@@ -135,18 +112,15 @@ pub fn past_ending(table: &[u8; 256], s: &[u8], entry: u8, at: usize) -> usize
 
 // How far a text is made of ended lines: behind its last line end. Up to there a reader meets a line end before the text
 // ends, so that it tests no length.
-pub fn ended_to(table: &[u8; 256], s: &[u8]) -> usize
-    requires { table.now ≡ byte_table }
+pub fn ended_to(table: &Table, s: &[u8]) -> usize
     ensures { EndedTo s.now result }
 {
-    let mut r = s.len();
-    while 0 < r {
-        if entry_of(table, s[r - 1]) == LINE_END {
-            return r;
+    for i in (0..s.len()).rev() {
+        if table.entry_of(s[i]) == LINE_END {
+            return i + 1;
         }
-        r -= 1;
     }
-    r
+    0
 }
 
 // The number of a line, where it starts, and how far the text is made of ended lines.
@@ -165,8 +139,8 @@ pub struct Opening {
 }
 
 // Those of the line at a cursor; of a line that is empty or not ended nothing is told.
-pub fn open_at(table: &[u8; 256], s: &[u8], c: Cursor) -> Opening
-    requires { (table.now ≡ byte_table) × (c.at < length s.now) × (c.ended ≤ length s.now) }
+pub fn open_at(table: &Table, s: &[u8], c: Cursor) -> Opening
+    requires { (c.at < length s.now) × (c.ended ≤ length s.now) }
     ensures { result ≡ opening_of s.now c }
 {
     let first = c.at;
@@ -178,8 +152,8 @@ pub fn open_at(table: &[u8; 256], s: &[u8], c: Cursor) -> Opening
         };
     }
     Opening {
-        letter: entry_of(table, s[first]),
-        behind: entry_of(table, s[second]),
+        letter: table.entry_of(s[first]),
+        behind: table.entry_of(s[second]),
     }
 }
 

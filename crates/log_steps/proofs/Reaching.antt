@@ -5,6 +5,7 @@ use mathlib.Core.List.{List}
 use native.Mathlib.Omega.{arith}
 use lib.ListN.{length, get_or, take}
 use lib.Seq.{length-take-le}
+use Rattle.std.specs.Prelude.{Err}
 use Rattle.spec.specs.Answer.{gives, refuses}
 use Rattle.spec.specs.Lists.{In, up_to, sum_of}
 use Rattle.spec.specs.Net.{Net}
@@ -19,7 +20,7 @@ use Rattle.steps.specs.Judged.{judge_step}
 use Rattle.steps.proofs.Rows.{over-most}
 use Rattle.run_counts.specs.Tally.{size_of, both_of, AtMost, tally_at, Small, Tallies}
 use Rattle.run_counts.proofs.Held.{small}
-use Rattle.run_counts.proofs.Tallying.{held-read, watched-read, tally-after, cursors-after}
+use Rattle.run_counts.proofs.Tallying.{step-size, held-read, watched-read, tally-after, cursors-after}
 use Rattle.runs.specs.Flows.{flows}
 use Rattle.conditions.specs.Conditions.{condition_in, conditions_in}
 use Rattle.conditions.specs.declared.Extent.{Extent}
@@ -27,7 +28,6 @@ use Rattle.history.specs.HistoryColumns.{History, event_in, events_in, events_of
 use Rattle.history.proofs.Held.{flows-length}
 use Rattle.log_steps.specs.RunArrays.{Run, run_at, HoldsRun, Reached, Buildable, BuiltOn, log_refused, build_step}
 use Rattle.log_steps.specs.declared.LogRefusal.{LogRefusal}
-use Rattle.log_steps.specs.declared.LogAnswer.TheVariants.{Goes, Refused}
 
 pub events-length : (h : History) → length (events_of h) ≡ h.events
 unfolding events_of events_in
@@ -62,16 +62,13 @@ module _ {xs : List ℕ} {count : ℕ} {sets : List ℕ} {x : Extent} {rec steps
   -- a refusal says nothing of the arrays
   pub refuses-on : (w : LogRefusal) (n : ℕ) {steps' counts' : List ℕ} → log_refused {A = Unit {0}} w ≡ refuses n x.line → length counts' ≡ length counts
       → ((N : Net) (ts : List ℕ) (r : RunD) → HoldsArcs N sets x.places → HoldsStep xs count ts → ((t : ℕ) → In t ts → t < N.transitions) → judge_step N x.line r.marking ts ≡ gives tt → HoldsRun N x.line (run_at x rec steps counts) r → build_step N x.line ts r ≡ refuses n x.line)
-      → BuiltOn xs count sets x rec steps counts (record { answer = Refused w; run = x }) rec steps' counts'
+      → BuiltOn xs count sets x rec steps counts (Err w) rec steps' counts'
   refuses-on w n e l f = record {
     answers = λ N ts r A S K E H. refusing n x.line (f N ts r A S K E H) e;
-    passes = record { places = refl; transitions = refl; line = λ t. not-goes t };
+    passes = tt;
     long = refl;
     wide = l;
   }
-    where
-      not-goes : {B : Type 0} → Refused w ≡ Goes → B
-      not-goes t = let z : ◌≡◌ {A = ℕ} 0 1 = cc in absurd (omega arith)
 
   -- what is counted can grow
   pub held-summable : Summable 32 0 sets counts
@@ -122,10 +119,10 @@ module _ {xs : List ℕ} {count : ℕ} {sets : List ℕ} {x : Extent} {rec steps
 
       -- a step that is counted within the limits can be played
       pub growable : {v : ℕ} → v ≡ sum_of (size_of sets 32) (take count xs) → x.conditions + v ≤ 512
-          → Growable count (length (flows (arc_at sets 32) 64 x.events (take count xs))) x rec steps new
+          → Growable (length (take count xs)) (length (flows (arc_at sets 32) 64 x.events (take count xs))) x rec steps new
       growable e h = let H = P.reached.holds in record {
         line = omega (arith, H.early, P.some, P.events);
-        events = P.events;
+        events = omega (arith, P.events, step-size P.step);
         conditions = omega (arith, made-total sets x.events (take count xs));
         long = P.long;
         wide = grown-wide ∙ P.wide;

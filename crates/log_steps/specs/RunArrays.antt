@@ -1,5 +1,5 @@
 -- What ties a run held by lent arrays to a run of the definitions, and one more step of it.
-use Rattle.std.specs.Prelude.{ℕ, ◌+◌, ◌≤◌, ◌<◌, ◌≡◌, List, ltb, length}
+use Rattle.std.specs.Prelude.{ℕ, ◌+◌, ◌≤◌, ◌<◌, ◌≡◌, List, ltb, length, Result, Ok, Err, IfOk}
 use Rattle.spec.specs.Answer.{Answer, gives, refuses, ◌>>◌, refuse◌at◌when◌}
 use Rattle.spec.specs.Lists.{In}
 use Rattle.spec.specs.Net.{Net}
@@ -12,11 +12,8 @@ use Rattle.runs.specs.Built.{Good}
 use Rattle.run_counts.specs.Tally.{counts_long, Tally, tally_at, Tallied}
 use Rattle.conditions.specs.declared.Extent.{Extent}
 use Rattle.history.specs.HistoryColumns.{History, events_of, conditions_of, Whole, history_of}
-use Rattle.log_steps.specs.declared.Played.{Played}
 use Rattle.log_steps.specs.declared.LogRefusal.{LogRefusal}
 use Rattle.log_steps.specs.declared.LogRefusal.TheVariants.{Step, OverConditions, OverMarks}
-use Rattle.log_steps.specs.declared.LogAnswer.{LogAnswer}
-use Rattle.log_steps.specs.declared.LogAnswer.TheVariants.{Goes, Refused}
 use Rattle.record_columns.specs.Layout.{record_bytes}
 
 -- what is built of a log so far: what is counted, and the history
@@ -46,9 +43,14 @@ log_refused (Step x) = step_refused x
 log_refused (OverConditions k) = refuses 26 k
 log_refused (OverMarks k) = refuses 27 k
 
-abbrev pub log_answer : LogAnswer → Answer (Unit {0})
-log_answer Goes = gives tt
-log_answer (Refused x) = log_refused x
+abbrev pub log_answer : Result Extent LogRefusal → Answer (Unit {0})
+log_answer (Ok x) = gives tt
+log_answer (Err x) = log_refused x
+
+-- how far a run has come behind an answer: a refusal leaves it
+abbrev pub come_to : Extent → Result Extent LogRefusal → Extent
+come_to x (Ok y) = y
+come_to x (Err w) = x
 
 -- 26 and 27: step k, whose transitions are ts, is built
 unfoldable pub build_step : Net → ℕ → List ℕ → RunD → Answer RunD
@@ -73,14 +75,14 @@ pub record Buildable (xs : List ℕ) (count : ℕ) (sets : List ℕ) (x : Extent
   pub wide : length counts ≡ counts_long
   pub reached : Reached sets x.places x.line (run_at x rec steps counts)
 
--- how far the run has come: its net stays, and a line that is played is passed
-pub record Passes (x : Extent) (s : Played) : Type 0 where
-  pub places : s.run.places ≡ x.places
-  pub transitions : s.run.transitions ≡ x.transitions
-  pub line : s.answer ≡ Goes → s.run.line ≡ x.line + 1
+-- how far the run has come behind a line that is played: its net stays, and the line is passed
+pub record Passes (x y : Extent) : Type 0 where
+  pub places : y.places ≡ x.places
+  pub transitions : y.transitions ≡ x.transitions
+  pub line : y.line ≡ x.line + 1
 
 -- what a step that is enabled answers, of every net and run that are held
-abbrev pub BuildsOn : List ℕ → ℕ → ℕ → List ℕ → ℕ → Run → LogAnswer → Run → Type 0
+abbrev pub BuildsOn : List ℕ → ℕ → ℕ → List ℕ → ℕ → Run → Result Extent LogRefusal → Run → Type 0
 BuildsOn sets m k xs count x a y =
     (N : Net) (ts : List ℕ) (r : RunD) → HoldsArcs N sets m → HoldsStep xs count ts
     → ((t : ℕ) → In t ts → t < N.transitions) → judge_step N k r.marking ts ≡ gives tt → HoldsRun N k x r
@@ -89,10 +91,10 @@ BuildsOn sets m k xs count x a y =
 -- by the lent arrays before and after it
 pub record BuiltOn
     (xs : List ℕ) (count : ℕ) (sets : List ℕ) (x : Extent) (rec steps counts : List ℕ)
-    (s : Played) (rec' steps' counts' : List ℕ)
+    (s : Result Extent LogRefusal) (rec' steps' counts' : List ℕ)
     : Type 0 where
   pub answers : BuildsOn sets x.places x.line xs count (run_at x rec steps counts)
-      s.answer (run_at s.run rec' steps' counts')
-  pub passes : Passes x s
+      s (run_at (come_to x s) rec' steps' counts')
+  pub passes : IfOk s (Passes x)
   pub long : length rec' ≡ length rec
   pub wide : length counts' ≡ length counts

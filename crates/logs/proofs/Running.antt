@@ -1,11 +1,13 @@
 -- The lines of a log, one after the other.
 use Prim.Native.Nat.{ℕ, ◌+◌, ◌≤◌}
-use mathlib.Core.Path.{◌≡◌, refl, sym, ap, ◌∙◌, subst}
-use mathlib.Core.Bool.{true, false}
+use mathlib.Core.Path.{◌≡◌, refl, sym, ◌∙◌, subst}
+use mathlib.Core.Bool.{false}
 use mathlib.Core.List.{List}
 use native.Mathlib.Omega.{arith}
 use lib.ListN.{length, take}
+use Rattle.std.specs.Prelude.{Result, Ok, Err}
 use Rattle.spec.specs.Answer.{gives}
+use Rattle.spec.specs.Text.{Line}
 use Rattle.spec.specs.Net.{Net}
 use Rattle.spec.specs.Record.{bench}
 use Rattle.spec.specs.Building.{start, log_line, play_log}
@@ -14,7 +16,6 @@ use Rattle.lines.proofs.Answers.{is_given}
 use Rattle.lines.proofs.ByLines.{Running, begun, turn, stop, done}
 use Rattle.arc_sets.specs.Sets.{Within, HoldsArcs}
 use Rattle.steps.specs.StepArrays.{HoldsMarking, Playable, MovedBy}
-use Rattle.steps.specs.declared.StepAnswer.TheVariants.{Goes, Refused}
 use Rattle.steps.specs.declared.StepRefusal.{StepRefusal}
 use Rattle.steps.specs.declared.StepRefusal.TheVariants.{Malformed, UnknownTransition, OverEvents, TooFewTokens, Inhibited}
 use Rattle.step_lines.specs.Lines.{Readable, Enabled, LineAt}
@@ -22,9 +23,6 @@ use Rattle.step_lines.specs.declared.StepLine.{StepLine}
 use Rattle.step_lines.proofs.Lines.{refused-not, refuses-not}
 use Rattle.conditions.specs.declared.Extent.{Extent}
 use Rattle.log_steps.specs.RunArrays.{Run, run_at, Buildable, BuiltOn, log_answer, log_refused}
-use Rattle.log_steps.specs.declared.Played.{Played}
-use Rattle.log_steps.specs.declared.LogAnswer.{LogAnswer}
-use Rattle.log_steps.specs.declared.LogAnswer.TheVariants.{Goes as LogGoes, Refused as LogRefused}
 use Rattle.log_steps.specs.declared.LogRefusal.{LogRefusal}
 use Rattle.log_steps.specs.declared.LogRefusal.TheVariants.{Step, OverConditions, OverMarks}
 use Rattle.logs.specs.LogRun.{position_of, HoldsAt, Begun, LinesOn, PlaysLog, PlayedLog}
@@ -43,11 +41,8 @@ abbrev pub Runs : List ℕ → ℕ → ℕ → List ℕ → ℕ → ℕ → Run 
 Runs sets m ts log k at x₀ mk₀ x mk = (N : Net) → HoldsArcs N sets m → ts ≡ N.transitions → HoldsAt N m 1 x₀ mk₀ (start N)
     → Running (log_line bench N) log (start N) k at (HoldsAt N m k x mk)
 
--- what is given and what is refused
-going : (a : LogAnswer) → a ≡ LogGoes → is_given (log_answer a) ≡ true
-going a t = ap (λ (b : LogAnswer). is_given (log_answer b)) t
-
-log-refused : (w : LogRefusal) → is_given (log_answer (LogRefused w)) ≡ false
+-- a refusal is no value
+log-refused : (w : LogRefusal) → is_given (log_answer (Err w)) ≡ false
 log-refused (Step (Malformed k)) = refl
 log-refused (Step (UnknownTransition k)) = refl
 log-refused (Step (OverEvents k)) = refl
@@ -61,17 +56,17 @@ module _ (sets : List ℕ) {log : List ℕ} {m ts : ℕ} {x₀ : Run} {mk₀ : L
   runs_none e N A q H = rw e (begun (log_line bench N) log H)
 
   module _ {k at : ℕ} {x : Run} {mk : List ℕ} (R : Runs sets m ts log k at x₀ mk₀ x mk) where
-    pub runs-end : length log ≤ at → PlaysLog sets m ts log x₀ mk₀ LogGoes x
+    pub runs-end : (end : Extent) → length log ≤ at → PlaysLog sets m ts log x₀ mk₀ (Ok end) x
     unfolding play_log
-    runs-end h N A q H = let r = R N A q H in done r h refl (k, r.holds.run)
+    runs-end end h N A q H = let r = R N A q H in done r h refl (k, r.holds.run)
 
-    module _ {next : ℕ} (l : LineTo log at next) (a : LogAnswer) {y : Run} {mk' : List ℕ} (L : LinesOn sets m ts k l.line x mk a y mk') where
-      pub runs-next : {j : ℕ} → j ≡ k + 1 → a ≡ LogGoes → Runs sets m ts log j next x₀ mk₀ y mk'
-      runs-next j t N A q H = let r = R N A q H in rw j (turn r l (L N r.state A q r.holds) (going a t))
+    module _ {next : ℕ} (l : LineTo log at next) {y : Run} {mk' : List ℕ} where
+      pub runs-next : {j : ℕ} (end : Extent) → LinesOn sets m ts k l.line x mk (Ok end) y mk' → j ≡ k + 1 → Runs sets m ts log j next x₀ mk₀ y mk'
+      runs-next end L j N A q H = let r = R N A q H in rw j (turn r l (L N r.state A q r.holds) refl)
 
-      pub runs-stop : (w : LogRefusal) → a ≡ LogRefused w → PlaysLog sets m ts log x₀ mk₀ a y
+      pub runs-stop : {z : Run} (w : LogRefusal) → LinesOn sets m ts k l.line x mk (Err w) y mk' → PlaysLog sets m ts log x₀ mk₀ (Err w) z
       unfolding play_log
-      runs-stop w t N A q H = let r = R N A q H in stop r l (L N r.state A q r.holds) (ap (λ (b : LogAnswer). is_given (log_answer b)) t ∙ log-refused w)
+      runs-stop w L N A q H = let r = R N A q H in stop r l (L N r.state A q r.holds) (log-refused w)
 
 -- ---- by the lent arrays
 
@@ -107,48 +102,48 @@ module _ {log sets : List ℕ} {x : Extent} {rec steps counts marking step : Lis
   pub within : Within 32 sets
   within i p l h = B.arcs.within i p l (omega (arith, B.arcs.few))
 
-  module _ {r : StepLine} {step' : List ℕ} (S : LineAt log at sets (position_of run) marking' r step') where
-    line_on : (a : LogAnswer) {y : Run} {mk' : List ℕ} → LinesOn sets run.places run.transitions run.line S.found.line (run_at run rec' steps' counts') marking' a y mk'
-        → LinesOn sets x.places x.transitions run.line S.found.line (run_at run rec' steps' counts') marking' a y mk'
-    line_on a L = rw (← G.places, ← G.transitions) L
+  line_on : {k : ℕ} (l : Line) (a : Result Extent LogRefusal) {y : Run} {mk' : List ℕ} → LinesOn sets run.places run.transitions k l (run_at run rec' steps' counts') marking' a y mk'
+      → LinesOn sets x.places x.transitions k l (run_at run rec' steps' counts') marking' a y mk'
+  line_on l a L = rw (← G.places, ← G.transitions) L
 
-    -- the line is refused as a step
-    pub refused-line : (w : StepRefusal) → r.answer ≡ Refused w → PlayedLog log sets x rec steps counts marking (record { answer = LogRefused (Step w); run = run }) rec' steps' counts'
-    refused-line w t = record {
-      answers = runs-stop sets G.runs S.found (LogRefused (Step w)) {mk' = marking'} (line_on (LogRefused (Step w)) (refused-on run S refl w t)) (Step w) refl;
-      long = G.long;
+  -- the line is refused as a step
+  pub refused-line : {r : StepLine} {step' : List ℕ} (w : StepRefusal) → LineAt log at sets (position_of run) marking' r step' → r.events ≡ Err w → PlayedLog log sets x rec steps counts marking (Err (Step w)) rec' steps' counts'
+  refused-line {r} w S e = record {
+    answers = runs-stop sets G.runs S.found {mk' = marking'} (Step w) (line_on S.found.line (Err (Step w)) {y = run_at run rec' steps' counts'} (refused-on run refl w r S e));
+    long = G.long;
+  }
+
+  module _ {r : StepLine} {step' : List ℕ} (S : LineAt log at sets (position_of run) marking' r step') {count : ℕ} (goes : r.events ≡ Ok count) where
+    enabled-now : (ts : List ℕ) × Enabled B.net (position_of run) now.state.marking count step' ts
+    enabled-now = enabled-on run refl r S goes B.net now.state arcs-now known-now holds-now
+
+    pub buildable : Buildable step' count sets run rec' steps' counts'
+    buildable = let E = enabled-now.1 in record {
+      step = E.holds.step;
+      some = E.some;
+      events = E.events;
+      long = omega (arith, G.long, B.long);
+      wide = G.wide ∙ B.wide;
+      reached = record { net = B.net; run = now.state; arcs = arcs-now; holds = now.holds.run };
     }
 
-    module _ (t : r.answer ≡ Goes) where
-      enabled-now : (ts : List ℕ) × Enabled B.net (position_of run) now.state.marking r.count step' ts
-      enabled-now = enabled-on run S refl t B.net now.state arcs-now known-now holds-now
+    pub can-play : Playable sets (take count step') marking'
+    can-play = playable-on run refl r S goes B.net now.state arcs-now known-now holds-now
 
-      pub buildable : Buildable step' r.count sets run rec' steps' counts'
-      buildable = let E = enabled-now.1 in record {
-        step = E.holds.step;
-        some = E.some;
-        events = E.events;
-        long = omega (arith, G.long, B.long);
-        wide = G.wide ∙ B.wide;
-        reached = record { net = B.net; run = now.state; arcs = arcs-now; holds = now.holds.run };
+    module _ {rec'' steps'' counts'' : List ℕ} where
+      pub refused-step : (w : LogRefusal) → BuiltOn step' count sets run rec' steps' counts' (Err w) rec'' steps'' counts'' → PlayedLog log sets x rec steps counts marking (Err w) rec'' steps'' counts''
+      refused-step w P = record {
+        answers = runs-stop sets G.runs S.found {mk' = marking'} w (line_on S.found.line (Err w) (stepped-on run refl r S goes (Err w) P.answers (log-refused-not w)));
+        long = P.long ∙ G.long;
       }
 
-      pub can-play : Playable sets (take r.count step') marking'
-      can-play = playable-on run S refl t B.net now.state arcs-now known-now holds-now
-
-      module _ {s : Played} {rec'' steps'' counts'' : List ℕ} (P : BuiltOn step' r.count sets run rec' steps' counts' s rec'' steps'' counts'') where
-        pub refused-step : (w : LogRefusal) → s.answer ≡ LogRefused w → PlayedLog log sets x rec steps counts marking s rec'' steps'' counts''
-        refused-step w u = record {
-          answers = runs-stop sets G.runs S.found s.answer {mk' = marking'} (line_on s.answer (stepped-on run S refl t s.answer P.answers (λ v. log-refused-not w (sym (ap log_answer u) ∙ v)))) w u;
-          long = P.long ∙ G.long;
-        }
-
-        pub goes_on : {marking'' : List ℕ} → s.answer ≡ LogGoes → MovedBy sets (take r.count step') marking' marking'' → Going log sets x rec steps counts marking step' s.run r.next rec'' steps'' counts'' marking''
-        goes_on u M = record {
-          step = S.long;
-          long = P.long ∙ G.long;
-          wide = P.wide ∙ G.wide;
-          places = P.passes.places ∙ G.places;
-          transitions = P.passes.transitions ∙ G.transitions;
-          runs = runs-next sets G.runs S.found s.answer (line_on s.answer (stepped-on run S refl t s.answer P.answers (λ v. M))) (P.passes.line u) u;
-        }
+      pub goes_on : {marking'' : List ℕ} {y : Extent} → BuiltOn step' count sets run rec' steps' counts' (Ok y) rec'' steps'' counts'' → MovedBy sets (take count step') marking' marking''
+          → Going log sets x rec steps counts marking step' y r.next rec'' steps'' counts'' marking''
+      goes_on {y = y} P M = record {
+        step = S.long;
+        long = P.long ∙ G.long;
+        wide = P.wide ∙ G.wide;
+        places = P.passes.places ∙ G.places;
+        transitions = P.passes.transitions ∙ G.transitions;
+        runs = runs-next sets G.runs S.found y (line_on S.found.line (Ok y) (stepped-on run refl r S goes (Ok y) P.answers (λ v. M))) P.passes.line;
+      }

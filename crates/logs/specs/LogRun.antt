@@ -1,5 +1,5 @@
 -- What ties the lines of a log, played on lent arrays, to the definitions.
-use Rattle.std.specs.Prelude.{ℕ, ◌+◌, ◌≤◌, ◌≡◌, List, length, get_or, take}
+use Rattle.std.specs.Prelude.{ℕ, ◌+◌, ◌≤◌, ◌≡◌, List, length, get_or, take, Result}
 use Rattle.spec.specs.Lists.{sum}
 use Rattle.spec.specs.Text.{Line, lines_of}
 use Rattle.spec.specs.Net.{Net}
@@ -12,9 +12,8 @@ use Rattle.steps.specs.Judged.{nothing}
 use Rattle.steps.specs.declared.Position.{Position}
 use Rattle.run_counts.specs.Tally.{counts_long}
 use Rattle.conditions.specs.declared.Extent.{Extent}
-use Rattle.log_steps.specs.RunArrays.{Run, run_at, HoldsRun, log_answer}
-use Rattle.log_steps.specs.declared.LogAnswer.{LogAnswer}
-use Rattle.log_steps.specs.declared.Played.{Played}
+use Rattle.log_steps.specs.RunArrays.{Run, run_at, HoldsRun, log_answer, come_to}
+use Rattle.log_steps.specs.declared.LogRefusal.{LogRefusal}
 use Rattle.record_columns.specs.Layout.{record_bytes}
 
 -- how far the steps of a run have come
@@ -27,7 +26,7 @@ pub record HoldsAt (N : Net) (m k : ℕ) (x : Run) (mk : List ℕ) (r : RunD) : 
   pub marking : HoldsMarking m mk r.marking
 
 -- what a line answers
-abbrev pub LinesOn : List ℕ → ℕ → ℕ → ℕ → Line → Run → List ℕ → LogAnswer → Run → List ℕ → Type 0
+abbrev pub LinesOn : List ℕ → ℕ → ℕ → ℕ → Line → Run → List ℕ → Result Extent LogRefusal → Run → List ℕ → Type 0
 LinesOn sets m ts k l x mk a y mk' =
     (N : Net) (r : RunD) → HoldsArcs N sets m → ts ≡ N.transitions → HoldsAt N m k x mk r
     → Agrees nothing (log_answer a) (HoldsAt N m (k + 1) y mk') (log_line bench N k l r)
@@ -73,14 +72,14 @@ abbrev pub HoldsAny : Net → Run → RunD → Type 0
 HoldsAny N x r = (k : ℕ) × HoldsRun N k x r
 
 -- what a log answers
-abbrev pub PlaysLog : List ℕ → ℕ → ℕ → List ℕ → Run → List ℕ → LogAnswer → Run → Type 0
+abbrev pub PlaysLog : List ℕ → ℕ → ℕ → List ℕ → Run → List ℕ → Result Extent LogRefusal → Run → Type 0
 PlaysLog sets m ts log x mk a y = (N : Net) → HoldsArcs N sets m → ts ≡ N.transitions → HoldsAt N m 1 x mk (start N)
     → Agrees nothing (log_answer a) (HoldsAny N y) (play_log bench N (lines_of log))
 
 -- by the lent arrays before and after it
 pub record PlayedLog
-    (log sets : List ℕ) (x : Extent) (rec steps counts marking : List ℕ) (s : Played) (rec' steps' counts' : List ℕ)
+    (log sets : List ℕ) (x : Extent) (rec steps counts marking : List ℕ) (s : Result Extent LogRefusal) (rec' steps' counts' : List ℕ)
     : Type 0 where
   pub answers : PlaysLog sets x.places x.transitions log (run_at x rec steps counts) marking
-      s.answer (run_at s.run rec' steps' counts')
+      s (run_at (come_to x s) rec' steps' counts')
   pub long : length rec' ≡ length rec

@@ -9,14 +9,14 @@ use byte_classes::byte_table;
 use conditions::Extent;
 use history::start;
 use lines::{Cursor, ended_to};
-use log_steps::{LogAnswer, LogRefusal, Played, build_step, refused};
+use log_steps::{LogRefusal, build_step};
 use net::TOKENS;
 use record_columns::EVENTS;
 use run_counts::COUNTS;
 use step_lines::judge_line;
-use steps::{MARKING, Position, STEP, StepAnswer, play, put_tokens};
+use steps::{MARKING, Position, STEP, play, put_tokens};
 
-// How far the steps of a run have come.
+// How far the steps of a run have come. Not a From: both types are of crates below, and this is the one use.
 fn position(x: Extent) -> Position
     ensures { result ≡ position_of x }
 {
@@ -37,7 +37,7 @@ pub fn play_log(
     steps: &mut [u8; EVENTS],
     counts: &mut [u32; COUNTS],
     marking: &mut [u32; MARKING],
-) -> Played
+) -> Result<Extent, LogRefusal>
     requires { Begun sets.now x rec.old steps.old counts.old marking.old }
     ensures { PlayedLog log.now sets.now x
         rec.old steps.old counts.old marking.old
@@ -48,6 +48,7 @@ pub fn play_log(
     let mut step = [0u8; STEP];
     let mut run = x;
     let mut at: usize = 0;
+    // A while: the place in the log moves by what is read of it, which no range or iterator says.
     while at < log.len() {
         let here = Cursor {
             line: run.line,
@@ -55,23 +56,12 @@ pub fn play_log(
             ended,
         };
         let line = judge_line(&table, log, here, sets, position(run), marking, &mut step);
-        let judged = line.answer;
-        if let StepAnswer::Refused(why) = judged {
-            return refused(LogRefusal::Step(why), run);
-        }
-        let built = build_step(&step, line.count, sets, run, rec, steps, counts);
-        run = built.run;
-        let answer = built.answer;
-        if let LogAnswer::Refused(_) = answer {
-            return built;
-        }
-        play(&step, line.count, sets, marking);
+        let count = line.events?;
+        run = build_step(&step, count, sets, run, rec, steps, counts)?;
+        play(&step, count, sets, marking);
         at = line.next;
     }
-    Played {
-        answer: LogAnswer::Goes,
-        run,
-    }
+    Ok(run)
 }
 
 // The run at the initial marking, in arrays of which the counts by place are 0.

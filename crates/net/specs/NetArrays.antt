@@ -1,5 +1,5 @@
 -- What ties a net of arrays to a net of the definitions.
-use Rattle.std.specs.Prelude.{ℕ, ◌+◌, ◌*◌, ◌≤◌, ◌<◌, ◌≡◌, Bool, true, false, List, length, get_or}
+use Rattle.std.specs.Prelude.{ℕ, ◌+◌, ◌*◌, ◌≤◌, ◌<◌, ◌≡◌, Result, Ok, Err, List, length, get_or}
 use Rattle.columns.specs.Columns.{column}
 use Rattle.spec.specs.Answer.{Answer, gives}
 use Rattle.lines.specs.Agree.{Agrees, refused_as}
@@ -11,9 +11,7 @@ use Rattle.net.specs.declared.Net.{Net}
 use Rattle.spec.specs.declared.ArcKind.{ArcKind}
 use Rattle.spec.specs.declared.ArcKind.TheVariants.{Input, Output, Inhibitor, Read}
 use Rattle.net.specs.declared.Size.{Size}
-use Rattle.net.specs.declared.Stepped.{Stepped}
-use Rattle.net.specs.declared.NetAnswer.{NetAnswer}
-use Rattle.net.specs.declared.NetAnswer.TheVariants.{Accepted, Refused}
+use Rattle.net.specs.declared.NetSize.{NetSize}
 use Rattle.net.specs.declared.NetRefusal.{NetRefusal}
 use Rattle.net.specs.declared.NetRefusal.TheVariants.{Malformed, LimitPassed, Undeclared, WeightOutside}
 use Rattle.net.specs.declared.NetRefusal.TheVariants.{ArcRepeated, ReadAndConsumed, Lacking}
@@ -165,25 +163,31 @@ net_refusal (ReadAndConsumed k) = (51, k)
 net_refusal (Lacking t) = (15, t)
 
 -- the paper's values of an answer
-abbrev pub answer_of : NetAnswer → Answer (ℕ × ℕ × ℕ)
-answer_of (Accepted p t) = gives (p, t, 0)
-answer_of (Refused x) = refused_as (net_refusal x)
+abbrev pub answer_of : Result NetSize NetRefusal → Answer (ℕ × ℕ × ℕ)
+answer_of (Ok n) = gives (n.places, n.transitions, 0)
+answer_of (Err x) = refused_as (net_refusal x)
 
-abbrev pub goes_of : NetAnswer → Bool
-goes_of (Accepted p t) = true
-goes_of (Refused x) = false
+-- the answer to the lines so far
+abbrev pub answer_so_far : Result Size NetRefusal → Answer (ℕ × ℕ × ℕ)
+answer_so_far (Ok s) = gives (s.places, s.transitions, 0)
+answer_so_far (Err x) = refused_as (net_refusal x)
+
+-- where they are accepted, the arrays hold the net, with its size
+abbrev pub DraftOf : Result Size NetRefusal → Arrays → NetD → Type 0
+DraftOf (Ok s) a m = Draft s a m
+DraftOf (Err x) a m = ⊥
 
 -- what a step of the definitions answers, of every net that the arrays hold; a' are the arrays after it
-abbrev pub Steps : Size → Arrays → (NetD → Answer NetD) → Stepped → Arrays → Type 0
-Steps s a f r a' = (m : NetD) → Draft s a m → Agrees net_values (answer_of r.answer) (Draft r.size a') (f m)
+abbrev pub Steps : Size → Arrays → (NetD → Answer NetD) → Result Size NetRefusal → Arrays → Type 0
+Steps s a f r a' = (m : NetD) → Draft s a m → Agrees net_values (answer_so_far r) (DraftOf r a') (f m)
 
 -- a place of v tokens is added as line k adds it, whatever the arcs are
-abbrev pub AddsPlace : ℕ → ℕ → Size → List ℕ → Stepped → List ℕ → Type 0
+abbrev pub AddsPlace : ℕ → ℕ → Size → List ℕ → Result Size NetRefusal → List ℕ → Type 0
 AddsPlace k v s tokens r tokens' =
     (arcs : List ℕ) → Steps s (arrays_at tokens arcs) (add_place k v) r (arrays_at tokens' arcs)
 
 -- a transition is added as line k adds it, whatever the arrays are
-abbrev pub AddsTransition : ℕ → Size → Stepped → Type 0
+abbrev pub AddsTransition : ℕ → Size → Result Size NetRefusal → Type 0
 AddsTransition k s r = (a : Arrays) → Steps s a (add_transition k) r a
 
 -- only inputs and outputs weigh more than 1
@@ -194,14 +198,10 @@ Bears Inhibitor w = w ≡ 1
 Bears Read w = w ≡ 1
 
 -- an arc of weight w, of the kind that stands from `at` on, is added as line k adds it, whatever the tokens are
-abbrev pub AddsArc : ℕ → ℕ → ℕ → ℕ → ℕ → Size → List ℕ → Stepped → List ℕ → Type 0
+abbrev pub AddsArc : ℕ → ℕ → ℕ → ℕ → ℕ → Size → List ℕ → Result Size NetRefusal → List ℕ → Type 0
 AddsArc at k p t w s arcs r arcs' =
     (x : ArcKind) (tokens : List ℕ) → at ≡ offset_of x → Bears x w
     → Steps s (arrays_at tokens arcs) (add_arc x k p t w) r (arrays_at tokens arcs')
-
--- the lines so far are accepted, and the net has this size
-abbrev pub accepted_with : Size → Stepped
-accepted_with s = record { answer = Accepted s.places s.transitions; size = s }
 
 -- the bounds that the code relies on
 pub record Few (s : Size) : Type 0 where

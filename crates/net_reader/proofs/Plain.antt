@@ -1,10 +1,10 @@
 -- Lines of a net text, by their rows, and what plain lines add.
-use Prim.Native.Nat.{ℕ, ◌-◌, ◌*◌, ◌≤◌, ◌<◌}
+use Prim.Native.Nat.{ℕ, ◌+◌, ◌-◌, ◌*◌, ◌≤◌, ◌<◌}
 use mathlib.Core.Path.{◌≡◌, refl, sym, ◌∙◌}
 use mathlib.Core.Logic.{inl, inr}
 use native.Mathlib.Omega.{arith}
-use lib.Dec.{lit<}
-use mathlib.Core.Bool.{Bool, true, false}
+use lib.Dec.{lit<, eqb}
+use mathlib.Core.Bool.{Bool, true, false, ◌&&◌, cond}
 use mathlib.Core.List.{List, [], ◌∷◌}
 use lib.ListN.{length, get_or, drop, take}
 use Rattle.spec.specs.Answer.{Answer, refuses}
@@ -16,11 +16,11 @@ use Rattle.spec.specs.Classes.{class_code, alike}
 use Rattle.spec.specs.Net.{Net as NetD, add_place, add_transition, add_line}
 use Rattle.line_forms.specs.declared.Slot.{Slot}
 use Rattle.line_forms.specs.declared.Slot.TheVariants.{Number}
-use Rattle.lines.specs.Lines.{line_of, LineAt}
+use Rattle.lines.specs.Lines.{line_of, LineAt, past_by}
 use Rattle.lines.specs.declared.Span.{Span}
 use Rattle.lines.proofs.Lines.{line-to}
 use Rattle.spec.specs.declared.Class.{Class}
-use Rattle.spec.specs.declared.Class.TheVariants.{LetterP, LetterT, LetterI, LetterO, LetterH, LetterR, LetterW, Foreign}
+use Rattle.spec.specs.declared.Class.TheVariants.{LetterP, LetterT, LetterI, LetterO, LetterH, LetterR, LetterW, Foreign, LineEnd, Return}
 use Rattle.byte_entries.specs.Entries.{code_of, entry_of}
 use Rattle.byte_entries.proofs.Classes.{entry-class}
 use Rattle.lines.specs.declared.Opening.{Opening}
@@ -29,10 +29,12 @@ use Rattle.plain_lines.proofs.Plain.{letter-entry, plain_at}
 use Rattle.spec.specs.declared.ArcKind.{ArcKind}
 use Rattle.spec.specs.declared.ArcKind.TheVariants.{Input, Output, Inhibitor, Read}
 use Rattle.net.specs.NetArrays.{kind_count, reads_at, offset_of, Arrays, Bears, Steps}
-use Rattle.net_reader.specs.Reads.{add_row, ArcEntry, ArcLetter, kind_by, IsArcLine, ArcLineAt, add_letter, Takes}
+use Rattle.net_reader.specs.Reads.{add_row, ArcEntry, ArcLetter, kind_by, IsArcLine, ArcLineRead, add_letter, Takes, size_after, GoesOn}
 use Rattle.net_reader.specs.declared.ArcLine.{ArcLine}
 use Rattle.net.specs.declared.Size.{Size}
-use Rattle.net.specs.declared.Stepped.{Stepped}
+use Rattle.net.specs.declared.NetRefusal.{NetRefusal}
+use Rattle.std.specs.Prelude.{Result}
+use Rattle.net_reader.specs.declared.Took.{Took}
 
 -- ---- a line by its row
 
@@ -94,6 +96,16 @@ module _ (k : ℕ) {text : List ℕ} {i next : ℕ} (m : NetD) where
     weighted-line r (inr (inr (inl z))) l h = absurd (omega arith)
     weighted-line r (inr (inr (inr z))) l h = absurd (omega arith)
 
+-- the next line starts behind an ending that was passed
+pub passes : (e : ℕ) (s : List ℕ) (at next : ℕ) → next ≡ past_by e s at → (next ≡ at → ⊥) → at < next
+unfolding past_by
+passes e s at next q d = omega (arith, d, q, step (eqb e (code_of LineEnd)) (eqb e (code_of Return) && eqb (entry_of (get_or s (at + 1) 0)) (code_of LineEnd)))
+  where
+    step : (b c : Bool) → at ≤ cond b (at + 1) (cond c (at + 2) at)
+    step true c = omega arith
+    step false true = omega arith
+    step false false = omega arith
+
 -- only an input or an output weighs more than 1
 pub line-bears : {text : List ℕ} {i e : ℕ} (r : ArcLine) → ArcEntry e → IsArcLine text i e r → Bears (kind_by e) r.weight
 unfolding kind_by
@@ -121,24 +133,24 @@ kind-place e (inr (inr (inr q))) d = absurd (d q)
 
 -- ---- a line that is added
 
-module _ {text : List ℕ} {i k : ℕ} {s : Size} {a a' : Arrays} {step : Stepped} where
+module _ {text : List ℕ} {i k : ℕ} {s : Size} {a a' : Arrays} (r : Result Took NetRefusal) where
   -- a plain line that the definitions add as f does
-  plain-adds : {next : ℕ} {fs : List Slot} (f : NetD → Answer NetD) → next ≤ length text → (l : PlainLine 4 text i next fs) → i < next → ((m : NetD) → add_line k (line_of l.bytes true) m ≡ f m) → Steps s a f step a'
-      → Takes text i k s a (record { step = step; next = next }) a'
-  plain-adds f w l h e g = record { found = plain_at w l h; steps = λ m d. rw (e m) (g m d) }
+  plain-adds : {next : ℕ} {fs : List Slot} (f : NetD → Answer NetD) → next ≤ length text → (l : PlainLine 4 text i next fs) → i < next → ((m : NetD) → add_line k (line_of l.bytes true) m ≡ f m)
+      → GoesOn r next → Steps s a f (size_after r) a' → Takes text i k s a r a'
+  plain-adds {next} f w l h e o g = record { next = next; found = plain_at w l h; on = o; steps = λ m d. rw (e m) (g m d) }
 
-  pub plain-takes : {next : ℕ} {fs : List Slot} (f : NetD → Answer NetD) → (r : MayRead 4 text i next fs) (h : i < next) → ((m : NetD) (l : PlainLine 4 text i next fs) → add_line k (line_of l.bytes true) m ≡ f m) → Steps s a f step a'
-      → Takes text i k s a (record { step = step; next = next }) a'
-  plain-takes f r h e g = plain-adds f r.within (r.line h) h (λ m. e m (r.line h)) g
+  pub plain-takes : {next : ℕ} {fs : List Slot} (f : NetD → Answer NetD) → (p : MayRead 4 text i next fs) (h : i < next) → ((m : NetD) (l : PlainLine 4 text i next fs) → add_line k (line_of l.bytes true) m ≡ f m)
+      → GoesOn r next → Steps s a f (size_after r) a' → Takes text i k s a r a'
+  plain-takes f p h e o g = plain-adds f p.within (p.line h) h (λ m. e m (p.line h)) o g
 
   -- an arc's line
-  pub arc-takes : {e : ℕ} (r : ArcLine) → ArcLineAt text i e r → (h : i < r.next) → ArcEntry e → e ≡ entry_of (get_or text i 0) → (Bears (kind_by e) r.weight → Steps s a (add_letter e k r) step a')
-      → Takes text i k s a (record { step = step; next = r.next }) a'
-  arc-takes {e} r A h x q g = go (A.line h)
+  pub arc-takes : {e : ℕ} (l : ArcLine) → ArcLineRead text i e l → ArcEntry e → e ≡ entry_of (get_or text i 0)
+      → GoesOn r l.next → (Bears (kind_by e) l.weight → Steps s a (add_letter e k l) (size_after r) a') → Takes text i k s a r a'
+  arc-takes {e} l A x q o g = go A.line
     where
-      go : IsArcLine text i e r → Takes text i k s a (record { step = step; next = r.next }) a'
-      go (inl l) = plain-adds (add_letter e k r) A.within l.0 h (λ m. arc-line k m q r x l.0 l.1) (g (line-bears r x (inl l)))
-      go (inr l) = plain-adds (add_letter e k r) A.within l.0 h (λ m. weighted-line k m q r x l.0 l.1) (g (line-bears r x (inr l)))
+      go : IsArcLine text i e l → Takes text i k s a r a'
+      go (inl p) = plain-adds (add_letter e k l) A.within p.0 A.on (λ m. arc-line k m q l x p.0 p.1) o (g (line-bears l x (inl p)))
+      go (inr p) = plain-adds (add_letter e k l) A.within p.0 A.on (λ m. weighted-line k m q l x p.0 p.1) o (g (line-bears l x (inr p)))
 
-  pub line-takes : {r : Span} → LineAt text i r → Steps s a (add_line k (line_of (take (r.end - i) (drop i text)) r.ended)) step a' → Takes text i k s a (record { step = step; next = r.next }) a'
-  line-takes h g = record { found = line-to h; steps = g }
+  pub line-takes : {l : Span} → LineAt text i l → GoesOn r l.next → Steps s a (add_line k (line_of (take (l.end - i) (drop i text)) l.ended)) (size_after r) a' → Takes text i k s a r a'
+  line-takes {l} h o g = record { next = l.next; found = line-to h; on = o; steps = g }

@@ -1,8 +1,7 @@
 -- What the functions of the reader promise.
-use Rattle.std.specs.Prelude.{ℕ, ◌+◌, ◌*◌, ◌≤◌, ◌<◌, ◌≡◌, ◌⊎◌, Bool, not, ◌||◌, cond, List, [], ◌∷◌, length, get_or, replicate, eqb, ltb}
-use Rattle.lists.specs.Mapped.{Mapped}
-use Rattle.spec.specs.Answer.{Answer, gives, refuses, ◌>>=◌, returned}
-use Rattle.lines.specs.Agree.{Agrees}
+use Rattle.std.specs.Prelude.{ℕ, ◌+◌, ◌*◌, ◌≤◌, ◌<◌, ◌≡◌, ◌⊎◌, Bool, not, ◌||◌, cond, List, [], ◌∷◌, length, get_or, replicate, eqb, ltb, Option, Some, None, Result, Ok, Err}
+use Rattle.spec.specs.Answer.{Answer, gives, refuses, returned}
+use Rattle.lines.specs.Agree.{Agrees, refused_as}
 use Rattle.lines.specs.Lines.{LineTo}
 use Rattle.lines.specs.declared.Opening.{Opening}
 use Rattle.byte_entries.specs.Entries.{code_of}
@@ -19,13 +18,12 @@ use Rattle.spec.specs.declared.Class.TheVariants.{Comma, LetterP, LetterT, Lette
 use Rattle.spec.specs.declared.ArcKind.{ArcKind}
 use Rattle.spec.specs.declared.ArcKind.TheVariants.{Input, Output, Inhibitor, Read}
 use Rattle.net.specs.declared.Size.{Size}
-use Rattle.net.specs.declared.Stepped.{Stepped}
+use Rattle.net.specs.declared.NetSize.{NetSize}
+use Rattle.net.specs.declared.NetRefusal.{NetRefusal}
 use Rattle.net_reader.specs.declared.Took.{Took}
 use Rattle.net_reader.specs.declared.ArcLine.{ArcLine}
-use Rattle.net_reader.specs.declared.NetRead.{NetRead}
-use Rattle.net.specs.declared.NetAnswer.{NetAnswer}
-use Rattle.net.specs.NetArrays.{token_count, row_size, kind_count, arc_count}
-use Rattle.net.specs.NetArrays.{Holds, Arrays, arrays, arrays_at, net_with, Draft, no_size, answer_of, Bears, Steps, HoldsAt}
+use Rattle.net.specs.NetArrays.{token_count, row_size, arc_count, net_refusal}
+use Rattle.net.specs.NetArrays.{Holds, Arrays, arrays_at, Draft, DraftOf, answer_of, answer_so_far, Bears, Steps, HoldsAt}
 
 -- all zero
 pub record Blank (ts xs : List ℕ) : Type 0 where
@@ -67,10 +65,16 @@ IsArcLine text at e r =
     (PlainLine 4 text at r.next (Number r.first ∷ Number r.second ∷ []) × (r.weight ≡ 1))
     ⊎ (PlainLine 4 text at r.next (Number r.first ∷ Number r.second ∷ Number r.weight ∷ []) × (e < code_of LetterH))
 
--- such a line is read, or the position stays
-pub record ArcLineAt (text : List ℕ) (at e : ℕ) (r : ArcLine) : Type 0 where
+-- such a line is read, and the next one starts behind it
+pub record ArcLineRead (text : List ℕ) (at e : ℕ) (r : ArcLine) : Type 0 where
+  pub on : at < r.next
   pub within : r.next ≤ length text
-  pub line : at < r.next → IsArcLine text at e r
+  pub line : IsArcLine text at e r
+
+-- where one is told
+abbrev pub ArcLineAt : List ℕ → ℕ → ℕ → Option ArcLine → Type 0
+ArcLineAt text at e (Some r) = ArcLineRead text at e r
+ArcLineAt text at e None = Unit {0}
 
 -- what line k adds with such a letter, two numbers and a weight: an output's place is the second number
 unfoldable pub add_letter : ℕ → ℕ → ArcLine → NetD → Answer NetD
@@ -79,14 +83,26 @@ add_letter e k l n =
     (add_arc (kind_by e) k l.first l.second l.weight n)
 
 -- it is added, whatever the tokens are
-abbrev pub AddsLetter : ℕ → ℕ → ArcLine → Size → List ℕ → Stepped → List ℕ → Type 0
+abbrev pub AddsLetter : ℕ → ℕ → ArcLine → Size → List ℕ → Result Size NetRefusal → List ℕ → Type 0
 AddsLetter e k l s arcs r arcs' =
     (tokens : List ℕ) → Bears (kind_by e) l.weight → Steps s (arrays_at tokens arcs) (add_letter e k l) r (arrays_at tokens arcs')
 
+-- the size after a line that was added
+abbrev pub size_after : Result Took NetRefusal → Result Size NetRefusal
+size_after (Ok t) = Ok t.size
+size_after (Err x) = Err x
+
+-- and where the next line starts
+abbrev pub GoesOn : Result Took NetRefusal → ℕ → Type 0
+GoesOn (Ok t) next = t.next ≡ next
+GoesOn (Err x) next = Unit {0}
+
 -- the line that starts at a position is added as the definitions add line k, and the next one starts at `next`
-pub record Takes (text : List ℕ) (at k : ℕ) (s : Size) (a : Arrays) (r : Took) (a' : Arrays) : Type 0 where
-  pub found : LineTo text at r.next
-  pub steps : Steps s a (add_line k found.line) r.step a'
+pub record Takes (text : List ℕ) (at k : ℕ) (s : Size) (a : Arrays) (r : Result Took NetRefusal) (a' : Arrays) : Type 0 where
+  pub next : ℕ
+  pub found : LineTo text at next
+  pub on : GoesOn r next
+  pub steps : Steps s a (add_line k found.line) (size_after r) a'
 
 -- some place below n has a mark at the transition
 unfoldable pub any_cell : List ℕ → ℕ → ℕ → Bool
@@ -96,39 +112,36 @@ unfoldable pub lacks_of : List ℕ → List ℕ → ℕ → ℕ → Bool
 lacks_of is os n t = not (any_cell is t n) || not (any_cell os t n)
 
 -- the answer to all lines
-abbrev pub ReadsLines : List ℕ → Stepped → Arrays → Type 0
+abbrev pub ReadsLines : List ℕ → Result Size NetRefusal → Arrays → Type 0
 ReadsLines text r a =
-    Agrees net_values (answer_of r.answer) (Draft r.size a) (by_lines add_line 1 (lines_of text) empty_net)
+    Agrees net_values (answer_so_far r) (DraftOf r a) (by_lines add_line 1 (lines_of text) empty_net)
 
--- the last rule after an answer that agrees, of every net that the arrays hold
-abbrev pub Finishes : Stepped → List ℕ → NetAnswer → Type 0
-Finishes r arcs v =
-    (tokens : List ℕ) (x : Answer NetD)
-    → Agrees net_values (answer_of r.answer) (Draft r.size (arrays_at tokens arcs)) x
-    → Agrees net_values (answer_of v) (HoldsAt tokens arcs) (x >>= whole)
+-- the last rule, of every net that the arrays hold
+abbrev pub Finishes : Size → List ℕ → Result NetSize NetRefusal → Type 0
+Finishes s arcs v =
+    (tokens : List ℕ) (m : NetD) → Draft s (arrays_at tokens arcs) m
+    → Agrees net_values (answer_of v) (HoldsAt tokens arcs) (whole m)
 
--- the net of no text: no places, no transitions, arrays of zeros
-abbrev pub no_net : Net
-no_net =
-    net_with no_size
-    (arrays (replicate token_count 0)
-    (replicate kind_count 0) (replicate kind_count 0) (replicate kind_count 0) (replicate kind_count 0))
+-- the paper's values of a net, or its refusal
+abbrev pub values_of : Result Net NetRefusal → Answer (ℕ × ℕ × ℕ)
+values_of (Ok n) = gives (n.places, n.transitions, 0)
+values_of (Err x) = refused_as (net_refusal x)
 
--- the answer is the paper's, and the net is the one that the text declares, or none where it is refused
-pub record Reads (text : List ℕ) (r : NetRead) : Type 0 where
-  pub answer : answer_of r.answer ≡ returned net_values (read_net text)
-  pub net : (m : NetD) → read_net text ≡ gives m → Holds r.net m
-  pub none : (n s : ℕ) → read_net text ≡ refuses n s → r.net ≡ no_net
+-- a net that is given holds one of the definitions
+abbrev pub HoldsOf : Result Net NetRefusal → NetD → Type 0
+HoldsOf (Ok n) m = Holds n m
+HoldsOf (Err x) m = ⊥
+
+-- the answer is the paper's, and a net is given where the text declares one, and is that one
+pub record Reads (text : List ℕ) (r : Result Net NetRefusal) : Type 0 where
+  pub answer : values_of r ≡ returned net_values (read_net text)
+  pub net : (m : NetD) → read_net text ≡ gives m → HoldsOf r m
 
 -- the answer alone is the paper's
-abbrev pub Answers : List ℕ → NetAnswer → Type 0
+abbrev pub Answers : List ℕ → Result NetSize NetRefusal → Type 0
 Answers text v = answer_of v ≡ returned net_values (read_net text)
 
 -- the answer is the paper's, and the arrays hold the net that the text declares
-pub record ReadsInto (text : List ℕ) (v : NetAnswer) (tokens arcs : List ℕ) : Type 0 where
+pub record ReadsInto (text : List ℕ) (v : Result NetSize NetRefusal) (tokens arcs : List ℕ) : Type 0 where
   pub answer : Answers text v
   pub net : (m : NetD) → read_net text ≡ gives m → HoldsAt tokens arcs m
-
--- the entries of one kind, in an array of their own
-abbrev pub Copies : List ℕ → ℕ → List ℕ → Type 0
-Copies arcs o xs = Mapped (replicate kind_count 0) kind_count (λ j. get_or arcs (o + j) 0) xs

@@ -3,29 +3,34 @@
 
 ghost use Rattle.std.specs.Prelude.{◌≡◌, true, ◌+◌, ◌≤◌, ◌<◌, length};
 ghost use Rattle.columns.specs.Columns.{column};
-ghost use Rattle.byte_classes.specs.Table.{byte_table};
 ghost use Rattle.lines.specs.Lines.{EndedTo};
 ghost use Rattle.net.specs.NetArrays.{kind_count, reads_at, inputs_in, outputs_in};
-ghost use Rattle.net.specs.NetArrays.{offset_of, goes_of, arrays_at, Fits, Few, Steps};
+ghost use Rattle.net.specs.NetArrays.{offset_of, arrays_at, Fits, Few, Steps};
 ghost use Rattle.plain_lines.specs.Plain.{Listed};
 ghost use Rattle.net_reader.specs.Reads.{add_row, ArcEntry, ArcLetter, kind_by, ArcLineAt, AddsLetter, Blank, any_cell, lacks_of, Takes};
-ghost use Rattle.net_reader.specs.Reads.{ReadsLines, Finishes, no_net, ReadsInto, Reads, Answers, Copies};
+ghost use Rattle.net_reader.specs.Reads.{ReadsLines, Finishes, ReadsInto, Reads, Answers};
 
-use byte_classes::byte_table;
+use byte_classes::{Table, byte_table};
 use byte_entries::{COMMA, LETTER_H, LETTER_I, LETTER_O, LETTER_P, LETTER_R, LETTER_T};
 use digits::number_from;
 use fields::row_of;
 use line_forms::{Row, is_alone, is_one, is_triple, is_two, number_in};
 use lines::{Cursor, Opening, ended_to, line_at, open_at, opens_with, past_ending};
 use net::{
-    ARCS, INHIBITORS, INPUTS, KIND, Net, NetAnswer, NetRefusal, OUTPUTS, READS, Size, Stepped,
-    TOKENS, add_arc, add_place, add_transition, added, arc_at, refused,
+    ARCS, INHIBITORS, INPUTS, KIND, Net, NetRefusal, NetSize, OUTPUTS, READS, Size, TOKENS,
+    add_arc, add_place, add_transition, arc_at,
 };
 use plain_lines::{alone_at, one_at};
 use spec::Class;
 
 // What a line declares is added.
-fn add_row(k: usize, r: Row, s: Size, tokens: &mut [u16; TOKENS], arcs: &mut [u8; ARCS]) -> Stepped
+fn add_row(
+    k: usize,
+    r: Row,
+    s: Size,
+    tokens: &mut [u16; TOKENS],
+    arcs: &mut [u8; ARCS],
+) -> Result<Size, NetRefusal>
     requires { Fits s }
     ensures { Steps s (arrays_at tokens.old arcs.old) (add_row k r) result
         (arrays_at tokens.new arcs.new) }
@@ -60,13 +65,13 @@ fn add_row(k: usize, r: Row, s: Size, tokens: &mut [u16; TOKENS], arcs: &mut [u8
     if is_two(Class::LetterR, r) {
         return add_arc(READS, k, a, b, 1, s, arcs);
     }
-    refused(NetRefusal::Malformed(k), s)
+    Err(NetRefusal::Malformed(k))
 }
 
-// A line that was added, and where the next one starts.
+// The size after a line that was added, and where the next line starts.
 #[derive(Clone, Copy)]
 pub struct Took {
-    pub step: Stepped,
+    pub size: Size,
     pub next: usize,
 }
 
@@ -91,6 +96,7 @@ fn arc_letter(o: Opening) -> bool
 
 // Where the arcs of a letter's kind stand: those of the letters I, O and H one behind the other, as their entries do. It is
 // computed and not chosen by branches, as it changes from line to line and no machine foresees it.
+// A number and no enum: an enum that is told by a match made reading a long net slower by half.
 fn arc_kind(letter: u8) -> usize
     requires { ArcEntry letter }
     ensures { result ≡ offset_of (kind_by letter) }
@@ -102,8 +108,7 @@ fn arc_kind(letter: u8) -> usize
     place as usize * KIND
 }
 
-// The two numbers of an arc's line, its weight, which is 1 where the line has none, and where the next line starts. A line
-// of another form leaves `next` at the position.
+// The two numbers of an arc's line, its weight, which is 1 where the line has none, and where the next line starts.
 #[derive(Clone, Copy)]
 pub struct ArcLine {
     pub first: usize,
@@ -114,50 +119,50 @@ pub struct ArcLine {
 
 // The arc's line that starts at a position with this letter, read in one walk. Only an input's and an output's line may
 // have a third number, the weight (02, 2026-06).
-fn arc_line_at(table: &[u8; 256], text: &[u8], at: usize, letter: u8) -> ArcLine
-    requires { (table.now ≡ byte_table) × Listed text.now at }
+fn arc_line_at(table: &Table, text: &[u8], at: usize, letter: u8) -> Option<ArcLine>
+    requires { Listed text.now at }
     ensures { ArcLineAt text.now at letter result }
 {
-    let none = ArcLine {
-        first: 0,
-        second: 0,
-        weight: 1,
-        next: at,
-    };
     let x = number_from(table, 4, text, at + 2);
     if x.stop != COMMA {
-        return none;
+        return None;
     }
     let first = x.value;
     let y = number_from(table, 4, text, x.end + 1);
     let second = y.value;
     let next = past_ending(table, text, y.stop, y.end);
     if next != y.end {
-        return ArcLine {
+        return Some(ArcLine {
             first,
             second,
             weight: 1,
             next,
-        };
+        });
     }
     if (y.stop != COMMA) | (LETTER_H <= letter) {
-        return none;
+        return None;
     }
     let z = number_from(table, 4, text, y.end + 1);
     let next = past_ending(table, text, z.stop, z.end);
     if next == z.end {
-        return none;
+        return None;
     }
-    ArcLine {
+    Some(ArcLine {
         first,
         second,
         weight: z.value,
         next,
-    }
+    })
 }
 
 // One more arc of the letter's kind, with the two numbers as they stand on the line.
-fn add_letter(letter: u8, k: usize, line: ArcLine, s: Size, arcs: &mut [u8; ARCS]) -> Stepped
+fn add_letter(
+    letter: u8,
+    k: usize,
+    line: ArcLine,
+    s: Size,
+    arcs: &mut [u8; ARCS],
+) -> Result<Size, NetRefusal>
     requires { ArcEntry letter × Fits s }
     ensures { AddsLetter letter k line s arcs.old result arcs.new }
 {
@@ -170,14 +175,14 @@ fn add_letter(letter: u8, k: usize, line: ArcLine, s: Size, arcs: &mut [u8; ARCS
 
 // The line at a cursor is added by the readers of lines and fields, whatever it is.
 fn add_any(
-    table: &[u8; 256],
+    table: &Table,
     text: &[u8],
     c: Cursor,
     s: Size,
     tokens: &mut [u16; TOKENS],
     arcs: &mut [u8; ARCS],
-) -> Took
-    requires { (table.now ≡ byte_table) × (c.at < length text.now) × Fits s }
+) -> Result<Took, NetRefusal>
+    requires { (c.at < length text.now) × Fits s }
     ensures { Takes text.now c.at c.line s (arrays_at tokens.old arcs.old) result
         (arrays_at tokens.new arcs.new) }
 {
@@ -186,25 +191,24 @@ fn add_any(
     let line = line_at(table, text, at);
     let next = line.next;
     if !line.ended {
-        let step = refused(NetRefusal::Malformed(k), s);
-        return Took { step, next };
+        return Err(NetRefusal::Malformed(k));
     }
     let end = line.end;
-    let step = add_row(k, row_of(table, 4, &text[at..end]), s, tokens, arcs);
-    Took { step, next }
+    let size = add_row(k, row_of(table, 4, &text[at..end]), s, tokens, arcs)?;
+    Ok(Took { size, next })
 }
 
 // The line at a cursor is added. A plain line is read in one walk; any other goes to the readers of lines and fields, and
 // so does every malformed one.
 fn add_at(
-    table: &[u8; 256],
+    table: &Table,
     text: &[u8],
     c: Cursor,
     s: Size,
     tokens: &mut [u16; TOKENS],
     arcs: &mut [u8; ARCS],
-) -> Took
-    requires { (table.now ≡ byte_table) × (c.at < length text.now) × EndedTo text.now c.ended × Fits s }
+) -> Result<Took, NetRefusal>
+    requires { (c.at < length text.now) × EndedTo text.now c.ended × Fits s }
     ensures { Takes text.now c.at c.line s (arrays_at tokens.old arcs.old) result
         (arrays_at tokens.new arcs.new) }
 {
@@ -212,31 +216,34 @@ fn add_at(
     let at = c.at;
     let open = open_at(table, text, c);
     if arc_letter(open) {
-        let f = arc_line_at(table, text, at, open.letter);
-        if at < f.next {
-            let step = add_letter(open.letter, k, f, s, arcs);
-            return Took { step, next: f.next };
+        if let Some(f) = arc_line_at(table, text, at, open.letter) {
+            let size = add_letter(open.letter, k, f, s, arcs)?;
+            return Ok(Took { size, next: f.next });
         }
     }
     if opens_with(LETTER_P, open) {
         let f = one_at(table, 4, text, at);
         if at < f.next {
-            let step = add_place(k, f.a, s, tokens);
-            return Took { step, next: f.next };
+            let size = add_place(k, f.a, s, tokens)?;
+            return Ok(Took { size, next: f.next });
         }
     }
     if open.letter == LETTER_T {
         let next = alone_at(table, text, at, open.behind);
         if at < next {
-            let step = add_transition(k, s);
-            return Took { step, next };
+            let size = add_transition(k, s)?;
+            return Ok(Took { size, next });
         }
     }
     add_any(table, text, c, s, tokens, arcs)
 }
 
 // The lines are added, one after the other, to arrays that hold no net yet.
-fn add_lines(text: &[u8], tokens: &mut [u16; TOKENS], arcs: &mut [u8; ARCS]) -> Stepped
+fn add_lines(
+    text: &[u8],
+    tokens: &mut [u16; TOKENS],
+    arcs: &mut [u8; ARCS],
+) -> Result<Size, NetRefusal>
     requires { Blank tokens.old arcs.old }
     ensures { ReadsLines text.now result (arrays_at tokens.new arcs.new) }
 {
@@ -251,17 +258,12 @@ fn add_lines(text: &[u8], tokens: &mut [u16; TOKENS], arcs: &mut [u8; ARCS]) -> 
     let mut at: usize = 0;
     while at < text.len() {
         let line = Cursor { line: k, at, ended };
-        let took = add_at(&table, text, line, s, tokens, arcs);
-        let step = took.step;
-        let answer = step.answer;
-        s = step.size;
-        if let NetAnswer::Refused(_) = answer {
-            return step;
-        }
+        let took = add_at(&table, text, line, s, tokens, arcs)?;
+        s = took.size;
         k += 1;
         at = took.next;
     }
-    added(s.places, s.transitions, s.total)
+    Ok(s)
 }
 
 // Whether some place is joined to the transition, by the kind of arc that stands from `at` on.
@@ -269,14 +271,7 @@ fn any_cell(arcs: &[u8; ARCS], at: usize, t: usize, places: usize) -> bool
     requires { (at ≤ reads_at) × (t < 32) × (places ≤ 32) }
     ensures { result ≡ any_cell (column at kind_count arcs.now) t places }
 {
-    let mut p: usize = 0;
-    while p < places {
-        if 0 < arc_at(arcs, at, t, p) {
-            return true;
-        }
-        p += 1;
-    }
-    false
+    (0..places).any(|p| 0 < arc_at(arcs, at, t, p))
 }
 
 // Whether the transition lacks an input or an output.
@@ -287,39 +282,37 @@ fn lacks(arcs: &[u8; ARCS], t: usize, places: usize) -> bool
     !any_cell(arcs, INPUTS, t, places) | !any_cell(arcs, OUTPUTS, t, places)
 }
 
-// The answer to all lines, and then to the rule that is judged after them.
-fn finish(read: Stepped, arcs: &[u8; ARCS]) -> NetAnswer
-    requires { goes_of read.answer ≡ true → Few read.size }
-    ensures { Finishes read arcs.now result }
+// The rule that is judged after all lines.
+fn finish(size: Size, arcs: &[u8; ARCS]) -> Result<NetSize, NetRefusal>
+    requires { Few size }
+    ensures { Finishes size arcs.now result }
 {
-    let answer = read.answer;
-    if let NetAnswer::Refused(_) = answer {
-        return answer;
-    }
-    let size = read.size;
-    let places = size.places;
-    let end = size.transitions;
-    let mut t: usize = 0;
-    while t < end {
-        if lacks(arcs, t, places) {
-            return NetAnswer::Refused(NetRefusal::Lacking(t));
+    for t in 0..size.transitions {
+        if lacks(arcs, t, size.places) {
+            return Err(NetRefusal::Lacking(t));
         }
-        t += 1;
     }
-    answer
+    Ok(NetSize {
+        places: size.places,
+        transitions: size.transitions,
+    })
 }
 
 // The net that a text declares, in arrays that are all zero before; where it is refused they hold no net.
-pub fn read_into(net: &[u8], tokens: &mut [u16; TOKENS], arcs: &mut [u8; ARCS]) -> NetAnswer
+pub fn read_into(
+    net: &[u8],
+    tokens: &mut [u16; TOKENS],
+    arcs: &mut [u8; ARCS],
+) -> Result<NetSize, NetRefusal>
     requires { Blank tokens.old arcs.old }
     ensures { ReadsInto net.now result tokens.new arcs.new }
 {
-    let read = add_lines(net, tokens, arcs);
-    finish(read, arcs)
+    let size = add_lines(net, tokens, arcs)?;
+    finish(size, arcs)
 }
 
 // What the reader answers to a text, for those who want no net.
-pub fn net_answer(net: &[u8]) -> NetAnswer
+pub fn net_answer(net: &[u8]) -> Result<NetSize, NetRefusal>
     ensures { Answers net.now result }
 {
     let mut tokens = [0u16; TOKENS];
@@ -330,62 +323,27 @@ pub fn net_answer(net: &[u8]) -> NetAnswer
 // The arcs of one kind.
 fn arcs_of(arcs: &[u8; ARCS], at: usize) -> [u8; KIND]
     requires { at ≤ reads_at }
-    ensures { Copies arcs.now at result }
+    ensures { result ≡ column at kind_count arcs.now }
 {
     let mut r = [0u8; KIND];
-    let mut i: usize = 0;
-    while i < KIND {
-        r[i] = arcs[at + i];
-        i += 1;
-    }
+    r.copy_from_slice(&arcs[at..at + KIND]);
     r
 }
 
-// The net of no text.
-fn no_net() -> Net
-    ensures { result ≡ no_net }
-{
-    Net {
-        places: 0,
-        transitions: 0,
-        tokens: [0u16; TOKENS],
-        inputs: [0u8; KIND],
-        outputs: [0u8; KIND],
-        inhibitors: [0u8; KIND],
-        reads: [0u8; KIND],
-    }
-}
-
-// What is read of a text, and the net by value.
-#[derive(Drop)]
-pub struct NetRead {
-    pub answer: NetAnswer,
-    pub net: Net,
-}
-
-// The net that a text declares, by value; where it is refused, no net.
-pub fn read_net(net: &[u8]) -> NetRead
+// The net that a text declares, by value.
+pub fn read_net(net: &[u8]) -> Result<Net, NetRefusal>
     ensures { Reads net.now result }
 {
     let mut tokens = [0u16; TOKENS];
     let mut arcs = [0u8; ARCS];
-    let answer = read_into(net, &mut tokens, &mut arcs);
-    if let NetAnswer::Accepted(places, transitions) = answer {
-        return NetRead {
-            answer,
-            net: Net {
-                places,
-                transitions,
-                tokens,
-                inputs: arcs_of(&arcs, INPUTS),
-                outputs: arcs_of(&arcs, OUTPUTS),
-                inhibitors: arcs_of(&arcs, INHIBITORS),
-                reads: arcs_of(&arcs, READS),
-            },
-        };
-    }
-    NetRead {
-        answer,
-        net: no_net(),
-    }
+    let size = read_into(net, &mut tokens, &mut arcs)?;
+    Ok(Net {
+        places: size.places,
+        transitions: size.transitions,
+        tokens,
+        inputs: arcs_of(&arcs, INPUTS),
+        outputs: arcs_of(&arcs, OUTPUTS),
+        inhibitors: arcs_of(&arcs, INHIBITORS),
+        reads: arcs_of(&arcs, READS),
+    })
 }

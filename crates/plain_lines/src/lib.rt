@@ -3,11 +3,10 @@
 #![tactic(auto)]
 
 ghost use Rattle.std.specs.Prelude.{◌≡◌, ◌≤◌};
-ghost use Rattle.byte_classes.specs.Table.{byte_table};
 ghost use Rattle.lines.specs.Lines.{Ahead};
 ghost use Rattle.plain_lines.specs.Plain.{ReadsField, Lettered, Listed, AloneAt, OneAt, TwoAt, ThreeAt};
 
-use byte_classes::entry_of;
+use byte_classes::Table;
 use byte_entries::{COMMA, DASH};
 use digits::number_from;
 use line_forms::Slot;
@@ -23,16 +22,16 @@ pub struct FieldFrom {
 }
 
 // The number or the dash that starts at a position.
-fn field_from(table: &[u8; 256], most: usize, s: &[u8], at: usize) -> FieldFrom
-    requires { (table.now ≡ byte_table) × (1 ≤ most) × (most ≤ 18) × Ahead s.now at }
+fn field_from(table: &Table, most: usize, s: &[u8], at: usize) -> FieldFrom
+    requires { (1 ≤ most) × (most ≤ 18) × Ahead s.now at }
     ensures { ReadsField most s.now at result }
 {
-    if entry_of(table, s[at]) == DASH {
+    if table.entry_of(s[at]) == DASH {
         let end = at + 1;
         return FieldFrom {
             field: Slot::Dash,
             end,
-            stop: entry_of(table, s[end]),
+            stop: table.entry_of(s[end]),
         };
     }
     let n = number_from(table, most, s, at);
@@ -44,8 +43,8 @@ fn field_from(table: &[u8; 256], most: usize, s: &[u8], at: usize) -> FieldFrom
 }
 
 // The next line starts here if a letter stands alone on the line that starts at a position; else the position.
-pub fn alone_at(table: &[u8; 256], s: &[u8], at: usize, behind: u8) -> usize
-    requires { (table.now ≡ byte_table) × Lettered s.now at behind }
+pub fn alone_at(table: &Table, s: &[u8], at: usize, behind: u8) -> usize
+    requires { Lettered s.now at behind }
     ensures { AloneAt s.now at result }
 {
     let end = at + 1;
@@ -58,14 +57,15 @@ pub fn alone_at(table: &[u8; 256], s: &[u8], at: usize, behind: u8) -> usize
 
 // The number of a line with a letter and a number, and where the next line starts; below the same for other forms. A
 // line of another form leaves `next` at the position.
+// A type for each form: their callers take each field by its name, and only the last two of three may be dashes.
 #[derive(Clone, Copy)]
 pub struct One {
     pub a: usize,
     pub next: usize,
 }
 
-pub fn one_at(table: &[u8; 256], most: usize, s: &[u8], at: usize) -> One
-    requires { (table.now ≡ byte_table) × (1 ≤ most) × (most ≤ 18) × Listed s.now at }
+pub fn one_at(table: &Table, most: usize, s: &[u8], at: usize) -> One
+    requires { (1 ≤ most) × (most ≤ 18) × Listed s.now at }
     ensures { OneAt most s.now at result }
 {
     let x = number_from(table, most, s, at + 2);
@@ -83,8 +83,8 @@ pub struct Two {
     pub next: usize,
 }
 
-pub fn two_at(table: &[u8; 256], most: usize, s: &[u8], at: usize) -> Two
-    requires { (table.now ≡ byte_table) × (1 ≤ most) × (most ≤ 18) × Listed s.now at }
+pub fn two_at(table: &Table, most: usize, s: &[u8], at: usize) -> Two
+    requires { (1 ≤ most) × (most ≤ 18) × Listed s.now at }
     ensures { TwoAt most s.now at result }
 {
     let none = Two {
@@ -116,8 +116,8 @@ pub struct Three {
     pub next: usize,
 }
 
-pub fn three_at(table: &[u8; 256], most: usize, s: &[u8], at: usize) -> Three
-    requires { (table.now ≡ byte_table) × (1 ≤ most) × (most ≤ 18) × Listed s.now at }
+pub fn three_at(table: &Table, most: usize, s: &[u8], at: usize) -> Three
+    requires { (1 ≤ most) × (most ≤ 18) × Listed s.now at }
     ensures { ThreeAt most s.now at result }
 {
     let none = Three {

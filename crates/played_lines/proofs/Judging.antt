@@ -2,7 +2,7 @@
 -- behind it; where nothing was met, the lowest event that no line has is the same in the array and in the lines.
 use Prim.Native.Nat.{ℕ, ◌+◌, ◌≤◌, ◌<◌}
 use mathlib.Core.Path.{◌≡◌, refl, sym, ap, ◌∙◌}
-use mathlib.Core.Bool.{true, false, not, false≢true}
+use mathlib.Core.Bool.{not}
 use mathlib.Core.Option.{Option, none, some}
 use mathlib.Core.List.{List, [], append-nil}
 use native.Mathlib.Omega.{arith}
@@ -15,22 +15,15 @@ use Rattle.spec.specs.Record.{RunRecord}
 use Rattle.spec.specs.Replaying.{missing, groups_line, read_arrangement}
 use Rattle.lists.specs.Search.{first-same}
 use Rattle.lines.specs.Agree.{Agrees, giving, refusing}
-use Rattle.lines.proofs.Answers.{is_given}
-use Rattle.arrangement_reader.specs.Lined.{TellsOrder, Stands, Lined, FindsBroken}
-use Rattle.arrangement_reader.specs.Arrangement.{answer_of, lines_played, goes_of, unless_broken, ReadsLines, missing_in, finished}
-use Rattle.arrangement_reader.specs.declared.ArrangementAnswer.{ArrangementAnswer}
-use Rattle.arrangement_reader.specs.declared.ArrangementAnswer.TheVariants.{Keeps, Malformed, Unknown, Repeated, Broken, Missing}
+use Rattle.lines.proofs.Answers.{refuses≢gives}
+use Rattle.arrangement_reader.specs.Lined.{TellsOrder, Stands, Lined, or_zero, FindsBroken}
+use Rattle.arrangement_reader.specs.Arrangement.{answer_of, answer_behind, lines_played, unless_broken, ReadsLines, missing_in, finished}
+use Rattle.arrangement_reader.specs.declared.ArrangementRefusal.{ArrangementRefusal}
+use Rattle.arrangement_reader.specs.declared.ArrangementRefusal.TheVariants.{Broken}
+use Rattle.std.proofs.Common.{Option as Found, Some, None, Result, Err}
 use Rattle.arrangement_reader.specs.declared.LinesRead.{LinesRead}
 use Rattle.arrangement_reader.proofs.Reading.{events-few, lines-few}
 use Rattle.played_lines.specs.Lines.{Arranged, JudgesLines}
-
-pub goes_given : (a : ArrangementAnswer) → is_given (answer_of a) ≡ goes_of a
-goes_given (Keeps k) = refl
-goes_given (Malformed k) = refl
-goes_given (Unknown k) = refl
-goes_given (Repeated k) = refl
-goes_given (Broken k) = refl
-goes_given (Missing e) = refl
 
 -- ---- the answer to the lines, and then to the rule behind them
 
@@ -60,25 +53,27 @@ module _ {A : Type 0} (b : ℕ) (a : Answer A) where
   unfolding unless_broken
   none-broken h = let z : b ≡ 0 = omega arith in rw z
 
-module _ {n : ℕ} {t text : List ℕ} {r : LinesRead} {xs lined : List ℕ} {b : ℕ} (few : n ≤ 128) (L : ReadsLines n text r xs lined) (B : FindsBroken n r.lines t xs lined b) where
+module _ {n : ℕ} {t text : List ℕ} {r : LinesRead} {xs lined : List ℕ} {b : Found ℕ} (few : n ≤ 128) (L : ReadsLines n text r xs lined) (B : FindsBroken n r.lines t xs lined b) where
   module _ (R : RunRecord) (o : TellsOrder n t R) where
-    lines_are : by_lines (groups_line R) 1 (lines_of text) [] ≡ unless_broken b L.last
-    lines_are = L.whole R o.events ∙ ap (λ (k : ℕ). unless_broken k L.last) (sym (B R L.groups o L.taken))
+    lines_are : by_lines (groups_line R) 1 (lines_of text) [] ≡ unless_broken (or_zero b) L.last
+    lines_are = L.whole R o.events ∙ ap (λ (k : ℕ). unless_broken k L.last) (sym (B.by R L.groups o L.taken))
 
-    kept : b ≤ 0 → by_lines (groups_line R) 1 (lines_of text) [] ≡ L.last
-    kept h = lines_are ∙ none-broken b L.last h
+    kept : b ≡ None → by_lines (groups_line R) 1 (lines_of text) [] ≡ L.last
+    kept h = lines_are ∙ none-broken (or_zero b) L.last (rw h (omega arith))
 
-  pub broken : 0 < b → JudgesLines n t text (Broken b) lined
-  broken h R o = refusing 44 b (read-refused R text (lines_are R o ∙ one-broken b L.last h)) refl
+  pub broken : {k : ℕ} → b ≡ Some k → JudgesLines n t text (Err (Broken k)) lined
+  broken {k} h R o =
+      let positive : 0 < k = rw h at B.some in
+      refusing 44 k (read-refused R text (lines_are R o ∙ rw h (one-broken k L.last positive))) refl
 
-  pub refused : b ≤ 0 → goes_of r.answer ≡ false → JudgesLines n t text r.answer lined
-  refused h f R o = go L.answer
+  pub refused : b ≡ None → {x : ArrangementRefusal} → r.refused ≡ Some x → JudgesLines n t text (Err x) lined
+  refused h {x} f R o = go (rw f at L.answer)
     where
-      go : Agrees lines_played (answer_of r.answer) (λ gs. gs ≡ L.groups) L.last → Agrees lines_played (answer_of r.answer) (λ gs. Arranged n gs lined) (read_arrangement R text)
-      go (giving gs q x y) = absurd (false≢true (sym f ∙ sym (goes_given r.answer) ∙ ap is_given x))
-      go (refusing q s e x) = refusing q s (read-refused R text (kept R o h ∙ e)) x
+      go : Agrees lines_played (answer_behind r.lines (Some x)) (λ gs. gs ≡ L.groups) L.last → Agrees lines_played (answer_of (Err x)) (λ gs. Arranged n gs lined) (read_arrangement R text)
+      go (giving gs q y z) = absurd (refuses≢gives y)
+      go (refusing q s e y) = refusing q s (read-refused R text (kept R o h ∙ e)) y
 
-  pub finishes : b ≤ 0 → goes_of r.answer ≡ true → (a : ArrangementAnswer) → answer_of a ≡ finished xs n r.lines → JudgesLines n t text a lined
+  pub finishes : b ≡ None → r.refused ≡ None → (a : Result ℕ ArrangementRefusal) → answer_of a ≡ finished xs n r.lines → JudgesLines n t text a lined
   unfolding finished ◌>>◌ refuse◌at?◌
   finishes h f a e R o = go (lowest (missing gs) (length R.events)) refl
     where
@@ -88,12 +83,12 @@ module _ {n : ℕ} {t text : List ℕ} {r : LinesRead} {xs lined : List ℕ} {b 
       stood : Lined n (r.lines + 1) xs gs
       stood = L.stood f
 
-      given : Agrees lines_played (answer_of r.answer) (λ gs'. gs' ≡ gs) L.last → L.last ≡ gives gs
+      given : Agrees lines_played (answer_behind r.lines None) (λ gs'. gs' ≡ gs) L.last → L.last ≡ gives gs
       given (giving gs' q x y) = q ∙ ap (λ zs. gives zs) y
-      given (refusing q s d x) = absurd (false≢true (sym (ap is_given x) ∙ goes_given r.answer ∙ f))
+      given (refusing q s d x) = absurd (refuses≢gives (sym x))
 
       all : read_arrangement R text ≡ (refuse 45 at? lowest (missing gs) (length R.events) >> gives gs)
-      all = read-given R text (kept R o h ∙ given L.answer)
+      all = read-given R text (kept R o h ∙ given (rw f at L.answer))
 
       low : lowest (missing_in xs) n ≡ lowest (missing gs) (length R.events)
       low = lowest-held gs R few o stood.stands

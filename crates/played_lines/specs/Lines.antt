@@ -1,5 +1,5 @@
 -- What judging all lines of an arrangement promises.
-use Rattle.std.specs.Prelude.{ℕ, ◌≤◌, ◌<◌, ◌≡◌, List, length, get_or}
+use Rattle.std.specs.Prelude.{ℕ, ◌≤◌, ◌<◌, ◌≡◌, List, length, get_or, Result}
 use Rattle.spec.specs.Lists.{In, flat}
 use Rattle.spec.specs.Net.{Net as NetD, takes, makes}
 use Rattle.spec.specs.Record.{RunRecord, transition_of}
@@ -9,7 +9,7 @@ use Rattle.lines.specs.Agree.{Agrees}
 use Rattle.net.specs.NetArrays.{outputs_at, Cells}
 use Rattle.arrangement_reader.specs.Lined.{TellsOrder, Ordered}
 use Rattle.arrangement_reader.specs.Arrangement.{answer_of, lines_played}
-use Rattle.arrangement_reader.specs.declared.ArrangementAnswer.{ArrangementAnswer}
+use Rattle.arrangement_reader.specs.declared.ArrangementRefusal.{ArrangementRefusal}
 
 -- the lines of an arrangement of n events, in an array
 pub record Arranged (n : ℕ) (gs : List (List ℕ)) (lined : List ℕ) : Type 0 where
@@ -19,7 +19,7 @@ pub record Arranged (n : ℕ) (gs : List (List ℕ)) (lined : List ℕ) : Type 0
   pub known : (e : ℕ) → In e (flat gs) → e < n
 
 -- the answer is that of the definitions, and where the text is an arrangement the array has its lines
-abbrev pub JudgesLines : ℕ → List ℕ → List ℕ → ArrangementAnswer → List ℕ → Type 0
+abbrev pub JudgesLines : ℕ → List ℕ → List ℕ → Result ℕ ArrangementRefusal → List ℕ → Type 0
 JudgesLines n t text a lined =
     (R : RunRecord) → TellsOrder n t R
     → Agrees lines_played (answer_of a) (λ gs. Arranged n gs lined) (read_arrangement R text)

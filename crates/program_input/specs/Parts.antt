@@ -1,13 +1,12 @@
 -- What the parting of the program's input promises.
-use Rattle.std.specs.Prelude.{◌≡◌, ℕ, zero, suc, ◌+◌, ◌≤◌, Bool, true, ◌&&◌, cond, List, [], ◌∷◌, length, get_or, take, drop, eqb, ltb}
+use Rattle.std.specs.Prelude.{◌≡◌, ℕ, zero, suc, ◌+◌, ◌≤◌, Bool, true, ◌&&◌, cond, List, [], ◌∷◌, length, get_or, take, drop, eqb, ltb, Option as Maybe, Some, None}
 use Prim.Native.Char.{code}
 use Rattle.std.proofs.Math.Option.{Option, none, some}
 use Rattle.spec.specs.Text.{Line, raw_lines_of, without_return, lines_of, on_first, is_a}
 use Rattle.spec.specs.Printing.{NetAndLog, is_parting, with_net_line, parted}
 use Rattle.spec.specs.declared.Class.TheVariants.{LineEnd}
 use Rattle.lines.specs.Lines.{past_ending}
-use Rattle.program_input.specs.declared.Parting.{Parting}
-use Rattle.program_input.specs.declared.Parting.TheVariants.{At, Nothing}
+use Rattle.program_input.specs.declared.Parted.{Parted}
 
 -- ---- the line `=` at a position
 
@@ -53,6 +52,6 @@ pub record PartedAt (input : List ℕ) (a b : ℕ) : Type 0 where
   pub net : a ≤ length input
   pub log : b ≤ length input
 
-abbrev pub Parts : List ℕ → Parting → Type 0
-Parts input (At a b) = PartedAt input a b
-Parts input Nothing = parted (lines_of input) ≡ none
+abbrev pub Parts : List ℕ → Maybe Parted → Type 0
+Parts input (Some p) = PartedAt input p.end p.start
+Parts input None = parted (lines_of input) ≡ none

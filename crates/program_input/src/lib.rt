@@ -2,42 +2,38 @@
 #![tactic(auto)]
 
 ghost use Rattle.std.specs.Prelude.{◌≡◌, ◌≤◌, ◌<◌, length};
-ghost use Rattle.byte_classes.specs.Table.{byte_table};
 ghost use Rattle.lines.specs.Lines.{PastEnding};
 ghost use Rattle.program_input.specs.Parts.{starts_at, parts_at, Running, Parts};
 
-use byte_classes::{byte_table, entry_of};
+use byte_classes::{Table, byte_table};
 use byte_entries::{LINE_END, RETURN};
-use byte_slices::{CHUNK, count_at};
+use byte_slices::{CHUNK, count_in};
 use lines::past_ending;
 
-// Where the net ends and where the log starts, or that no line is `=`.
+// Where the net ends, in front of the line `=`, and where the log starts behind it.
 #[derive(Clone, Copy)]
-pub enum Parting {
-    At(usize, usize),
-    Nothing,
+pub struct Parted {
+    pub end: usize,
+    pub start: usize,
 }
 
 // Whether a line starts at a position.
-fn starts_at(table: &[u8; 256], s: &[u8], at: usize) -> bool
-    requires { (table.now ≡ byte_table) × (at < length s.now) }
+fn starts_at(table: &Table, s: &[u8], at: usize) -> bool
+    requires { at < length s.now }
     ensures { result ≡ starts_at s.now at }
 {
-    if at == 0 {
-        return true;
-    }
-    entry_of(table, s[at - 1]) == LINE_END
+    at == 0 || table.entry_of(s[at - 1]) == LINE_END
 }
 
 // Where the log starts if an ending stands at a position; else the position.
-fn log_from(table: &[u8; 256], s: &[u8], at: usize) -> usize
-    requires { (table.now ≡ byte_table) × (at ≤ length s.now) }
+fn log_from(table: &Table, s: &[u8], at: usize) -> usize
+    requires { at ≤ length s.now }
     ensures { PastEnding s.now at result }
 {
     if s.len() <= at {
         return at;
     }
-    let entry = entry_of(table, s[at]);
+    let entry = table.entry_of(s[at]);
     let second = at + 1;
     if (entry == RETURN) & (s.len() <= second) {
         return at;
@@ -46,8 +42,8 @@ fn log_from(table: &[u8; 256], s: &[u8], at: usize) -> usize
 }
 
 // Whether the line `=` starts at a position. Its byte has no class of its own, and is compared.
-fn parts_at(table: &[u8; 256], s: &[u8], at: usize) -> bool
-    requires { (table.now ≡ byte_table) × (at < length s.now) }
+fn parts_at(table: &Table, s: &[u8], at: usize) -> bool
+    requires { at < length s.now }
     ensures { result ≡ parts_at s.now at }
 {
     if s[at] != b'=' {
@@ -66,8 +62,8 @@ fn skip(s: &[u8]) -> usize
     ensures { Running s.now result }
 {
     let mut at: usize = 0;
-    while at + CHUNK <= s.len() {
-        if 0 < count_at(b'=', s, at) {
+    for part in s.chunks_exact(CHUNK) {
+        if count_in(b'=', part) > 0 {
             break;
         }
         at += CHUNK;
@@ -75,18 +71,18 @@ fn skip(s: &[u8]) -> usize
     at
 }
 
-// The first line `=`.
-pub fn part_input(input: &[u8]) -> Parting
+// The first line `=`, if a line is one.
+pub fn part_input(input: &[u8]) -> Option<Parted>
     ensures { Parts input.now result }
 {
     let table = byte_table();
-    let mut at = skip(input);
-    while at < input.len() {
+    for at in skip(input)..input.len() {
         if parts_at(&table, input, at) {
-            let log = log_from(&table, input, at + 1);
-            return Parting::At(at, log);
+            return Some(Parted {
+                end: at,
+                start: log_from(&table, input, at + 1),
+            });
         }
-        at += 1;
     }
-    Parting::Nothing
+    None
 }

@@ -1,5 +1,5 @@
 -- What the functions that enter one thing rely on and promise.
-use Rattle.std.specs.Prelude.{ℕ, ◌*◌, ◌≤◌, ◌≡◌, Bool, true, false, List, length}
+use Rattle.std.specs.Prelude.{ℕ, ◌*◌, ◌≤◌, ◌≡◌, List, length, Result, Ok, Err, IfOk}
 use Rattle.spec.specs.Answer.{Answer, gives}
 use Rattle.spec.specs.Net.{Net, places}
 use Rattle.spec.specs.Checking.{enter_event, enter_condition, enter_mark}
@@ -13,9 +13,6 @@ use Rattle.record_columns.specs.Layout.{events_most, conditions_most, condition_
 use Rattle.record_columns.specs.Layout.{HoldsRecord, HoldsMarks}
 use Rattle.record_columns.specs.declared.Bounds.{Bounds}
 use Rattle.record_columns.specs.declared.Counts.{Counts}
-use Rattle.record_columns.specs.declared.RecordRead.{RecordRead}
-use Rattle.record_columns.specs.declared.RecordAnswer.{RecordAnswer}
-use Rattle.record_columns.specs.declared.RecordAnswer.TheVariants.{Read, Refused}
 use Rattle.record_columns.specs.declared.RecordRefusal.{RecordRefusal}
 use Rattle.record_columns.specs.declared.RecordRefusal.TheVariants.{Malformed, LimitPassed, Undeclared}
 use Rattle.record_columns.specs.declared.RecordRefusal.TheVariants.{MarkedAlready, WrongInitial, WrongArcs}
@@ -33,14 +30,13 @@ record_refusal (WrongMarks e) = (37, e)
 record_refusal (WrongKind e) = (38, e)
 record_refusal (BeforeItself e) = (39, e)
 
-abbrev pub answer_of : RecordAnswer → Answer (Unit {0})
-answer_of Read = gives tt
-answer_of (Refused x) = refused_as (record_refusal x)
+-- what a line or a text is answered, with the counts after it
+abbrev pub Entered : Type 0
+Entered = Result Counts RecordRefusal
 
--- the reading goes on
-abbrev pub goes_of : RecordAnswer → Bool
-goes_of Read = true
-goes_of (Refused x) = false
+abbrev pub answer_of : Entered → Answer (Unit {0})
+answer_of (Ok s) = gives tt
+answer_of (Err x) = refused_as (record_refusal x)
 
 -- nothing is returned of a record beside its counts
 abbrev pub no_values : RunRecord → Unit {0}
@@ -54,6 +50,10 @@ Keeps s b R = HoldsRecord s.events s.conditions s.marks b R
 pub record Holds (s : Counts) (b words : List ℕ) (R : RunRecord) : Type 0 where
   pub columns : Keeps s b R
   pub marks : HoldsMarks words R
+
+-- the same of the counts that are answered
+abbrev pub HoldsEntered : Entered → List ℕ → List ℕ → RunRecord → Type 0
+HoldsEntered r b words R = IfOk r (λ s. Holds s b words R)
 
 -- bounds whose numbers the bytes have room for
 pub record Room (b : Bounds) : Type 0 where
@@ -72,10 +72,6 @@ pub record Spans (s : Counts) (words : List ℕ) : Type 0 where
   pub room : condition_words * s.conditions ≤ length words
   pub sub : (i : ℕ) → Sub (row_of words i)
 
--- so many events, conditions and marks
-abbrev pub counts_of : ℕ → ℕ → ℕ → Counts
-counts_of events conditions marks = record { events = events; conditions = conditions; marks = marks }
-
 -- the condition and the mark that a line names
 abbrev pub condition_in : ℕ → Slot → Slot → Condition
 condition_in p x y = record { place = p; producer = event_of x; consumer = event_of y }
@@ -84,24 +80,24 @@ abbrev pub mark_of : MarkKind → ℕ → ℕ → Mark
 mark_of x c e = record { kind = x; condition = c; event = e }
 
 -- what a step of the definitions answers of every record that the bytes and words hold
-pub record Enters (s : Counts) (b words : List ℕ) (f : RunRecord → Answer RunRecord) (r : RecordRead)
+pub record Enters (s : Counts) (b words : List ℕ) (f : RunRecord → Answer RunRecord) (r : Entered)
     (b' words' : List ℕ) : Type 0 where
   pub answers : (R : RunRecord) → Holds s b words R
-      → Agrees no_values (answer_of r.answer) (Holds r.counts b' words') (f R)
+      → Agrees no_values (answer_of r) (HoldsEntered r b' words') (f R)
 
 -- an event of transition t is entered as line k enters it beside a net of the bounds, whatever the marks are
-abbrev pub EntersEvent : Bounds → ℕ → ℕ → Counts → List ℕ → RecordRead → List ℕ → Type 0
+abbrev pub EntersEvent : Bounds → ℕ → ℕ → Counts → List ℕ → Entered → List ℕ → Type 0
 EntersEvent b k t s rec r rec' =
     (N : Net) (marks : List ℕ) → N.transitions ≡ b.transitions
     → Enters s rec marks (enter_event b.limits N k t) r rec' marks
 
 -- a condition is entered as line k enters it beside a net of the bounds, whatever the marks are
-abbrev pub EntersCondition : Bounds → ℕ → Condition → Counts → List ℕ → RecordRead → List ℕ → Type 0
+abbrev pub EntersCondition : Bounds → ℕ → Condition → Counts → List ℕ → Entered → List ℕ → Type 0
 EntersCondition b k c s rec r rec' =
     (N : Net) (marks : List ℕ) → places N ≡ b.places
     → Enters s rec marks (enter_condition b.limits N k c) r rec' marks
 
 -- a mark is entered as line k enters it, whatever the bytes are
-abbrev pub EntersMark : Bounds → ℕ → Mark → Counts → List ℕ → RecordRead → List ℕ → Type 0
+abbrev pub EntersMark : Bounds → ℕ → Mark → Counts → List ℕ → Entered → List ℕ → Type 0
 EntersMark b k w s marks r marks' =
     (rec : List ℕ) → Enters s rec marks (enter_mark b.limits k w) r rec marks'

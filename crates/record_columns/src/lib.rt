@@ -8,15 +8,14 @@ ghost use Rattle.line_forms.specs.Rows.{event_of};
 ghost use Rattle.reach.specs.Rows.{way};
 ghost use Rattle.record_columns.specs.Layout.{events_most, conditions_most, event_code};
 ghost use Rattle.record_columns.specs.Layout.{mark_slots, mark_row, kind_code};
-ghost use Rattle.record_columns.specs.Enters.{counts_of, condition_in, mark_of};
+ghost use Rattle.record_columns.specs.Enters.{condition_in, mark_of};
 ghost use Rattle.record_columns.specs.Enters.{Room, Fits, Spans, EntersEvent, EntersCondition, EntersMark};
 
 use line_forms::Slot;
 use reach::{raise, related};
 use spec::{Limits, MarkKind};
 
-// How many events and conditions a record has room for; its bytes, and the words of its marks, eight for each
-// condition; and the byte of a producer or consumer that is none.
+// How many events and conditions a record has room for; its bytes, and the words of its marks, eight for each condition.
 pub const EVENTS: usize = 128;
 
 pub const CONDITIONS: usize = 512;
@@ -25,6 +24,7 @@ pub const RECORD: usize = 1664;
 
 pub const MARK_WORDS: usize = 4096;
 
+// The byte of a producer or consumer that is none: a byte of the column, where an Option would take two.
 pub const NO_EVENT: u8 = 128;
 
 // Where the bytes of a record stand. Before PLACES stand the transitions of the events; then from each number on the
@@ -52,7 +52,7 @@ pub struct Bounds {
 }
 
 // How many events, conditions and marks a record has.
-#[derive(Clone, Copy)]
+#[derive(Clone, Copy, Debug, PartialEq, Eq)]
 pub struct Counts {
     pub events: usize,
     pub conditions: usize,
@@ -61,7 +61,7 @@ pub struct Counts {
 
 // Why a record is refused: by its reader, with the line, or by a rule of processes, with the lowest place or event. The
 // answers of all operations that take a record hold it.
-#[derive(Clone, Copy)]
+#[derive(Clone, Copy, Debug, PartialEq, Eq)]
 pub enum RecordRefusal {
     Malformed(usize),
     LimitPassed(usize),
@@ -74,29 +74,14 @@ pub enum RecordRefusal {
     BeforeItself(usize),
 }
 
-// What the reader answers: that the record is read, or a refusal.
-#[derive(Clone, Copy)]
-pub enum RecordAnswer {
-    Read,
-    Refused(RecordRefusal),
-}
-
-// The answer to the lines so far, and the counts after them.
-#[derive(Clone, Copy)]
-pub struct RecordRead {
-    pub answer: RecordAnswer,
-    pub counts: Counts,
-}
-
 // Whether a producer or consumer is none, or an event below n.
+#[tactic(auto, unfolding(spec::specs::Process::is_below))]
 fn event_below(n: usize, f: Slot) -> bool
     ensures { result ≡ is_below n (event_of f) }
 {
     match f {
         Slot::Number(e) => e < n,
-        Slot::Dash => true,
-        Slot::Wrong => true,
-        Slot::Absent => true,
+        Slot::Dash | Slot::Wrong | Slot::Absent => true,
     }
 }
 
@@ -106,9 +91,7 @@ fn event_code(f: Slot) -> usize
 {
     match f {
         Slot::Number(e) => e,
-        Slot::Dash => EVENTS,
-        Slot::Wrong => EVENTS,
-        Slot::Absent => EVENTS,
+        Slot::Dash | Slot::Wrong | Slot::Absent => EVENTS,
     }
 }
 
@@ -116,20 +99,16 @@ fn event_code(f: Slot) -> usize
 pub fn is_after(x: MarkKind) -> bool
     ensures { way result ≡ kind_code x }
 {
-    match x {
-        MarkKind::Before => false,
-        MarkKind::After => true,
-        MarkKind::Read => false,
-    }
+    matches!(x, MarkKind::After)
 }
 
 // The slot of a mark.
+#[tactic(auto, unfolding(spec::specs::Record::slot_of))]
 pub fn slot_of(x: MarkKind) -> usize
     ensures { result ≡ slot_of x }
 {
     match x {
-        MarkKind::Before => GUARD_SLOT,
-        MarkKind::After => GUARD_SLOT,
+        MarkKind::Before | MarkKind::After => GUARD_SLOT,
         MarkKind::Read => READ_SLOT,
     }
 }
@@ -142,51 +121,35 @@ pub fn mark_row(c: usize, slot: usize) -> usize
     SLOTS * c + slot
 }
 
-// The record so far has these counts.
-pub fn entered(events: usize, conditions: usize, marks: usize) -> RecordRead
-    ensures { result ≡ record { answer = RecordAnswer.Read; counts = counts_of events conditions marks } }
-{
-    RecordRead {
-        answer: RecordAnswer::Read,
-        counts: Counts {
-            events,
-            conditions,
-            marks,
-        },
-    }
-}
-
-// The line is refused.
-pub fn refused(why: RecordRefusal, s: Counts) -> RecordRead
-    ensures { result ≡ record { answer = RecordAnswer.Refused why; counts = s } }
-{
-    RecordRead {
-        answer: RecordAnswer::Refused(why),
-        counts: s,
-    }
-}
-
-// One more event.
-pub fn enter_event(b: Bounds, k: usize, t: usize, s: Counts, rec: &mut [u8]) -> RecordRead
+// One more event; the counts with it.
+pub fn enter_event(
+    b: Bounds,
+    k: usize,
+    t: usize,
+    s: Counts,
+    rec: &mut [u8],
+) -> Result<Counts, RecordRefusal>
     requires { Room b × Fits s rec.old }
     ensures { EntersEvent b k t s rec.old result rec.new }
 {
     let lim = b.limits;
     if (s.conditions != 0) | (s.marks != 0) {
-        return refused(RecordRefusal::Malformed(k), s);
+        return Err(RecordRefusal::Malformed(k));
     }
     if lim.events <= s.events {
-        return refused(RecordRefusal::LimitPassed(k), s);
+        return Err(RecordRefusal::LimitPassed(k));
     }
     if b.transitions <= t {
-        return refused(RecordRefusal::Undeclared(k), s);
+        return Err(RecordRefusal::Undeclared(k));
     }
-    let e = s.events;
-    rec[e] = t as u8;
-    entered(e + 1, s.conditions, s.marks)
+    rec[s.events] = t as u8;
+    Ok(Counts {
+        events: s.events + 1,
+        ..s
+    })
 }
 
-// One more condition.
+// One more condition; the counts with it.
 pub fn enter_condition(
     b: Bounds,
     k: usize,
@@ -195,29 +158,32 @@ pub fn enter_condition(
     consumer: Slot,
     s: Counts,
     rec: &mut [u8],
-) -> RecordRead
+) -> Result<Counts, RecordRefusal>
     requires { Room b × Fits s rec.old }
     ensures { EntersCondition b k (condition_in p producer consumer) s rec.old result rec.new }
 {
     let lim = b.limits;
     if s.marks != 0 {
-        return refused(RecordRefusal::Malformed(k), s);
+        return Err(RecordRefusal::Malformed(k));
     }
     if lim.conditions <= s.conditions {
-        return refused(RecordRefusal::LimitPassed(k), s);
+        return Err(RecordRefusal::LimitPassed(k));
     }
     let n = s.events;
     if !((p < b.places) & event_below(n, producer) & event_below(n, consumer)) {
-        return refused(RecordRefusal::Undeclared(k), s);
+        return Err(RecordRefusal::Undeclared(k));
     }
     let c = s.conditions;
     rec[PLACES + c] = p as u8;
     rec[PRODUCERS + c] = event_code(producer) as u8;
     rec[CONSUMERS + c] = event_code(consumer) as u8;
-    entered(n, c + 1, s.marks)
+    Ok(Counts {
+        conditions: c + 1,
+        ..s
+    })
 }
 
-// One more mark.
+// One more mark; the counts with it.
 pub fn enter_mark(
     b: Bounds,
     x: MarkKind,
@@ -226,24 +192,27 @@ pub fn enter_mark(
     e: usize,
     s: Counts,
     marks: &mut [u64],
-) -> RecordRead
+) -> Result<Counts, RecordRefusal>
     requires { Room b × (s.events ≤ events_most) × (s.conditions ≤ conditions_most) × Spans s marks.old }
     ensures { EntersMark b k (mark_of x c e) s marks.old result marks.new }
 {
     let lim = b.limits;
     if lim.marks <= s.marks {
-        return refused(RecordRefusal::LimitPassed(k), s);
+        return Err(RecordRefusal::LimitPassed(k));
     }
     if s.conditions <= c {
-        return refused(RecordRefusal::Undeclared(k), s);
+        return Err(RecordRefusal::Undeclared(k));
     }
     if s.events <= e {
-        return refused(RecordRefusal::Undeclared(k), s);
+        return Err(RecordRefusal::Undeclared(k));
     }
     let row = mark_row(c, slot_of(x));
     if related(marks, row, e) {
-        return refused(RecordRefusal::MarkedAlready(k), s);
+        return Err(RecordRefusal::MarkedAlready(k));
     }
     raise(marks, row, e, is_after(x));
-    entered(s.events, s.conditions, s.marks + 1)
+    Ok(Counts {
+        marks: s.marks + 1,
+        ..s
+    })
 }

@@ -1,7 +1,7 @@
 -- The lines of a record text, one after the other.
+use Rattle.std.specs.Prelude.{Ok, Err}
 use Prim.Native.Nat.{ℕ, ◌+◌, ◌*◌, ◌≤◌}
-use mathlib.Core.Path.{◌≡◌, refl, sym, ap, ◌∙◌}
-use mathlib.Core.Bool.{true, false, true≢false}
+use mathlib.Core.Path.{◌≡◌, refl}
 use mathlib.Core.List.{List, []}
 use native.Mathlib.Omega.{arith}
 use lib.ListN.{length, get_or, replicate, length-replicate}
@@ -9,17 +9,15 @@ use Rattle.spec.specs.Net.{Net}
 use Rattle.spec.specs.Record.{RunRecord}
 use Rattle.spec.specs.Checking.{enter_line, empty_record}
 use Rattle.lines.specs.Agree.{Agrees, giving, refusing}
-use Rattle.lines.proofs.Answers.{is_given}
 use Rattle.lines.proofs.ByLines.{Running, begun, turn, stop, done}
 use Rattle.reach.proofs.Zero.{zero-sub, zero-cell}
 use Rattle.record_columns.specs.Layout.{condition_words, mark_row, mark_value}
-use Rattle.record_columns.specs.Enters.{answer_of, goes_of, no_values, Holds, Fits, Spans}
+use Rattle.record_columns.specs.Enters.{answer_of, no_values, Holds, HoldsEntered, Fits, Spans}
 use Rattle.record_reader.specs.Reads.{Declares, Takes, ReadsRecord}
 use Rattle.record_columns.specs.declared.Bounds.{Bounds}
 use Rattle.record_columns.specs.declared.Counts.{Counts}
 use Rattle.record_reader.specs.declared.Took.{Took}
-use Rattle.record_columns.specs.declared.RecordAnswer.TheVariants.{Read}
-use Rattle.record_columns.proofs.Answers.{goes_given}
+use Rattle.record_columns.specs.declared.RecordRefusal.{RecordRefusal}
 use Rattle.record_reader.proofs.Widths.{width, line-grows}
 
 -- ---- the lines so far
@@ -67,24 +65,24 @@ module _ (b : Bounds) {text : List ℕ} {k at : ℕ} {s : Counts} {rec words : L
   pub spans : condition_words * s.conditions ≤ length words → Spans s words
   spans r = record { room = r; sub = held.1.marks.sub }
 
-  module _ {r : Took} {rec' words' : List ℕ} (t : Takes b text at k s rec words r rec' words') where
-    pub entered_on : goes_of r.step.answer ≡ true → Reading b text (k + 1) r.next r.step.counts rec' words'
-    entered_on h N d = turn (g N d) t.found ((t.enters N d).answers (g N d).state (g N d).holds) (goes_given r.step.answer ∙ h)
-
-    pub entered-no : goes_of r.step.answer ≡ false → ReadsRecord b text r.step rec' words'
-    entered-no h N d = stop (g N d) t.found ((t.enters N d).answers (g N d).state (g N d).holds) (goes_given r.step.answer ∙ h)
+  module _ {r : Took} {rec' words' : List ℕ} (t : Takes b text at k s rec words (Ok r) rec' words') where
+    pub entered_on : Reading b text (k + 1) r.next r.counts rec' words'
+    entered_on N d = rw t.goes (turn (g N d) t.found ((t.enters N d).answers (g N d).state (g N d).holds) refl)
 
     -- a line that is entered ends within the text and before the next, and has eight bytes for each condition more
-    pub grown : goes_of r.step.answer ≡ true → condition_words * r.step.counts.conditions ≤ condition_words * s.conditions + width t.found.line
-    grown h = go ((t.enters N (declared b)).answers held.0 held.1)
+    pub grown : condition_words * r.counts.conditions ≤ condition_words * s.conditions + width t.found.line
+    grown = go ((t.enters N (declared b)).answers held.0 held.1)
       where
         N : Net
         N = net_of b.places b.transitions
 
-        go : Agrees no_values (answer_of r.step.answer) (Holds r.step.counts rec' words') (enter_line b.limits N k t.found.line held.0)
-            → condition_words * r.step.counts.conditions ≤ condition_words * s.conditions + width t.found.line
+        go : Agrees no_values (answer_of (Ok r.counts)) (HoldsEntered (Ok r.counts) rec' words') (enter_line b.limits N k t.found.line held.0)
+            → condition_words * r.counts.conditions ≤ condition_words * s.conditions + width t.found.line
         go (giving S q y o) = omega (arith, line-grows b.limits N k t.found.line held.0 S q, o.columns.conditions, held.1.columns.conditions)
-        go (refusing n p q y) = absurd (true≢false (sym h ∙ sym (goes_given r.step.answer) ∙ ap is_given y))
+        go (refusing n p q y) = cc
 
-  pub entered_all : length text ≤ at → ReadsRecord b text (record { answer = Read; counts = s }) rec words
+  pub entered-no : {x : RecordRefusal} {rec' words' : List ℕ} → Takes b text at k s rec words (Err x) rec' words' → ReadsRecord b text (Err x) rec' words'
+  entered-no t N d = stop (g N d) t.found ((t.enters N d).answers (g N d).state (g N d).holds) refl
+
+  pub entered_all : length text ≤ at → ReadsRecord b text (Ok s) rec words
   entered_all u N d = done (g N d) u refl (g N d).holds

@@ -18,7 +18,7 @@ use Rattle.spec.specs.declared.MarkKind.TheVariants.{Read}
 use Rattle.lists.specs.Laws
 use Rattle.lists.specs.Tables.{table_same}
 use Rattle.bit_sets.specs.Bits.{bit, bit-most, bit-or}
-use Rattle.arc_sets.specs.Walk.{Left, lowest, left-within, skipped, left-rest, rest-less, nothing_left}
+use Rattle.arc_sets.specs.Walk.{Left, lowest, left-within, skipped, left-rest, nothing_left}
 use Rattle.record_columns.specs.Enters.{mark_of}
 use Rattle.line_writer.specs.Lines.{kind_if}
 use Rattle.condition_sets.specs.Sets.{bit_at, guards_of, Placed, WatchedBy}
@@ -133,9 +133,6 @@ module _ (guards reads : ℕ) (rec ks : List ℕ) (e first : ℕ) where
           → (n : ℕ) × (n ≤ 64) × Left all (bit_and bits (bit_xor bits ((1 * 2 ^ i) % 2 ^ 64))) n × Puts (notes n) a out words c new ren
       unfolding notes_if
       part-next y = (i + 1, omega (arith, low.0), left-rest L t low.1 low.0, parts_next here i at-lowest (puts-as (sym same) y))
-
-    pub part-less : bit_and bits (bit_xor bits ((1 * 2 ^ i) % 2 ^ 64)) < bits
-    part-less = rest-less L t low.1 low.0
 
   pub part_end : {bits d : ℕ} {a b : Ends} {out mid words rem : List ℕ} → Left all bits d → d ≤ 64 → bits ≡ 0 → Puts (notes d) a out words b mid rem → Puts (notes 64) a out words b mid rem
   part_end {d = d} L h z x = part-skip d 64 h (λ j l u. nothing_left L z j l) x

@@ -16,10 +16,10 @@ ghost use Rattle.record_writer.specs.Notes.{Consumer, SpotConsumer, PartConsumer
 ghost use Rattle.record_writer.specs.Notes.{run_notes, run_bytes, unmarked, Recorded};
 
 use arc_sets::{READ, SETS};
+use bit_sets::members;
 use condition_sets::{KNOWN, SET, WORD, WORDS, enter_places, ready};
-use held_conditions::{NEXTS, earlier, reads_of};
+use held_conditions::{Moment, NEXTS, reads_of};
 use line_writer::{put_condition, put_event, put_mark};
-use machine_numbers::wide_word;
 use reach::raise;
 use record_columns::{
     CONSUMERS, Counts, EVENTS, MARK_WORDS, PLACES, PRODUCERS, is_after, mark_row, slot_of,
@@ -40,10 +40,8 @@ fn put_events(out: &mut [u8], at: usize, rec: &[u8], n: usize) -> usize
     ensures { Wrote out.old at (event_lines rec.now n) result out.new }
 {
     let mut next = at;
-    let mut e: usize = 0;
-    while e < n {
-        next = put_event(out, next, rec[e]);
-        e += 1;
+    for &t in &rec[..n] {
+        next = put_event(out, next, t);
     }
     next
 }
@@ -55,8 +53,7 @@ fn put_conditions(out: &mut [u8], at: usize, rec: &[u8], n: usize) -> usize
     ensures { Wrote out.old at (condition_lines rec.now n) result out.new }
 {
     let mut next = at;
-    let mut c: usize = 0;
-    while c < n {
+    for c in 0..n {
         next = put_condition(
             out,
             next,
@@ -64,7 +61,6 @@ fn put_conditions(out: &mut [u8], at: usize, rec: &[u8], n: usize) -> usize
             rec[PRODUCERS + c],
             rec[CONSUMERS + c],
         );
-        c += 1;
     }
     next
 }
@@ -105,26 +101,18 @@ fn kind_if(after: bool) -> MarkKind
     }
 }
 
-// Event e's mark at condition c, of a place that inhibits it, unless e produced the condition.
-fn put_due(
-    out: &mut [u8],
-    marks: &mut [u64],
-    rec: &[u8],
-    ends: Ends,
-    steps: &[u8; EVENTS],
-    e: usize,
-    c: usize,
-) -> Ends
-    requires { (e < events_most) × (c < conditions_most) × (record_bytes ≤ length rec.now) × Consumer rec.now c
-        × Room (guard_if 1 rec.now steps.now e c) ends out.old marks.old }
-    ensures { Puts (guard_if 1 rec.now steps.now e c) ends
+// The event's mark at condition c, of a place that inhibits it, unless the event produced the condition.
+fn put_due(out: &mut [u8], marks: &mut [u64], ends: Ends, m: &Moment, c: usize) -> Ends
+    requires { (c < conditions_most) × Consumer m.now.rec.now c
+        × Room (guard_if 1 m.now.rec.now m.now.steps.now m.now.event c) ends out.old marks.old }
+    ensures { Puts (guard_if 1 m.now.rec.now m.now.steps.now m.now.event c) ends
         out.old marks.old result out.new marks.new }
 {
-    if rec[PRODUCERS + c] == e as u8 {
+    if m.rec[PRODUCERS + c] == m.event as u8 {
         return ends;
     }
-    let kind = kind_if(earlier(rec[CONSUMERS + c], steps, e));
-    put_one(out, marks, ends, kind, c, e)
+    let kind = kind_if(m.earlier(m.rec[CONSUMERS + c]));
+    put_one(out, marks, ends, kind, c, m.event)
 }
 
 // A condition: whether its place inhibits an event, and whether the event reads it.
@@ -135,31 +123,23 @@ pub struct Spot {
     pub condition: usize,
 }
 
-// Event e's marks at a condition: B or A, and R.
-fn put_spot(
-    out: &mut [u8],
-    marks: &mut [u64],
-    rec: &[u8],
-    ends: Ends,
-    steps: &[u8; EVENTS],
-    e: usize,
-    spot: Spot,
-) -> Ends
-    requires { (e < events_most) × (spot.condition < conditions_most) × (record_bytes ≤ length rec.now)
-        × SpotConsumer spot rec.now × Room (spot_notes spot rec.now steps.now e) ends out.old marks.old }
-    ensures { Puts (spot_notes spot rec.now steps.now e) ends
+// The event's marks at a condition: B or A, and R.
+fn put_spot(out: &mut [u8], marks: &mut [u64], ends: Ends, m: &Moment, spot: Spot) -> Ends
+    requires { (spot.condition < conditions_most) × SpotConsumer spot m.now.rec.now
+        × Room (spot_notes spot m.now.rec.now m.now.steps.now m.now.event) ends out.old marks.old }
+    ensures { Puts (spot_notes spot m.now.rec.now m.now.steps.now m.now.event) ends
         out.old marks.old result out.new marks.new }
 {
     let c = spot.condition;
     if !spot.guard {
         if spot.read {
-            return put_one(out, marks, ends, MarkKind::Read, c, e);
+            return put_one(out, marks, ends, MarkKind::Read, c, m.event);
         }
         return ends;
     }
-    let next = put_due(out, marks, rec, ends, steps, e, c);
+    let next = put_due(out, marks, ends, m, c);
     if spot.read {
-        return put_one(out, marks, next, MarkKind::Read, c, e);
+        return put_one(out, marks, next, MarkKind::Read, c, m.event);
     }
     next
 }
@@ -181,73 +161,48 @@ pub struct Part {
     pub first: usize,
 }
 
-// Event e's marks at the conditions of a part.
-fn put_part(
-    out: &mut [u8],
-    marks: &mut [u64],
-    rec: &[u8],
-    ends: Ends,
-    steps: &[u8; EVENTS],
-    e: usize,
-    part: Part,
-) -> Ends
-    requires { (e < events_most) × (part.first + word_bits ≤ conditions_most) × (record_bytes ≤ length rec.now)
-        × PartConsumers part rec.now × Room (part_notes part rec.now steps.now e) ends out.old marks.old }
-    ensures { Puts (part_notes part rec.now steps.now e) ends
+// The event's marks at the conditions of a part.
+fn put_part(out: &mut [u8], marks: &mut [u64], ends: Ends, m: &Moment, part: Part) -> Ends
+    requires { (part.first + word_bits ≤ conditions_most) × PartConsumers part m.now.rec.now
+        × Room (part_notes part m.now.rec.now m.now.steps.now m.now.event) ends out.old marks.old }
+    ensures { Puts (part_notes part m.now.rec.now m.now.steps.now m.now.event) ends
         out.old marks.old result out.new marks.new }
 {
     let mut next = ends;
-    let mut bits = part.guards | part.reads;
-    while bits != 0 {
-        let i = wide_word(u64::trailing_zeros(bits));
+    for i in members(part.guards | part.reads) {
         let spot = Spot {
             guard: is_set(part.guards, i),
             read: is_set(part.reads, i),
             condition: part.first + i,
         };
-        next = put_spot(out, marks, rec, next, steps, e, spot);
-        bits = bits & (bits ^ (1 << i));
+        next = put_spot(out, marks, next, m, spot);
     }
     next
-}
-
-// An event whose marks are next, and where they go.
-#[derive(Clone, Copy)]
-pub struct Turn {
-    pub ends: Ends,
-    pub event: usize,
 }
 
 // An event's marks at the conditions of the row of its transition, and at those that it reads.
 fn put_row(
     out: &mut [u8],
     marks: &mut [u64],
-    rec: &[u8],
-    steps: &[u8; EVENTS],
-    turn: Turn,
+    ends: Ends,
+    m: &Moment,
     watched: &[u64; WORDS],
     reads: &[u64; SET],
 ) -> Ends
-    requires { (turn.event < events_most) × (record_bytes ≤ length rec.now) × (get_or rec.now turn.event 0 < 32)
-        × RowConsumers watched.now rec.now turn.event
-        × Room (row_notes watched.now reads.now rec.now steps.now turn.event) turn.ends
-        out.old marks.old }
-    ensures { Puts (row_notes watched.now reads.now rec.now steps.now
-        turn.event) turn.ends
+    requires { (get_or m.now.rec.now m.now.event 0 < 32) × RowConsumers watched.now m.now.rec.now m.now.event
+        × Room (row_notes watched.now reads.now m.now.rec.now m.now.steps.now m.now.event) ends out.old marks.old }
+    ensures { Puts (row_notes watched.now reads.now m.now.rec.now m.now.steps.now m.now.event) ends
         out.old marks.old result out.new marks.new }
 {
-    let e = turn.event;
-    let t = rec[e] as usize;
-    let mut next = turn.ends;
-    let mut w: usize = 0;
-    while w < SET {
+    let t = m.rec[m.event] as usize;
+    let mut next = ends;
+    for w in 0..SET {
         let part = Part {
             guards: watched[SET * t + w],
             reads: reads[w],
             first: WORD * w,
         };
-        next = put_part(out, marks, rec, next, steps, e, part);
-        w += 1;
+        next = put_part(out, marks, next, m, part);
     }
     next
 }
@@ -273,17 +228,17 @@ fn put_marks(
     let mut known = [0u8; KNOWN];
     let mut nexts = [0u16; NEXTS];
     let mut next = Ends { at, marks: 0 };
-    let mut e: usize = 0;
-    while e < s.events {
+    for e in 0..s.events {
         let t = rec[e] as usize;
         ready(&mut watched, &mut known, t, &places, arcs);
-        let reads = reads_of(&mut nexts, arcs[READ + t], rec, steps, e, s.conditions);
-        let turn = Turn {
-            ends: next,
+        let m = Moment {
+            rec,
+            steps,
             event: e,
+            conditions: s.conditions,
         };
-        next = put_row(out, marks, rec, steps, turn, &watched, &reads);
-        e += 1;
+        let reads = reads_of(&mut nexts, arcs[READ + t], &m);
+        next = put_row(out, marks, next, &m, &watched, &reads);
     }
     next
 }

@@ -2,7 +2,7 @@
 -- of the text wherever one starts to count, be it inside a line in front of it.
 use mathlib.Core.Path.{◌≡◌, refl, sym, ap, ◌∙◌, subst}
 use Prim.Native.Nat.{ℕ, zero, suc, ◌+◌, ◌-◌, ◌≤◌, ◌<◌}
-use mathlib.Core.Bool.{Bool, true, false}
+use mathlib.Core.Bool.{Bool, true, false, false≢true}
 use mathlib.Core.Option.{none, some}
 use mathlib.Core.List.{List, [], ◌∷◌}
 use native.Mathlib.Nat.{zero-add}
@@ -23,9 +23,9 @@ use Rattle.lines.specs.declared.Span.{Span}
 use denote.Ref.{Bor}
 use Rattle.spec.specs.Values.{line_values}
 use Rattle.refused_lines.specs.Shown.{line_of, Running, Goes, Finds, FindsChosen, place_in, place_of, answer_of}
-use Rattle.refused_lines.specs.declared.Found.{Found}
-use Rattle.refused_lines.specs.declared.Found.TheVariants.{Nothing}
-use Rattle.refused_lines.specs.declared.LineAnswer.TheVariants.{Shown, NoSuchLine}
+use Rattle.refused_lines.specs.declared.LinePart.{LinePart}
+use Rattle.std.specs.Prelude.{Option as Found, Some, None, is_some}
+use Rattle.std.specs.Option.{ok_or}
 
 -- ---- line ends passed over
 
@@ -88,12 +88,11 @@ module _ (text : List ℕ) (line left i : ℕ) (g : Running text line left i) wh
 
   module _ (r : Span) (h : i < length text) where
     -- this is the line
-    pub here : LineAt text i r → left ≡ 0 → Goes text line i r.end
+    pub here : LineAt text i r → left ≡ 0 → Goes text line i (r.end - i)
     unfolding parts_from
     here l e = record {
       is = λ t. g.rest t ∙ rw (e, l.raws) (ap (λ (x : Line). some (record { text = t; start = i; bytes = x.bytes })) l.whole);
-      order = l.start;
-      inside = l.end;
+      inside = omega (arith, l.start, l.end);
     }
 
     -- the line is a later one
@@ -135,24 +134,24 @@ module _ (net second : List ℕ) (choice : ℕ) where
   chosen-second e = rw e
 
   module _ (k : ℕ) where
-    pub shown : (s e : ℕ) → choice ≤ 1 → Goes (chosen_text net second choice) k s e
-        → refused_line net second choice k ≡ gives (record { text = choice; start = s; bytes = take (e - s) (drop s (chosen_text net second choice)) })
+    pub shown : (s n : ℕ) → choice ≤ 1 → Goes (chosen_text net second choice) k s n
+        → refused_line net second choice k ≡ gives (record { text = choice; start = s; bytes = take n (drop s (chosen_text net second choice)) })
     unfolding refused_line refuse◌at◌when◌ ◌>>◌ found
-    shown s e l g = rw (le-ltb 1 choice l, g.is choice)
+    shown s n l g = rw (le-ltb 1 choice l, g.is choice)
 
     not-shown : choice ≤ 1 → ((t : ℕ) → line_of t (chosen_text net second choice) k ≡ none) → refused_line net second choice k ≡ refuses 46 k
     unfolding refused_line refuse◌at◌when◌ ◌>>◌ found
     not-shown l h = rw (le-ltb 1 choice l, h choice)
 
     -- neither of the two was chosen
-    pub none-chosen : 1 < choice → FindsChosen net second choice k Nothing
+    pub none-chosen : 1 < choice → FindsChosen net second choice k None
     unfolding refused_line refuse◌at◌when◌ ◌>>◌
-    none-chosen l = record { goes = λ {s} {e} h. let z : ◌≡◌ {A = ℕ} 0 1 = cc in absurd (omega arith); nothing = λ h. rw (lt-ltb 1 choice l) }
+    none-chosen l = record { goes = λ {p} h. absurd (false≢true (ap is_some h)); nothing = λ h. rw (lt-ltb 1 choice l) }
 
     -- what was found in the chosen text
-    pub found_in : (text : List ℕ) (r : Found) → choice ≤ 1 → chosen_text net second choice ≡ text → Finds text k r → FindsChosen net second choice k r
+    pub found_in : (text : List ℕ) (r : Found LinePart) → choice ≤ 1 → chosen_text net second choice ≡ text → Finds text k r → FindsChosen net second choice k r
     found_in text r l q f = record {
-      goes = λ {s} {e} h. (l, rw q (subst (Finds text k) h f));
+      goes = λ {p} h. (l, rw q (subst (Finds text k) h f));
       nothing = λ h. not-shown l (rw q (subst (Finds text k) h f));
     }
 
@@ -164,33 +163,38 @@ IsPart net second choice k bytes place =
     let p = part_of (refused_line net.now second.now choice k) in (bytes ≡ p.bytes) × (place ≡ place_of net second p)
 
 module _ (net second : Bor (List ℕ)) (choice k : ℕ) where
-  module _ (s e : ℕ) (l : choice ≤ 1) (g : Goes (chosen_text net.now second.now choice) k s e) where
-    pub net-part : choice ≡ 0 → IsPart net second choice k (take (e - s) (drop s net.now)) (net.ref_ptr.0, s + net.ref_ptr.1)
-    unfolding part_of place_in
-    net-part q = rw (shown net.now second.now choice k s e l g, chosen-net net.now second.now choice q, q) (refl, refl)
+  module _ (s n : ℕ) (l : choice ≤ 1) (g : Goes (chosen_text net.now second.now choice) k s n) where
+    long : s + n - s ≡ n
+    long = omega arith
 
-    pub second-part : (choice ≡ 0 → ⊥) → IsPart net second choice k (take (e - s) (drop s second.now)) (second.ref_ptr.0, s + second.ref_ptr.1)
+    pub net-part : choice ≡ 0 → IsPart net second choice k (take (s + n - s) (drop s net.now)) (net.ref_ptr.0, s + net.ref_ptr.1)
+    unfolding part_of place_in
+    net-part q = rw (shown net.now second.now choice k s n l g, chosen-net net.now second.now choice q, q, long) (refl, refl)
+
+    pub second-part : (choice ≡ 0 → ⊥) → IsPart net second choice k (take (s + n - s) (drop s second.now)) (second.ref_ptr.0, s + second.ref_ptr.1)
     unfolding part_of place_in
     second-part d =
         let q : choice ≡ 1 = omega (arith, d) in
-        rw (shown net.now second.now choice k s e l g, chosen-second net.now second.now choice q, q) (refl, refl)
+        rw (shown net.now second.now choice k s n l g, chosen-second net.now second.now choice q, q, long) (refl, refl)
 
   pub empty-part : refused_line net.now second.now choice k ≡ refuses 46 k → IsPart net second choice k [] net.ref_ptr
   unfolding part_of place_in
   empty-part h = rw (h, zero-add net.ref_ptr.1) (refl, refl)
 
-module _ (net second : List ℕ) (choice k : ℕ) {s e : ℕ} (g : Goes (chosen_text net second choice) k s e) where
-  pub net-inside : choice ≡ 0 → e ≤ length net
+module _ (net second : List ℕ) (choice k : ℕ) {s n : ℕ} (g : Goes (chosen_text net second choice) k s n) where
+  pub net-inside : choice ≡ 0 → s + n ≤ length net
   net-inside q = rw (chosen-net net second choice q) at g.inside
 
-  pub second-inside : choice ≤ 1 → (choice ≡ 0 → ⊥) → e ≤ length second
+  pub second-inside : choice ≤ 1 → (choice ≡ 0 → ⊥) → s + n ≤ length second
   second-inside l d = rw (chosen-second net second choice (omega (arith, d))) at g.inside
 
 module _ (net second : List ℕ) (choice k : ℕ) where
-  pub answer-shown : (s e : ℕ) → choice ≤ 1 → Goes (chosen_text net second choice) k s e → answer_of (Shown s (e - s)) ≡ returned line_values (refused_line net second choice k)
-  unfolding returned
-  answer-shown s e l g = rw (shown net second choice k s e l g, span-length s e (chosen_text net second choice) g.order g.inside)
+  shown-length : (s n : ℕ) (text : List ℕ) → s + n ≤ length text → length (take n (drop s text)) ≡ n
+  shown-length s n text l = simp (length-take, length-drop) (omega arith)
 
-  pub answer-none : refused_line net second choice k ≡ refuses 46 k → answer_of (NoSuchLine k) ≡ returned line_values (refused_line net second choice k)
+  pub answer-found : (r : Found LinePart) → FindsChosen net second choice k r → answer_of (ok_or r (record { 0 = k })) ≡ returned line_values (refused_line net second choice k)
   unfolding returned
-  answer-none h = rw h
+  answer-found (Some p) f =
+      let g = f.goes refl in
+      rw (shown net second choice k p.start p.length g.0 g.1, shown-length p.start p.length (chosen_text net second choice) g.1.inside)
+  answer-found None f = rw (f.nothing refl)

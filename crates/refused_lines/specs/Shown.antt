@@ -1,15 +1,13 @@
 -- What the refused line's functions promise.
-use Rattle.std.specs.Prelude.{◌≡◌, ℕ, zero, suc, ◌+◌, ◌-◌, ◌≤◌, List, length, take, drop}
+use Rattle.std.specs.Prelude.{◌≡◌, ℕ, zero, suc, ◌+◌, ◌≤◌, List, length, take, drop, Option as Found, Some, None, Result, Ok, Err}
 use Rattle.std.proofs.Math.Option.{Option, none, some}
 use Rattle.std.proofs.Math.ListN.{get_elem?}
 use Rattle.std.specs.Borrow.{Bor}
 use Rattle.spec.specs.Answer.{Answer, gives, refuses}
 use Rattle.spec.specs.Text.{raw_lines_of}
 use Rattle.spec.specs.LineParts.{Part, parts_from, line_at, chosen_text, refused_line}
-use Rattle.refused_lines.specs.declared.Found.{Found}
-use Rattle.refused_lines.specs.declared.Found.TheVariants.{At, Nothing}
-use Rattle.refused_lines.specs.declared.LineAnswer.{LineAnswer}
-use Rattle.refused_lines.specs.declared.LineAnswer.TheVariants.{Shown, NoSuchLine}
+use Rattle.refused_lines.specs.declared.LinePart.{LinePart}
+use Rattle.refused_lines.specs.declared.NoSuchLine.{NoSuchLine}
 
 -- line k of a text, as a part of text t
 abbrev pub line_of : ℕ → List ℕ → ℕ → Option Part
@@ -21,25 +19,24 @@ pub record Running (text : List ℕ) (line left at : ℕ) : Type 0 where
   pub near : at ≤ length text + 1
   pub rest : (t : ℕ) → line_of t text line ≡ get_elem? (parts_from t at (raw_lines_of (drop at text))) left
 
--- line k of a text goes from s to e
-pub record Goes (text : List ℕ) (k s e : ℕ) : Type 0 where
-  pub is : (t : ℕ) → line_of t text k ≡ some (record { text = t; start = s; bytes = take (e - s) (drop s text) })
-  pub order : s ≤ e
-  pub inside : e ≤ length text
+-- line k of a text starts at s and is n bytes long
+pub record Goes (text : List ℕ) (k s n : ℕ) : Type 0 where
+  pub is : (t : ℕ) → line_of t text k ≡ some (record { text = t; start = s; bytes = take n (drop s text) })
+  pub inside : s + n ≤ length text
 
-abbrev pub Finds : List ℕ → ℕ → Found → Type 0
-Finds text k (At s e) = Goes text k s e
-Finds text k Nothing = (t : ℕ) → line_of t text k ≡ none
+abbrev pub Finds : List ℕ → ℕ → Found LinePart → Type 0
+Finds text k (Some p) = Goes text k p.start p.length
+Finds text k None = (t : ℕ) → line_of t text k ≡ none
 
 -- the same in the chosen text, where the choice is one of the two
-pub record FindsChosen (net second : List ℕ) (choice k : ℕ) (r : Found) : Type 0 where
-  pub goes : {s e : ℕ} → r ≡ At s e → (choice ≤ 1) × Goes (chosen_text net second choice) k s e
-  pub nothing : r ≡ Nothing → refused_line net second choice k ≡ refuses 46 k
+pub record FindsChosen (net second : List ℕ) (choice k : ℕ) (r : Found LinePart) : Type 0 where
+  pub goes : {p : LinePart} → r ≡ Some p → (choice ≤ 1) × Goes (chosen_text net second choice) k p.start p.length
+  pub nothing : r ≡ None → refused_line net second choice k ≡ refuses 46 k
 
 -- the paper's number and values of an answer: where the line starts and its length
-abbrev pub answer_of : LineAnswer → Answer (ℕ × ℕ × ℕ)
-answer_of (Shown s n) = gives (s, n, 0)
-answer_of (NoSuchLine k) = refuses 46 k
+abbrev pub answer_of : Result LinePart NoSuchLine → Answer (ℕ × ℕ × ℕ)
+answer_of (Ok p) = gives (p.start, p.length, 0)
+answer_of (Err e) = refuses 46 e.0
 
 -- where a part lies: so many bytes into the net text or the second text
 unfoldable pub place_in : ℕ → Bor (List ℕ) → Bor (List ℕ) → ℕ → ℕ × ℕ

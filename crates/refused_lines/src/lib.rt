@@ -7,24 +7,21 @@ ghost use Rattle.spec.specs.LineParts.{refused_line, part_of};
 ghost use Rattle.spec.specs.Values.{line_values};
 ghost use Rattle.refused_lines.specs.Shown.{Running, Finds, FindsChosen, answer_of, place_of};
 
-use byte_classes::{LINE_END_BYTE, byte_table, end_of};
+use byte_classes::{LINE_END_BYTE, byte_table};
 use byte_entries::LINE_END;
-use byte_slices::{CHUNK, count_at};
+use byte_slices::{CHUNK, count_in};
 use lines::line_at;
 
-// From where to where a line goes in its text, without its end.
+// Where a line starts in its text, and how long it is without its ending.
 #[derive(Clone, Copy)]
-pub enum Found {
-    At(usize, usize),
-    Nothing,
+pub struct LinePart {
+    pub start: usize,
+    pub length: usize,
 }
 
-// The answer: where the line starts in the chosen text and how long it is, or that there is no such line.
+// No line has this number.
 #[derive(Clone, Copy)]
-pub enum LineAnswer {
-    Shown(usize, usize),
-    NoSuchLine(usize),
-}
+pub struct NoSuchLine(pub usize);
 
 // A position, and how many line ends stand from it on in front of a line.
 #[derive(Clone, Copy)]
@@ -42,8 +39,8 @@ fn skip(text: &[u8], line: usize) -> Place
 {
     let mut left = line - 1;
     let mut at: usize = 0;
-    while at + CHUNK <= text.len() {
-        let c = count_at(LINE_END_BYTE, text, at);
+    for part in text.chunks_exact(CHUNK) {
+        let c = count_in(LINE_END_BYTE, part);
         if left <= c {
             break;
         }
@@ -54,39 +51,38 @@ fn skip(text: &[u8], line: usize) -> Place
 }
 
 // The line with a number, from 1; an unended last piece counts as a line.
-fn find_line(text: &[u8], line: usize) -> Found
+fn find_line(text: &[u8], line: usize) -> Option<LinePart>
     ensures { Finds text.now line result }
 {
     if line == 0 {
-        return Found::Nothing;
+        return None;
     }
     let table = byte_table();
-    let start = skip(text, line);
-    let mut left = start.left;
-    let mut at = start.at;
+    let Place { mut left, mut at } = skip(text, line);
+    // A while: the position moves from line end to line end, as they are found.
     while at < text.len() {
         if left == 0 {
             let l = line_at(&table, text, at);
-            return Found::At(at, l.end);
+            return Some(LinePart {
+                start: at,
+                length: l.end - at,
+            });
         }
-        let end = end_of(&table, LINE_END, text, at);
         left -= 1;
-        at = end + 1;
+        at = table.end_of(LINE_END, text, at) + 1;
     }
-    Found::Nothing
+    None
 }
 
 // The same in the chosen text: 0 the net text, 1 the second.
-fn find(net: &[u8], second: &[u8], choice: u8, line: usize) -> Found
+fn find(net: &[u8], second: &[u8], choice: u8, line: usize) -> Option<LinePart>
     ensures { FindsChosen net.now second.now choice line result }
 {
-    if choice == 0 {
-        return find_line(net, line);
+    match choice {
+        0 => find_line(net, line),
+        1 => find_line(second, line),
+        _ => None,
     }
-    if choice == 1 {
-        return find_line(second, line);
-    }
-    Found::Nothing
 }
 
 // The part itself; where there is no such line it is empty, at the start of the net text.
@@ -96,24 +92,28 @@ pub fn refused_line<'a>(net: &'a [u8], second: &'a [u8], choice: u8, line: usize
         (part_of (refused_line net.now second.now choice line)) }
 {
     match find(net, second, choice, line) {
-        Found::At(start, end) => {
+        Some(part) => {
+            let start = part.start;
+            let end = start + part.length;
             if choice == 0 {
                 &net[start..end]
             } else {
                 &second[start..end]
             }
         }
-        Found::Nothing => &net[..0],
+        None => &net[..0],
     }
 }
 
 // Where the part lies, or refusal 46.
-pub fn refused_line_answer(net: &[u8], second: &[u8], choice: u8, line: usize) -> LineAnswer
+pub fn refused_line_answer(
+    net: &[u8],
+    second: &[u8],
+    choice: u8,
+    line: usize,
+) -> Result<LinePart, NoSuchLine>
     ensures { answer_of result
         ≡ returned line_values (refused_line net.now second.now choice line) }
 {
-    match find(net, second, choice, line) {
-        Found::At(start, end) => LineAnswer::Shown(start, end - start),
-        Found::Nothing => LineAnswer::NoSuchLine(line),
-    }
+    find(net, second, choice, line).ok_or(NoSuchLine(line))
 }

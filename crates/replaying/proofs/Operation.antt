@@ -2,7 +2,7 @@
 use Prim.Native.Nat.{ℕ, zero, suc, ◌+◌, ◌≤◌, ◌<◌}
 use native.Mathlib.Nat.{zero-add}
 use mathlib.Core.Path.{◌≡◌, refl, sym, ap, ◌∙◌}
-use mathlib.Core.Bool.{true, false, false≢true}
+use Rattle.std.proofs.Common.{Result, Ok, Err}
 use mathlib.Core.List.{List, [], ◌∷◌}
 use native.Mathlib.Omega.{arith}
 use lib.ListN.{length, get_or}
@@ -16,23 +16,20 @@ use Rattle.spec.specs.Replaying.{read_arrangement, replayed_of, replay}
 use Rattle.spec.specs.Buffer.{leaves, replay_leaves}
 use Rattle.runs.specs.Answers.{not-refused}
 use Rattle.lines.specs.Agree.{Agrees, giving, refusing}
-use Rattle.lines.proofs.Answers.{is_given, same-given, refuses≢gives}
-use Rattle.accepting.specs.Accepting.{refused_by, verdict_of, Accepts}
+use Rattle.lines.proofs.Answers.{same-given, refuses≢gives}
+use Rattle.accepting.specs.Accepting.{Accepts}
 use Rattle.accepting.specs.declared.Refusal.{Refusal}
-use Rattle.accepting.specs.declared.Verdict.TheVariants.{Refused}
 use Rattle.accepting.specs.declared.Accepted.{Accepted}
 use Rattle.accepting.proofs.Accepting.{accepted-process, Took, event-known}
-use Rattle.arrangement_reader.specs.Arrangement.{answer_of, lines_played, lines_in, goes_of}
+use Rattle.arrangement_reader.specs.Arrangement.{answer_of, lines_played}
 use Rattle.reach.specs.Rows.{Good}
 use Rattle.arrangement_reader.specs.Lined.{TellsOrder}
 use Rattle.marking_rows.specs.Rows.{Playable, PutsRows}
 use Rattle.played_lines.specs.Lines.{Arranged, JudgesLines, Describes}
 use Rattle.replaying.specs.Replaying.{Replays}
-use Rattle.arrangement_reader.specs.declared.ArrangementAnswer.{ArrangementAnswer}
-use Rattle.replaying.specs.declared.ReplayAnswer.TheVariants.{BufferShort, Refused as ReplayRefused, Lines}
+use Rattle.arrangement_reader.specs.declared.ArrangementRefusal.{ArrangementRefusal}
+use Rattle.replaying.specs.declared.ReplayRefusal.TheVariants.{BufferShort, Refused, Lines}
 use Rattle.replaying.proofs.Telling.{tells-order}
-use Rattle.arrangement_reader.specs.declared.ArrangementAnswer.TheVariants.{Keeps as KeepsLines, Malformed, Unknown, Repeated, Broken, Missing}
-use Rattle.played_lines.proofs.Judging.{goes_given}
 use Rattle.played_lines.proofs.Markings.{rows-held}
 
 -- ---- 40, and a refusal of the net or the record
@@ -42,7 +39,7 @@ module _ (net text arrangement : List ℕ) where
   unfolding replay ◌>>◌ refuse◌at◌when◌
   short room h = rw (lt-ltb room 4128 h)
 
-  pub short-replays : (old : List ℕ) → length old < 4128 → Replays (replay net text arrangement (length old)) old BufferShort old
+  pub short-replays : (old : List ℕ) → length old < 4128 → Replays (replay net text arrangement (length old)) old (Err BufferShort) old
   unfolding returned replay_leaves leaves
   short-replays old h = rw (short (length old) h) (record { answer = refl; buffer = refl })
 
@@ -51,22 +48,12 @@ module _ (net text arrangement : List ℕ) where
     unfolding replay ◌>>=◌ ◌>>◌ refuse◌at◌when◌
     refused e = rw (le-ltb (length old) 4128 h, e)
 
-    pub refused-replays : (r : Accepted) (t : List ℕ) (x : Refusal) → r.verdict ≡ Refused x → Accepts bench net text r t → Replays (replay net text arrangement (length old)) old (ReplayRefused x) old
+    pub refused-replays : (t : List ℕ) (x : Refusal) → Accepts bench net text (Err x) t → Replays (replay net text arrangement (length old)) old (Err (Refused x)) old
     unfolding returned replay_leaves leaves
-    refused-replays r t x q (giving a e y k) = not-refused (sym (ap verdict_of q) ∙ y)
-    refused-replays r t x q (refusing n s e y) =
-        let z : refused_by {A = Unit {0}} x ≡ refuses n s = sym (ap verdict_of q) ∙ y in
-        rw (refused e) (record { answer = ap (returned (λ (u : Unit {0}). (0, 0, 0))) z; buffer = refl })
+    refused-replays t x (giving a e y k) = not-refused y
+    refused-replays t x (refusing n s e y) = rw (refused e) (record { answer = ap (returned (λ (u : Unit {0}). (0, 0, 0))) y; buffer = refl })
 
 -- ---- a net and a record that are accepted
-
-lines-kept : (b : ArrangementAnswer) {m : ℕ} → answer_of b ≡ gives (m, 0, 0) → lines_in b ≡ m
-lines-kept (KeepsLines k) y = ap (λ (z : ℕ × ℕ × ℕ). z.0) (same-given y)
-lines-kept (Malformed k) y = absurd (refuses≢gives y)
-lines-kept (Unknown k) y = absurd (refuses≢gives y)
-lines-kept (Repeated k) y = absurd (refuses≢gives y)
-lines-kept (Broken k) y = absurd (refuses≢gives y)
-lines-kept (Missing e) y = absurd (refuses≢gives y)
 
 one-most : (xs : List ℕ) (p : ℕ) → get_or xs p 0 ≤ sum xs
 unfolding sum
@@ -114,53 +101,50 @@ module _ {net text : List ℕ} {r : Accepted} {tokens arcs rec t : List ℕ} whe
       unfolding replay ◌>>=◌ ◌>>◌ refuse◌at◌when◌
       arranged = rw (le-ltb (length old) 4128 h, A.is)
 
-      judged : (b : ArrangementAnswer) {lined : List ℕ} → JudgesLines r.events t arrangement b lined → Agrees lines_played (answer_of b) (λ gs. Arranged r.events gs lined) (read_arrangement A.accepted.run arrangement)
+      judged : (b : Result ℕ ArrangementRefusal) {lined : List ℕ} → JudgesLines r.events t arrangement b lined → Agrees lines_played (answer_of b) (λ gs. Arranged r.events gs lined) (read_arrangement A.accepted.run arrangement)
       judged b J = J A.accepted.run order_is
 
       -- the arrangement that the lines are
-      record Found (b : ArrangementAnswer) (lined : List ℕ) : Type 0 where
+      record Found (m : ℕ) (lined : List ℕ) : Type 0 where
         groups : List (List ℕ)
         is : read_arrangement A.accepted.run arrangement ≡ gives groups
-        answer : answer_of b ≡ gives (lines_played groups)
+        count : m ≡ length groups
         arranged : Arranged r.events groups lined
 
       -- lines that are no arrangement
-      pub refused-lines : (b : ArrangementAnswer) {lined : List ℕ} → JudgesLines r.events t arrangement b lined → goes_of b ≡ false → Replays (replay net text arrangement (length old)) old (Lines b) old
+      pub refused-lines : (x : ArrangementRefusal) {lined : List ℕ} → JudgesLines r.events t arrangement (Err x) lined → Replays (replay net text arrangement (length old)) old (Err (Lines x)) old
       unfolding ◌>>=◌ returned replay_leaves leaves
-      refused-lines b J f = go (judged b J)
+      refused-lines x J = go (judged (Err x) J)
         where
-          go : {lined : List ℕ} → Agrees lines_played (answer_of b) (λ gs. Arranged r.events gs lined) (read_arrangement A.accepted.run arrangement) → Replays (replay net text arrangement (length old)) old (Lines b) old
-          go (giving gs e y k) = absurd (false≢true (sym f ∙ sym (goes_given b) ∙ ap is_given y))
+          go : {lined : List ℕ} → Agrees lines_played (answer_of (Err x)) (λ gs. Arranged r.events gs lined) (read_arrangement A.accepted.run arrangement) → Replays (replay net text arrangement (length old)) old (Err (Lines x)) old
+          go (giving gs e y k) = absurd (refuses≢gives y)
           go (refusing n s e y) = rw (arranged, e) (record { answer = y; buffer = refl })
 
       -- an arrangement: what writing the rows relies on, and the rows
-      module _ (b : ArrangementAnswer) {lined : List ℕ} (J : JudgesLines r.events t arrangement b lined) (f : goes_of b ≡ true) where
-        found : Found b lined
-        found = go (judged b J)
+      module _ (m : ℕ) {lined : List ℕ} (J : JudgesLines r.events t arrangement (Ok m) lined) where
+        found : Found m lined
+        found = go (judged (Ok m) J)
           where
-            go : Agrees lines_played (answer_of b) (λ gs. Arranged r.events gs lined) (read_arrangement A.accepted.run arrangement) → Found b lined
-            go (giving gs e y k) = record { groups = gs; is = e; answer = y; arranged = k }
-            go (refusing n s e y) = absurd (false≢true (sym (ap is_given y) ∙ goes_given b ∙ f))
+            go : Agrees lines_played (answer_of (Ok m)) (λ gs. Arranged r.events gs lined) (read_arrangement A.accepted.run arrangement) → Found m lined
+            go (giving gs e y k) = record { groups = gs; is = e; count = ap (λ (z : ℕ × ℕ × ℕ). z.0) (same-given y); arranged = k }
+            go (refusing n s e y) = absurd (refuses≢gives (sym y))
 
-        pub playable : {ts : List ℕ} → ((f : ℕ) → f < 128 → get_or ts f 0 ≡ get_or rec (0 + f) 0) → {m : ℕ} → m ≡ lines_in b → Playable r.places tokens ts lined m
-        playable {ts} c q = let n = A.lent.arrays.counts in let k = found.arranged in record {
+        pub playable : {ts : List ℕ} → ((f : ℕ) → f < 128 → get_or ts f 0 ≡ get_or rec (0 + f) 0) → Playable r.places tokens ts lined m
+        playable {ts} c = let n = A.lent.arrays.counts in let k = found.arranged in record {
           places = omega (arith, A.lent.places, n.few_places);
           tokens = λ p. omega (arith, n.tokens p, one-most A.accepted.net.tokens p, n.most);
           groups = found.groups;
           ordered = k.ordered;
-          lines = q ∙ lines-kept b found.answer;
+          lines = found.count;
           few = k.few;
           events = k.events;
           known = λ e u. (omega (arith, k.known e u, few), known ts c e (k.known e u));
         }
 
-        pub same_size : {m : ℕ} {ts new : List ℕ} → m ≡ lines_in b → PutsRows r.places tokens arcs ts lined m old new → length new ≡ length old
-        same_size q w = (w found.groups found.arranged.ordered (q ∙ lines-kept b found.answer)).long
-
-        pub played-lines : {ts : List ℕ} → ((f : ℕ) → f < 128 → get_or ts f 0 ≡ get_or rec (0 + f) 0) → {m : ℕ} {new : List ℕ} → m ≡ lines_in b → PutsRows r.places tokens arcs ts lined m old new
-            → Replays (replay net text arrangement (length old)) old (Lines b) new
+        pub played-lines : {ts : List ℕ} → ((f : ℕ) → f < 128 → get_or ts f 0 ≡ get_or rec (0 + f) 0) → {new : List ℕ} → PutsRows r.places tokens arcs ts lined m old new
+            → Replays (replay net text arrangement (length old)) old (Ok m) new
         unfolding ◌>>=◌ returned replay_leaves leaves replayed_of
-        played-lines {ts} c q w = let k = found.arranged in rw (arranged, found.is) (record {
-          answer = found.answer;
-          buffer = rows-held (describes ts c) k.known k.few h (w found.groups k.ordered (q ∙ lines-kept b found.answer));
+        played-lines {ts} c w = let k = found.arranged in rw (arranged, found.is) (record {
+          answer = ap (λ (j : ℕ). gives (j, 0, 0)) found.count;
+          buffer = rows-held (describes ts c) k.known k.few h (w found.groups k.ordered found.count);
         })

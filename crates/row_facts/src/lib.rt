@@ -9,7 +9,6 @@ ghost use Rattle.order.specs.Below.{sum_below};
 ghost use Rattle.row_facts.specs.Strictly.{strictly};
 ghost use Rattle.row_facts.specs.Counts.{Ready};
 
-use bit_sets::{holds, size};
 use reach::{WORDS, row_at};
 
 // Whether e is strictly before itself.
@@ -17,23 +16,15 @@ fn looped(w: &[u64; WORDS], e: usize) -> bool
     requires { (e < 128) × Good w.now }
     ensures { result ≡ on_cycle (cell_of w.now) e }
 {
-    let r = row_at(w, e);
-    holds(r.strict, e)
+    row_at(w, e).strict.holds(e)
 }
 
-// The lowest event that is strictly before itself, or n.
-pub fn first_loop(w: &[u64; WORDS], n: usize) -> usize
+// The lowest event that is strictly before itself, if there is one.
+pub fn first_loop(w: &[u64; WORDS], n: usize) -> Option<usize>
     requires { (n ≤ 128) × Good w.now }
     ensures { Lowest (on_cycle (cell_of w.now)) n result }
 {
-    let mut e: usize = 0;
-    while e < n {
-        if looped(w, e) {
-            return e;
-        }
-        e += 1;
-    }
-    e
+    (0..n).find(|e| looped(w, *e))
 }
 
 // How many of the n events e is strictly before.
@@ -41,6 +32,5 @@ pub fn followers(w: &[u64; WORDS], n: usize, e: usize) -> usize
     requires { (e < n) × Ready n w.now }
     ensures { (result ≡ sum_below n (strictly (cell_of w.now) e)) × (result ≤ 128) }
 {
-    let r = row_at(w, e);
-    size(r.strict)
+    row_at(w, e).strict.size()
 }

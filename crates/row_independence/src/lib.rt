@@ -8,7 +8,7 @@ ghost use Rattle.row_facts.specs.Counts.{Ready};
 ghost use Rattle.row_independence.specs.Pairs.{independent_pairs, synchronous_pairs};
 ghost use Rattle.row_independence.specs.Alike.{ByRows, Counted};
 
-use bit_sets::{holds, meet, one, size, union};
+use bit_sets::Set;
 use reach::{WORDS, row_at};
 use set_rows::{SET_WORDS, put_set, set_at};
 
@@ -21,13 +21,13 @@ fn synchronous_below(w: &[u64; WORDS], n: usize, e: usize, sets: &mut [u64; SET_
     ensures { Counted n (cell_of w.now) e result sets.new }
 {
     let r = row_at(w, e);
-    if !holds(r.path, e) {
+    if !r.path.holds(e) {
         return 0;
     }
-    let k = size(r.path);
+    let k = r.path.size();
     let alike = set_at(sets, k);
-    put_set(sets, k, union(alike, one(e)));
-    size(meet(alike, r.path))
+    put_set(sets, k, alike.union(Set::one(e)));
+    alike.meet(r.path).size()
 }
 
 // How many pairs of the n events are synchronous.
@@ -36,11 +36,9 @@ fn synchronous_pairs(w: &[u64; WORDS], n: usize) -> usize
     ensures { (result ≡ synchronous_pairs n (cell_of w.now)) × (result ≤ 128 * n) }
 {
     let mut sets = [0u64; SET_WORDS];
-    let mut pairs: usize = 0;
-    let mut e: usize = 0;
-    while e < n {
-        pairs = pairs + synchronous_below(w, n, e, &mut sets);
-        e += 1;
+    let mut pairs = 0;
+    for e in 0..n {
+        pairs += synchronous_below(w, n, e, &mut sets);
     }
     pairs
 }
@@ -52,18 +50,16 @@ pub fn independent_pairs(w: &[u64; WORDS], n: usize) -> usize
     requires { Ready n w.now × Order n (cell_of w.now) }
     ensures { result ≡ independent_pairs n (cell_of w.now) }
 {
-    let mut all: usize = 0;
-    let mut ordered: usize = 0;
-    let mut loops: usize = 0;
-    let mut e: usize = 0;
-    while e < n {
+    let mut all = 0;
+    let mut ordered = 0;
+    let mut loops = 0;
+    for e in 0..n {
         let r = row_at(w, e);
         all += e;
-        ordered = ordered + size(r.path);
-        if holds(r.path, e) {
+        ordered += r.path.size();
+        if r.path.holds(e) {
             loops += 1;
         }
-        e += 1;
     }
     if 0 < loops {
         let twice = synchronous_pairs(w, n);

@@ -1,7 +1,7 @@
 -- Entries of the table raised one after the other.
-use mathlib.Core.Path.{◌≡◌, refl, sym, ap, ap₂, ◌∙◌, subst}
-use mathlib.Core.Logic.{◌≢◌, inl, inr}
-use Prim.Native.Nat.{ℕ, ◌+◌, ◌-◌, ◌*◌, ◌≤◌, ◌<◌, min, max}
+use mathlib.Core.Path.{◌≡◌, refl, sym, ap, ◌∙◌, subst}
+use mathlib.Core.Logic.{◌≢◌}
+use Prim.Native.Nat.{ℕ, ◌+◌, ◌-◌, ◌≤◌, ◌<◌, min, max, zero-le}
 use native.Mathlib.Nat.{max-zero}
 use native.Mathlib.Decide.{ℕ_discrete}
 use native.Mathlib.Numerals.{add-one}
@@ -12,8 +12,8 @@ use lib.ListN.{get_or}
 use lib.Dec.{eqb}
 use borrow.Author.Tests.{eq-eqb, ne_eqb}
 use Rattle.spec.specs.Lists.{up_to, from, greatest}
-use Rattle.order.specs.Below.{max_below, max-suc, sum_below, sum_lt}
-use Rattle.bit_sets.specs.Sets.{has, First, has-most}
+use Rattle.order.specs.Below.{max_below, max-suc}
+use Rattle.bit_sets.specs.Sets.{has, has-most}
 use Rattle.bit_sets.specs.declared.Set.{Set}
 use Rattle.reach.specs.Rows.{Sub, row_of, cell_of, value_of, Good, Put, Raised as RaisedOne}
 use Rattle.reach.specs.declared.Row.{Row}
@@ -110,14 +110,6 @@ pub record Befores (w₀ : List ℕ) (f : ℕ) (a rest : Set) (w : List ℕ) : T
   pub raised : Raised w₀ (befores_in f (λ e. has a e - has rest e)) w
   pub inside : (e : ℕ) → has rest e ≤ has a e
 
-pub first-in : (a : Set) {r : ℕ} → First a r → r < 128 → has a r ≡ 1
-first-in a (inl p) l = p.1
-first-in a (inr p) l = absurd (omega (arith, p.0))
-
-pub first-none : (a : Set) {r : ℕ} → First a r → 128 ≤ r → (f : ℕ) → f < 128 → has a f ≡ 0
-first-none a (inl p) l = absurd (omega (arith, p.0))
-first-none a (inr p) l = p.1
-
 pub befores-begun : (w : List ℕ) (f : ℕ) (a : Set) → Befores w f a a w
 unfolding befores_in
 befores-begun w f a = record { raised = record { long = refl; good = λ g. g; cell = λ i j k l. omega (arith, none (eqb f j) (has a i)) }; inside = λ e. omega arith }
@@ -126,27 +118,27 @@ befores-begun w f a = record { raised = record { long = refl; good = λ g. g; ce
     none true x = omega arith
     none false x = refl
 
-module _ {w₀ w : List ℕ} {f : ℕ} (e : ℕ) {a rest : Set} (o rest' : Set) (h : Befores w₀ f a rest w) (q : has rest e ≡ 1) (ho : (has o e ≡ 1) × ((g : ℕ) → g ≢ e → has o g ≡ 0)) (hr : (g : ℕ) → has rest' g ≡ min (has rest g) (1 - has o g)) where
-  pub befores-less : e < 128 → sum_below 128 (has rest') < sum_below 128 (has rest)
-  befores-less l = sum_lt 128 (has rest') (has rest) (λ g m. omega (arith, hr g)) e l (omega (arith, hr e, ho.0))
-
-  pub befores-more : {w' : List ℕ} → RaisedOne w e f 1 w' → Befores w₀ f a rest' w'
-  unfolding befores_in
-  befores-more {w'} r =
-      let p = raise-one w w' e f 1 r in
-      record {
-        raised = record { long = p.long ∙ h.raised.long; good = λ g. p.good (h.raised.good g); cell = λ i j k l. omega (arith, p.cell i j k l, h.raised.cell i j k l, joined i j) };
-        inside = λ g. omega (arith, hr g, h.inside g);
-      }
-    where
-      joined : (i j : ℕ) → befores_in f (λ g. has a g - has rest' g) i j ≡ max (befores_in f (λ g. has a g - has rest g) i j) (pair_in e f 1 i j)
-      joined i j = elim (ℕ_discrete i e) [
-        | yes y ↦ elim (ℕ_discrete f j) [
-          | yes z ↦ rw (y, ← z, eq-eqb f f refl, pair-here e f 1) (omega (arith, q, hr e, ho.0, h.inside e, has-most a e))
-          | no d ↦ rw (ne_eqb f j d, pair-away e f 1 i j (λ z. d (sym z.1))) refl
-        ]
-        | no d ↦ rw (pair-away e f 1 i j (λ z. d z.0)) (ap (λ (x : ℕ). cond (eqb f j) (has a i - x) 0) (omega (arith, hr i, ho.1 i d, has-most rest i)) ∙ sym (max-zero _))
+pub befores-more : {w₀ w w' : List ℕ} {f : ℕ} (e : ℕ) {a rest : Set} (rest' : Set) → Befores w₀ f a rest w → has rest e ≡ 1 → has rest' e ≡ 0 → ((g : ℕ) → g ≢ e → has rest' g ≡ has rest g)
+    → RaisedOne w e f 1 w' → Befores w₀ f a rest' w'
+unfolding befores_in
+befores-more {f = f} e {a} {rest} rest' h q gone stay r =
+    let p = raise-one _ _ e f 1 r in
+    record {
+      raised = record { long = p.long ∙ h.raised.long; good = λ g. p.good (h.raised.good g); cell = λ i j k l. omega (arith, p.cell i j k l, h.raised.cell i j k l, joined i j) };
+      inside = λ g. elim (ℕ_discrete g e) [
+        | yes y ↦ rw (y, gone) zero-le
+        | no d ↦ omega (arith, stay g d, h.inside g)
+      ];
+    }
+  where
+    joined : (i j : ℕ) → befores_in f (λ g. has a g - has rest' g) i j ≡ max (befores_in f (λ g. has a g - has rest g) i j) (pair_in e f 1 i j)
+    joined i j = elim (ℕ_discrete i e) [
+      | yes y ↦ elim (ℕ_discrete f j) [
+        | yes z ↦ rw (y, ← z, eq-eqb f f refl, pair-here e f 1) (omega (arith, q, gone, h.inside e, has-most a e))
+        | no d ↦ rw (ne_eqb f j d, pair-away e f 1 i j (λ z. d (sym z.1))) refl
       ]
+      | no d ↦ rw (pair-away e f 1 i j (λ z. d z.0)) (ap (λ (x : ℕ). cond (eqb f j) (has a i - x) 0) (stay i d) ∙ sym (max-zero _))
+    ]
 
 pub befores-end : {w₀ w : List ℕ} {f : ℕ} {a rest : Set} → Befores w₀ f a rest w → ((e : ℕ) → e < 128 → has rest e ≡ 0) → Raised w₀ (befores_in f (has a)) w
 unfolding befores_in
@@ -156,7 +148,7 @@ befores-end {f} {a} {rest} h z = raised-as (λ i j k. ap (λ (x : ℕ). cond (eq
 
 module _ (f : ℕ) (a : ℕ → ℕ) (g : ℕ) (b : ℕ → ℕ) where
   -- no event on either side
-  sides-none : (t : List ℕ) → ((e : ℕ) → a e ≡ 0) → ((e : ℕ) → b e ≡ 0) → Raised t (sides_in f a g b) t
+  pub sides-none : (t : List ℕ) → ((e : ℕ) → a e ≡ 0) → ((e : ℕ) → b e ≡ 0) → Raised t (sides_in f a g b) t
   unfolding sides_in afters_in befores_in
   sides-none t x y = record { long = refl; good = λ z. z; cell = λ i j k l. rw (x j, y i) (omega (arith, nothing (eqb f i), nothing (eqb g j))) }
     where
@@ -165,20 +157,18 @@ module _ (f : ℕ) (a : ℕ → ℕ) (g : ℕ) (b : ℕ → ℕ) where
       nothing false = refl
 
   -- one side after the other
-  sides-raised : {t t' t'' : List ℕ} {p q : ℕ} {x y : ℕ → ℕ} → p ≡ f → q ≡ g → ((e : ℕ) → x e ≡ a e) → ((e : ℕ) → y e ≡ b e)
-      → Raised t (afters_in p x) t' → Raised t' (befores_in q y) t'' → Raised t (sides_in f a g b) t''
-  unfolding sides_in afters_in befores_in
-  sides-raised hp hq hx hy r s = record {
+  pub sides-raised : {t t' t'' : List ℕ} → Raised t (afters_in f a) t' → Raised t' (befores_in g b) t'' → Raised t (sides_in f a g b) t''
+  unfolding sides_in
+  sides-raised r s = record {
     long = s.long ∙ r.long;
     good = λ z. s.good (r.good z);
-    cell = λ i j k l. omega (
-      arith,
-      r.cell i j k l,
-      s.cell i j k l,
-      ap₂ (λ (u v : ℕ). cond (eqb u i) (2 * v) 0) hp (hx j),
-      ap₂ (λ (u v : ℕ). cond (eqb u j) v 0) hq (hy i),
-    );
+    cell = λ i j k l. omega (arith, r.cell i j k l, s.cell i j k l);
   }
+
+  -- the same sides, said otherwise
+  sides-as : {t t' : List ℕ} {x y : ℕ → ℕ} → ((e : ℕ) → x e ≡ a e) → ((e : ℕ) → y e ≡ b e) → Raised t (sides_in f x g y) t' → Raised t (sides_in f a g b) t'
+  unfolding sides_in afters_in befores_in
+  sides-as hx hy r = raised-as (λ i j k. rw (hx j, hy i) refl) r
 
 module _ (words : List ℕ) (k : ℕ) {n : ℕ} {r : Row} (hn : n ≡ k) (hr : r ≡ row_of words n) (g : (i : ℕ) → Sub (row_of words i)) where
   -- what the sets of row k have
@@ -194,36 +184,18 @@ module _ (words : List ℕ) (k : ℕ) {n : ℕ} {r : Row} (hn : n ≡ k) (hr : r
   unfolding cell_of value_of Sub
   reader-has e = rw (hr, hn) (omega (arith, g k e, has-most (row_of words k).path e))
 
-  cell-none : (e : ℕ) → has r.path e ≡ 0 → cell_of words k e ≡ 0
-  cell-none e z = omega (arith, z, reader-has e)
-
 module _ (rec words : List ℕ) (c : ℕ) {n : ℕ} {r : Row} (hr : r ≡ row_of words n) (g : (i : ℕ) → Sub (row_of words i)) where
   -- of the marks B and A
-  module _ (hn : n ≡ mark_row c guard_slot) where
-    pub guards_none : (t : List ℕ) → ((e : ℕ) → has r.path e ≡ 0) → Raised t (guard_pair_in rec words c) t
-    unfolding guard_pair_in
-    guards_none t z =
-        let o : (e : ℕ) → cell_of words (mark_row c guard_slot) e ≡ 0 = λ e. cell-none words (mark_row c guard_slot) hn hr g e (z e) in
-        sides-none _ _ _ _ t (λ e. omega (arith, o e)) (λ e. omega (arith, o e))
-
-    pub guards-raised : {t t' t'' : List ℕ} {p q : ℕ} (b : Set) → q ≡ get_or rec (1152 + c) 0 → p ≡ get_or rec (640 + c) 0
-        → ((e : ℕ) → has b e ≡ min (has r.path e) (1 - has r.strict e))
-        → Raised t (afters_in q (has r.strict)) t' → Raised t' (befores_in p (has b)) t'' → Raised t (guard_pair_in rec words c) t''
-    unfolding guard_pair_in
-    guards-raised b hq hp hb = sides-raised _ _ _ _ hq hp (after-has words (mark_row c guard_slot) hn hr g) (λ e. hb e ∙ before-has words (mark_row c guard_slot) hn hr g e)
+  pub guards-raised : {t t' : List ℕ} → n ≡ mark_row c guard_slot → (b : Set) → ((e : ℕ) → has b e ≡ min (has r.path e) (1 - has r.strict e))
+      → Raised t (sides_in (get_or rec (1152 + c) 0) (has r.strict) (get_or rec (640 + c) 0) (has b)) t' → Raised t (guard_pair_in rec words c) t'
+  unfolding guard_pair_in
+  guards-raised hn b hb = sides-as _ _ _ _ (after-has words (mark_row c guard_slot) hn hr g) (λ e. hb e ∙ before-has words (mark_row c guard_slot) hn hr g e)
 
   -- and of the marks R
-  module _ (hn : n ≡ mark_row c read_slot) where
-    pub reads_none : (t : List ℕ) → ((e : ℕ) → has r.path e ≡ 0) → Raised t (read_pair_in rec words c) t
-    unfolding read_pair_in
-    reads_none t z =
-        let o : (e : ℕ) → cell_of words (mark_row c read_slot) e ≡ 0 = λ e. cell-none words (mark_row c read_slot) hn hr g e (z e) in
-        sides-none _ _ _ _ t (λ e. omega (arith, o e)) (λ e. omega (arith, o e))
-
-    pub reads-raised : {t t' t'' : List ℕ} {p q : ℕ} → p ≡ get_or rec (640 + c) 0 → q ≡ get_or rec (1152 + c) 0
-        → Raised t (afters_in p (has r.path)) t' → Raised t' (befores_in q (has r.path)) t'' → Raised t (read_pair_in rec words c) t''
-    unfolding read_pair_in
-    reads-raised hp hq = sides-raised _ _ _ _ hp hq (reader-has words (mark_row c read_slot) hn hr g) (reader-has words (mark_row c read_slot) hn hr g)
+  pub reads-raised : {t t' : List ℕ} → n ≡ mark_row c read_slot
+      → Raised t (sides_in (get_or rec (640 + c) 0) (has r.path) (get_or rec (1152 + c) 0) (has r.path)) t' → Raised t (read_pair_in rec words c) t'
+  unfolding read_pair_in
+  reads-raised hn = sides-as _ _ _ _ (reader-has words (mark_row c read_slot) hn hr g) (reader-has words (mark_row c read_slot) hn hr g)
 
 -- the two rows of a condition, one after the other
 pub marks-raised : {t t' t'' : List ℕ} (rec words : List ℕ) (c : ℕ) → Raised t (guard_pair_in rec words c) t' → Raised t' (read_pair_in rec words c) t'' → Raised t (mark_pair_in rec words c) t''

@@ -5,11 +5,10 @@ ghost use Rattle.std.specs.Prelude.{◌≡◌, ℕ, ◌*◌, ◌+◌, ◌<◌, �
 ghost use Rattle.bit_sets.specs.Sets.{has};
 ghost use Rattle.reach.specs.Rows.{words, Good, Sub, row_of};
 ghost use Rattle.record_columns.specs.Layout.{conditions_most, condition_words, record_bytes};
-ghost use Rattle.row_pairs.specs.Relation.{pair_in, befores_in, afters_in, condition_pair_in, guard_pair_in, read_pair_in};
-ghost use Rattle.row_pairs.specs.Relation.{mark_pair_in, overall, Raised};
+ghost use Rattle.row_pairs.specs.Relation.{pair_in, befores_in, afters_in, sides_in, condition_pair_in, guard_pair_in};
+ghost use Rattle.row_pairs.specs.Relation.{read_pair_in, mark_pair_in, overall, Raised};
 
-use bit_sets::{Set, first, is_none, less, one, union};
-use machine_numbers::wide;
+use bit_sets::Set;
 use reach::{Row, WORDS, put_row, raise, row_at, row_in};
 use record_columns::{CONSUMERS, EVENTS, GUARD_SLOT, PRODUCERS, READ_SLOT, mark_row};
 
@@ -32,10 +31,8 @@ pub fn raise_conditions(rec: &[u8], m: usize, w: &mut [u64; WORDS])
     requires { (m ≤ conditions_most) × (record_bytes ≤ length rec.now) × (length w.old ≡ words) × Good w.old }
     ensures { Raised w.old (overall (condition_pair_in rec.now) m) w.new }
 {
-    let mut c: usize = 0;
-    while c < m {
-        raise_pair(w, wide(rec[PRODUCERS + c]), wide(rec[CONSUMERS + c]));
-        c += 1;
+    for c in 0..m {
+        raise_pair(w, rec[PRODUCERS + c] as usize, rec[CONSUMERS + c] as usize);
     }
 }
 
@@ -48,8 +45,8 @@ fn raise_afters(w: &mut [u64; WORDS], f: usize, set: Set)
         return;
     }
     let row = row_at(w, f);
-    let path = union(row.path, set);
-    let strict = union(row.strict, set);
+    let path = row.path.union(set);
+    let strict = row.strict.union(set);
     put_row(w, f, Row { path, strict });
 }
 
@@ -61,13 +58,21 @@ fn raise_befores(w: &mut [u64; WORDS], f: usize, set: Set)
     if EVENTS <= f {
         return;
     }
-    let mut rest = set;
-    let mut e = first(rest);
-    while e < EVENTS {
+    for e in set.members() {
         raise(w, e, f, false);
-        rest = less(rest, one(e));
-        e = first(rest);
     }
+}
+
+// A strict pair of f and each event of a set, and a weak pair of each event of another one and g.
+fn raise_sides(w: &mut [u64; WORDS], f: usize, after: Set, g: usize, before: Set)
+    requires { (length w.old ≡ words) × Good w.old }
+    ensures { Raised w.old (sides_in f (has after) g (has before)) w.new }
+{
+    if after.union(before).is_none() {
+        return;
+    }
+    raise_afters(w, f, after);
+    raise_befores(w, g, before);
 }
 
 // The pairs of the marks B and A at condition c.
@@ -78,13 +83,9 @@ fn raise_guards(rec: &[u8], marks: &[u64], c: usize, w: &mut [u64; WORDS])
     ensures { Raised w.old (guard_pair_in rec.now marks.now c) w.new }
 {
     let row = row_in(marks, mark_row(c, GUARD_SLOT));
-    let path = row.path;
-    let strict = row.strict;
-    if is_none(path) {
-        return;
-    }
-    raise_afters(w, wide(rec[CONSUMERS + c]), strict);
-    raise_befores(w, wide(rec[PRODUCERS + c]), less(path, strict));
+    let consumer = rec[CONSUMERS + c] as usize;
+    let producer = rec[PRODUCERS + c] as usize;
+    raise_sides(w, consumer, row.strict, producer, row.path.less(row.strict));
 }
 
 // The pairs of the marks R at condition c: its producer is strictly before each reader, and each reader not later than
@@ -96,12 +97,9 @@ fn raise_reads(rec: &[u8], marks: &[u64], c: usize, w: &mut [u64; WORDS])
     ensures { Raised w.old (read_pair_in rec.now marks.now c) w.new }
 {
     let row = row_in(marks, mark_row(c, READ_SLOT));
-    let readers = row.path;
-    if is_none(readers) {
-        return;
-    }
-    raise_afters(w, wide(rec[PRODUCERS + c]), readers);
-    raise_befores(w, wide(rec[CONSUMERS + c]), readers);
+    let producer = rec[PRODUCERS + c] as usize;
+    let consumer = rec[CONSUMERS + c] as usize;
+    raise_sides(w, producer, row.path, consumer, row.path);
 }
 
 // The pairs of the marks.
@@ -112,10 +110,8 @@ pub fn raise_marks(rec: &[u8], marks: &[u64], m: usize, w: &mut [u64; WORDS])
     ensures { Raised w.old (overall (mark_pair_in rec.now marks.now) m)
         w.new }
 {
-    let mut c: usize = 0;
-    while c < m {
+    for c in 0..m {
         raise_guards(rec, marks, c, w);
         raise_reads(rec, marks, c, w);
-        c += 1;
     }
 }

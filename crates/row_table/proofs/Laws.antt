@@ -2,7 +2,11 @@
 -- and the entries of a row are the bits of its two sets, without the event itself.
 use mathlib.Core.Path.{◌≡◌, refl, sym, ap, ap₂, ◌∙◌}
 use mathlib.Core.List.{List}
-use Prim.Native.Nat.{ℕ, ◌+◌, ◌-◌, ◌*◌, ◌/◌, ◌%◌, ◌^◌, ◌≤◌, ◌<◌, min}
+use borrow.Rule.Slice.PartMut.{put_mid}
+use Rattle.std.specs.Int.{to_le_bytes}
+use Rattle.std.proofs.Common.{w64}
+use Rattle.std.proofs.lemmas.List.{places}
+use Prim.Native.Nat.{ℕ, zero, suc, ◌+◌, ◌-◌, ◌*◌, ◌/◌, ◌^◌, ◌≤◌, ◌<◌, min}
 use mathlib.Core.Logic.{◌≢◌}
 use native.Mathlib.Decide.{ℕ_discrete, dec_le}
 use borrow.Author.Tests.{eq-eqb, ne_eqb, lt-ltb, le-ltb}
@@ -14,11 +18,11 @@ use Rattle.bit_sets.specs.declared.Set.{Set}
 use Rattle.reach.specs.declared.Row.{Row}
 use Rattle.reach.specs.Rows.{value_of, row_of, cell_of}
 use native.Mathlib.Omega.{arith}
-use lib.ListN.{length, get_or, set}
+use lib.ListN.{length, get_or}
 use lib.Bits.{bit_and}
 use Rattle.bit_sets.specs.Bits.{bit, bit-most}
 use Rattle.row_table.specs.Spread.{spread, octet, byte-0, byte-1, byte-2, byte-3, byte-4, byte-5, byte-6, byte-7}
-use Rattle.row_table.specs.Table.{table_size, row_size, word_bits, Run, run_none, run_more, run-then, run-same, row_entry, entry_in, byte_in}
+use Rattle.row_table.specs.Table.{table_size, row_size, word_bits, Run, run-then, run-same, row_entry, entry_in, byte_in}
 
 spread-most : (x : ℕ) → spread x ≤ 72340172838076673
 unfolding spread
@@ -27,9 +31,16 @@ spread-most x = omega (arith, bit-most x 0, bit-most x 1, bit-most x 2, bit-most
 pub sum_fits : (p s a b : ℕ) → a ≡ spread p → b ≡ spread s → a + b < 2 ^ 64
 sum_fits p s a b h k = omega (arith, spread-most p, spread-most s)
 
-module _ (old : List ℕ) (at p s a b : ℕ) (l : at + 8 ≤ length old) (hp : a ≡ spread p) (hs : b ≡ spread s) (v0 v1 v2 v3 v4 v5 v6 v7 : ℕ)
-    (e0 : v0 ≡ (a + b) % 256) (e1 : v1 ≡ (a + b) / 2 ^ 8 % 256) (e2 : v2 ≡ (a + b) / 2 ^ 16 % 256) (e3 : v3 ≡ (a + b) / 2 ^ 24 % 256)
-    (e4 : v4 ≡ (a + b) / 2 ^ 32 % 256) (e5 : v5 ≡ (a + b) / 2 ^ 40 % 256) (e6 : v6 ≡ (a + b) / 2 ^ 48 % 256) (e7 : v7 ≡ (a + b) / 2 ^ 56 % 256) where
+-- a part put in place of as many entries
+run-put : (old part : List ℕ) (at k : ℕ) (h : ℕ → ℕ) → length part ≡ k → at + k ≤ length old → ((i : ℕ) → i < k → get_or part i 0 ≡ h i) → Run old at k h (put_mid at k old part)
+run-put old part at k h n l e = record {
+  long = grind (arith, places);
+  here = λ i m. let q : get_or (put_mid at k old part) (at + i) 0 ≡ get_or part i 0 = grind (arith, places) in q ∙ e i m;
+  before = λ i m. grind (arith, places);
+  behind = λ i m. grind (arith, places);
+}
+
+module _ (p s a b : ℕ) (hp : a ≡ spread p) (hs : b ≡ spread s) where
   h : ℕ → ℕ
   h i = bit p i + bit s i
 
@@ -41,18 +52,21 @@ module _ (old : List ℕ) (at p s a b : ℕ) (l : at + 8 ≤ length old) (hp : a
   unfolding h spread
   sum = omega (arith, hp, hs)
 
-  pub eight : Run old at 8 (λ i. bit p i + bit s i) (set (set (set (set (set (set (set (set old at v0) (at + 1) v1) (at + 2) v2) (at + 3) v3) (at + 4) v4) (at + 5) v5) (at + 6) v6) (at + 7) v7)
+  -- the bytes of the sum
+  bytes : (i : ℕ) → i < 8 → get_or (to_le_bytes w64 (a + b)) i 0 ≡ h i
+  bytes zero l = byte-0 (a + b) _ _ _ _ _ _ _ _ (most 0) (most 1) (most 2) (most 3) (most 4) (most 5) (most 6) (most 7) sum
+  bytes (suc zero) l = byte-1 (a + b) _ _ _ _ _ _ _ _ (most 0) (most 1) (most 2) (most 3) (most 4) (most 5) (most 6) (most 7) sum
+  bytes (suc (suc zero)) l = byte-2 (a + b) _ _ _ _ _ _ _ _ (most 0) (most 1) (most 2) (most 3) (most 4) (most 5) (most 6) (most 7) sum
+  bytes (suc (suc (suc zero))) l = byte-3 (a + b) _ _ _ _ _ _ _ _ (most 0) (most 1) (most 2) (most 3) (most 4) (most 5) (most 6) (most 7) sum
+  bytes (suc (suc (suc (suc zero)))) l = byte-4 (a + b) _ _ _ _ _ _ _ _ (most 0) (most 1) (most 2) (most 3) (most 4) (most 5) (most 6) (most 7) sum
+  bytes (suc (suc (suc (suc (suc zero))))) l = byte-5 (a + b) _ _ _ _ _ _ _ _ (most 0) (most 1) (most 2) (most 3) (most 4) (most 5) (most 6) (most 7) sum
+  bytes (suc (suc (suc (suc (suc (suc zero)))))) l = byte-6 (a + b) _ _ _ _ _ _ _ _ (most 0) (most 1) (most 2) (most 3) (most 4) (most 5) (most 6) (most 7) sum
+  bytes (suc (suc (suc (suc (suc (suc (suc zero))))))) l = byte-7 (a + b) _ _ _ _ _ _ _ _ (most 0) (most 1) (most 2) (most 3) (most 4) (most 5) (most 6) (most 7) sum
+  bytes (suc (suc (suc (suc (suc (suc (suc (suc i)))))))) l = absurd (omega arith)
+
+  pub eight : (old part : List ℕ) (at k : ℕ) → k ≡ 8 → part ≡ to_le_bytes w64 (a + b) → at + 8 ≤ length old → Run old at 8 (λ i. bit p i + bit s i) (put_mid at k old part)
   unfolding h
-  eight =
-      run_more v7 (at + 7) refl (omega arith) (e7 ∙ byte-7 (a + b) _ _ _ _ _ _ _ _ (most 0) (most 1) (most 2) (most 3) (most 4) (most 5) (most 6) (most 7) sum)
-      (run_more v6 (at + 6) refl (omega arith) (e6 ∙ byte-6 (a + b) _ _ _ _ _ _ _ _ (most 0) (most 1) (most 2) (most 3) (most 4) (most 5) (most 6) (most 7) sum)
-      (run_more v5 (at + 5) refl (omega arith) (e5 ∙ byte-5 (a + b) _ _ _ _ _ _ _ _ (most 0) (most 1) (most 2) (most 3) (most 4) (most 5) (most 6) (most 7) sum)
-      (run_more v4 (at + 4) refl (omega arith) (e4 ∙ byte-4 (a + b) _ _ _ _ _ _ _ _ (most 0) (most 1) (most 2) (most 3) (most 4) (most 5) (most 6) (most 7) sum)
-      (run_more v3 (at + 3) refl (omega arith) (e3 ∙ byte-3 (a + b) _ _ _ _ _ _ _ _ (most 0) (most 1) (most 2) (most 3) (most 4) (most 5) (most 6) (most 7) sum)
-      (run_more v2 (at + 2) refl (omega arith) (e2 ∙ byte-2 (a + b) _ _ _ _ _ _ _ _ (most 0) (most 1) (most 2) (most 3) (most 4) (most 5) (most 6) (most 7) sum)
-      (run_more v1 (at + 1) refl (omega arith) (e1 ∙ byte-1 (a + b) _ _ _ _ _ _ _ _ (most 0) (most 1) (most 2) (most 3) (most 4) (most 5) (most 6) (most 7) sum)
-      (run_more v0 at (omega arith) (omega arith) (e0 ∙ byte-0 (a + b) _ _ _ _ _ _ _ _ (most 0) (most 1) (most 2) (most 3) (most 4) (most 5) (most 6) (most 7) sum)
-      (run_none old at _))))))))
+  eight old part at k q e l = rw (q, e) (run-put old (to_le_bytes w64 (a + b)) at 8 (λ i. bit p i + bit s i) refl l bytes)
 
 -- eight more of a word
 pub octets : (old mid new : List ℕ) (at p s j : ℕ) → Run old at (8 * j) (λ i. bit p i + bit s i) mid

@@ -8,7 +8,7 @@ ghost use Rattle.reach.specs.Rows.{cell_of};
 ghost use Rattle.row_table.specs.Spread.{spread};
 ghost use Rattle.row_table.specs.Table.{table_size, row_size, word_bits, Run, row_entry, byte_in};
 
-use bit_sets::{less, one};
+use bit_sets::Set;
 use byte_slices::clear;
 use reach::{WORDS, row_at};
 
@@ -29,26 +29,13 @@ fn spread(x: u64) -> u64
     (((x & 127) * 0x2_0408_1020_4081) & 0x0101_0101_0101_0101) + ((x >> 7) << 56)
 }
 
-fn low_byte(z: u64) -> u8
-    ensures { result ≡ z % 256 }
-{
-    (z & 255) as u8
-}
-
 // Eight entries: 2 where both have the bit, 1 where one has it.
 fn put_eight(out: &mut [u8], at: usize, p: u64, s: u64)
     requires { (p < 256) × (s < 256) × (at + 8 ≤ length out.old) }
     ensures { Run out.old at 8 (λ i. bit p i + bit s i) out.new }
 {
     let z = spread(p) + spread(s);
-    out[at] = low_byte(z);
-    out[at + 1] = low_byte(z >> 8);
-    out[at + 2] = low_byte(z >> 16);
-    out[at + 3] = low_byte(z >> 24);
-    out[at + 4] = low_byte(z >> 32);
-    out[at + 5] = low_byte(z >> 40);
-    out[at + 6] = low_byte(z >> 48);
-    out[at + 7] = low_byte(z >> 56);
+    out[at..at + 8].copy_from_slice(&z.to_le_bytes());
 }
 
 // The entries of two words.
@@ -56,10 +43,8 @@ fn put_word(out: &mut [u8], at: usize, p: u64, s: u64)
     requires { at + word_bits ≤ length out.old }
     ensures { Run out.old at word_bits (λ i. bit p i + bit s i) out.new }
 {
-    let mut j: usize = 0;
-    while j < 8 {
+    for j in 0..8 {
         put_eight(out, at + 8 * j, (p >> (8 * j)) & 255, (s >> (8 * j)) & 255);
-        j += 1;
     }
 }
 
@@ -69,9 +54,9 @@ fn put_row(w: &[u64; WORDS], e: usize, out: &mut [u8])
     ensures { Run out.old (row_size * e) row_size (row_entry w.now e) out.new }
 {
     let r = row_at(w, e);
-    let o = one(e);
-    let p = less(r.path, o);
-    let s = less(r.strict, o);
+    let o = Set::one(e);
+    let p = r.path.less(o);
+    let s = r.strict.less(o);
     put_word(out, ROW * e, p.lo, s.lo);
     put_word(out, ROW * e + WORD, p.hi, s.hi);
 }
@@ -82,9 +67,7 @@ pub fn write_table(w: &[u64; WORDS], n: usize, out: &mut [u8])
     ensures { Mapped out.old table_size (byte_in (cell_of w.now) n) out.new }
 {
     clear(out, TABLE);
-    let mut e: usize = 0;
-    while e < n {
+    for e in 0..n {
         put_row(w, e, out);
-        e += 1;
     }
 }

@@ -5,14 +5,14 @@ use mathlib.Core.List.{List, []}
 use native.Mathlib.Nat.{mul-le-mul, le_of_eq, le_trans}
 use native.Mathlib.Omega.{arith}
 use lib.ListN.{length, get_or, take}
-use lib.Seq.{ext_get_or}
+use lib.Seq.{ext_get_or, get_or-take, length-take-le}
 use Rattle.spec.specs.Lists.{up_to, sum_of}
 use Rattle.lists.specs.Along.{sum_of-more}
 use Rattle.lists.specs.Grouped.{sum_of-next}
 use Rattle.columns.specs.Columns.{column, column-at, column-length}
 use Rattle.arc_sets.specs.Sets.{arc_at}
-use Rattle.steps.specs.StepArrays.{over, Summed}
-use Rattle.run_counts.specs.Tally.{size_of, both_of, times_at, tally_at, Tallies}
+use Rattle.steps.specs.StepArrays.{IsStep, over, Summed}
+use Rattle.run_counts.specs.Tally.{StepEvents, size_of, both_of, times_at, tally_at, Tallies}
 
 -- ---- sums over the events
 
@@ -22,6 +22,14 @@ all_none f = refl
 
 pub all-next : {v t : ℕ} (f : ℕ → ℕ) (ts : List ℕ) (i r : ℕ) → i < length ts → r ≡ sum_of f (take i ts) → t ≡ get_or ts i 0 → v ≡ f t → r + v ≡ sum_of f (take (i + 1) ts)
 all-next f ts i r l h e q = ap₂ (λ (x y : ℕ). x + y) h (q ∙ ap f e) ∙ sym (sum_of-more 0 f ts i l)
+
+-- the events of a step in an array
+module _ {xs : List ℕ} {n : ℕ} (S : IsStep xs n) where
+  pub step-size : length (take n xs) ≡ n
+  step-size = length-take-le n xs (omega (arith, S.long, S.few))
+
+  pub step-events : StepEvents (take n xs)
+  step-events = record { few = omega (arith, S.few, step-size); known = λ i h. let l : i < n = omega (arith, step-size) in omega (arith, get_or-take n xs i 0 l, S.known i l) }
 
 -- ---- products
 

@@ -7,7 +7,7 @@ use Rattle.spec.specs.Building.{Event, Run}
 use Rattle.columns.specs.Columns.{column}
 use Rattle.bit_sets.specs.Bits.{bit}
 use Rattle.arc_sets.specs.Sets.{made_at, guards_at, read_at, more_at, arc_at}
-use Rattle.steps.specs.StepArrays.{over}
+use Rattle.steps.specs.StepArrays.{step_long, over}
 use Rattle.runs.specs.MarkCounts.{reads_of}
 
 -- the condition is one of place p
@@ -30,6 +30,11 @@ unfoldable pub reads_all : Net → List Event → ℕ
 reads_all N es = sum_of (λ v. reads_of N v.transition) es
 
 -- ---- by sets and arrays
+
+-- the transitions of a step's events: as many as a step can have, each of them one of a net's
+pub record StepEvents (ts : List ℕ) : Type 0 where
+  pub few : length ts ≤ step_long
+  pub known : (i : ℕ) → i < length ts → get_or ts i 0 < 32
 
 -- the counts by place, of all kinds and of one kind, and where those of the events that a place inhibits start
 abbrev pub counts_long : ℕ

@@ -2,15 +2,14 @@
 // events read; so that its conditions and its marks are known without building them.
 #![tactic(auto)]
 
-ghost use Rattle.std.specs.Prelude.{◌≡◌, ◌*◌, ◌≤◌, ◌<◌, take};
+ghost use Rattle.std.specs.Prelude.{◌≡◌, ◌*◌, ◌≤◌, ◌<◌, length};
 ghost use Rattle.spec.specs.Lists.{sum_of, up_to};
 ghost use Rattle.arc_sets.specs.Sets.{row_count, read_at, weight_at, Within};
-ghost use Rattle.steps.specs.StepArrays.{IsStep, Within32};
-ghost use Rattle.run_counts.specs.Tally.{weighed, size_of, both_of, Countable, products_of};
+ghost use Rattle.steps.specs.StepArrays.{Within32};
+ghost use Rattle.run_counts.specs.Tally.{StepEvents, weighed, size_of, both_of, Countable, products_of};
 
-use arc_sets::{GUARDS, MADE, SETS, WEIGHTS, lowest, size, weight};
-use machine_numbers::{wide, wide_word};
-use steps::STEP;
+use arc_sets::{GUARDS, MADE, SETS, WEIGHTS, size, weight};
+use bit_sets::members;
 
 // The counts by place: three for each.
 pub const COUNTS: usize = 96;
@@ -25,11 +24,8 @@ fn weights_in(sets: &[u64; SETS], row: usize, set: u64) -> usize
     ensures { (result ≡ sum_of (weighed sets.now row set) (up_to 64)) × (result ≤ 512) }
 {
     let mut r: usize = 0;
-    let mut bits = set;
-    while bits != 0 {
-        let p = lowest(bits);
+    for p in members(set) {
         r += weight(sets, row, p);
-        bits = bits & (bits ^ (1 << p));
     }
     r
 }
@@ -50,30 +46,26 @@ fn row_size(sets: &[u64; SETS], row: usize) -> usize
 
 // How many tokens the arcs of the events of a step stand for, by the rows that start at `at`: how many conditions they
 // make, and how many places they read, each of which has a mark of its own (02, 2026-01).
-pub fn sizes_all(step: &[u8; STEP], count: usize, sets: &[u64; SETS], at: usize) -> usize
-    requires { IsStep step.now count × (at ≤ read_at) × Within 32 sets.now }
-    ensures { (result ≡ sum_of (size_of sets.now at) (take count step.now)) × (result ≤ 512 * count) }
+pub fn sizes_all(step: &[u8], sets: &[u64; SETS], at: usize) -> usize
+    requires { StepEvents step.now × (at ≤ read_at) × Within 32 sets.now }
+    ensures { (result ≡ sum_of (size_of sets.now at) step.now) × (result ≤ 512 * length step.now) }
 {
     let mut r: usize = 0;
-    let mut i: usize = 0;
-    while i < count {
-        r += row_size(sets, at + wide(step[i]));
-        i += 1;
+    for &t in step {
+        r += row_size(sets, at + usize::from(t));
     }
     r
 }
 
 // How many conditions they make in places that inhibit them.
-pub fn own_all(step: &[u8; STEP], count: usize, sets: &[u64; SETS]) -> usize
-    requires { IsStep step.now count × Within 32 sets.now }
-    ensures { (result ≡ sum_of (both_of sets.now) (take count step.now)) × (result ≤ 512 * count) }
+pub fn own_all(step: &[u8], sets: &[u64; SETS]) -> usize
+    requires { StepEvents step.now × Within 32 sets.now }
+    ensures { (result ≡ sum_of (both_of sets.now) step.now) × (result ≤ 512 * length step.now) }
 {
     let mut r: usize = 0;
-    let mut i: usize = 0;
-    while i < count {
-        let t = wide(step[i]);
+    for &id in step {
+        let t = usize::from(id);
         r += weights_in(sets, MADE + t, sets[MADE + t] & sets[GUARDS + t]);
-        i += 1;
     }
     r
 }
@@ -84,10 +76,8 @@ pub fn products(counts: &[u32; COUNTS], m: usize) -> usize
     ensures { (result ≡ products_of counts.now m) × (result ≤ 6553600 * m) }
 {
     let mut r: usize = 0;
-    let mut p: usize = 0;
-    while p < m {
-        r += wide_word(counts[p]) * wide_word(counts[WATCHED + p]);
-        p += 1;
+    for p in 0..m {
+        r += counts[p] as usize * counts[WATCHED + p] as usize;
     }
     r
 }

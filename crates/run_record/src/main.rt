@@ -2,7 +2,7 @@
 // is printed, and standard error says why; so it does where not all can be written. Then the exit status is 1.
 #![tactic(auto)]
 
-use answering::{INPUT_BYTES, Outcome, answer};
+use answering::{Failure, INPUT_BYTES, answer};
 use pti::PROGRAM_BYTES;
 use std::io;
 use std::process::ExitCode;
@@ -17,8 +17,8 @@ fn main(rt: HostRuntime) -> ExitCode {
     let mut input = [0u8; INPUT_BYTES];
     let mut out = [0u8; PROGRAM_BYTES];
     match answer(&mut rt.stdin(), &mut rt.stdout(), &mut input, &mut out) {
-        Outcome::Printed(_, _) => ExitCode::SUCCESS,
-        Outcome::Unwritten(_, _, e) => failed(&rt, "standard output", e),
-        Outcome::Unread(e) => failed(&rt, "standard input", e),
+        Ok(_) => ExitCode::SUCCESS,
+        Err(Failure::Unwritten(_, e)) => failed(&rt, "standard output", e),
+        Err(Failure::Unread(e)) => failed(&rt, "standard input", e),
     }
 }

@@ -2,7 +2,7 @@
 #![tactic(auto)]
 
 // What a byte is: a digit, a comma, a dash, a line end, a letter in use, a carriage return or foreign.
-#[derive(Clone, Copy)]
+#[derive(Clone, Copy, PartialEq, Eq)]
 pub enum Class {
     Digit,
     Comma,

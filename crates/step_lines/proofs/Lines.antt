@@ -26,14 +26,13 @@ use Rattle.number_lines.specs.Numbers.{Begins}
 use Rattle.number_lines.proofs.Lines.{few-known}
 use Rattle.arc_sets.specs.Sets.{HoldsArcs}
 use Rattle.steps.specs.StepArrays.{IsStep, HoldsMarking}
-use Rattle.steps.specs.Judged.{numbers_in, read_step, count_step, judge_step, line_at, step_refused, step_answer, nothing, Judges}
+use Rattle.steps.specs.Judged.{numbers_in, read_step, count_step, judge_step, line_at, step_refused, nothing, Judges}
 use Rattle.steps.specs.declared.Position.{Position}
-use Rattle.steps.specs.declared.StepAnswer.{StepAnswer}
-use Rattle.steps.specs.declared.StepAnswer.TheVariants.{Goes, Refused}
+use Rattle.std.specs.Prelude.{Result, Ok, Err}
 use Rattle.steps.specs.declared.StepRefusal.{StepRefusal}
 use Rattle.steps.specs.declared.StepRefusal.TheVariants.{Malformed, UnknownTransition, OverEvents, TooFewTokens, Inhibited}
 use Rattle.steps.proofs.Held.{step-held}
-use Rattle.step_lines.specs.Lines.{Named, ReadLine, Enabled}
+use Rattle.step_lines.specs.Lines.{Named, ReadLine, HasStep, Enabled}
 
 -- a line of a log has a number
 some_number : (l : Line) → is_step_line l ≡ true → 0 < length (numbers_in l)
@@ -51,16 +50,16 @@ list-step b e = list-line "S" refl (line_of b true) ∙ e
 -- ---- read
 
 module _ (l : Line) (x : Position) {step : List ℕ} (long : length step ≡ 128) where
-  pub reads-21 : {count : ℕ} → is_step_line l ≡ false → ReadLine l x (Refused (Malformed x.line)) count step
+  pub reads-21 : is_step_line l ≡ false → ReadLine l x (Err (Malformed x.line)) step
   unfolding read_step ◌>>◌ refuse◌at◌when◌
   reads-21 a = record { long = long; answers = refusing 21 x.line (rw a) refl }
 
   module _ (a : is_step_line l ≡ true) where
-    pub reads-22 : {count : ℕ} → any (leb x.transitions) (numbers_in l) ≡ true → ReadLine l x (Refused (UnknownTransition x.line)) count step
+    pub reads-22 : any (leb x.transitions) (numbers_in l) ≡ true → ReadLine l x (Err (UnknownTransition x.line)) step
     unfolding read_step ◌>>◌ refuse◌at◌when◌
     reads-22 b = record { long = long; answers = refusing 22 x.line (rw (a, b)) refl }
 
-    pub reads-step : {count : ℕ} → x.transitions ≤ 32 → any (leb x.transitions) (numbers_in l) ≡ false → count ≡ length (numbers_in l) → (count ≤ 128 → Begins step (numbers_in l)) → ReadLine l x Goes count step
+    pub reads-step : {count : ℕ} → x.transitions ≤ 32 → any (leb x.transitions) (numbers_in l) ≡ false → count ≡ length (numbers_in l) → (count ≤ 128 → Begins step (numbers_in l)) → ReadLine l x (Ok count) step
     unfolding read_step ◌>>◌ refuse◌at◌when◌
     reads-step {count} k b e f = record {
       long = long;
@@ -123,60 +122,68 @@ module _ (N : Net) (k : ℕ) (l : Line) (events : ℕ) (mk : List ℕ) {known : 
       at-end g = rw (known_is e, f) (rw g)
 
 -- so many events that are counted fit
-pub count_fits : {c : StepAnswer} (x : Position) (count : ℕ) → x.events ≤ 128 → step_answer c ≡ count_step x.line x.events count → c ≡ Goes → x.events + count ≤ 128
-count_fits x count few d f = elim (dec_lt 128 (x.events + count)) [
-  | yes h ↦ refuses-not (sym (counts-23 x.line x.events count (omega arith) few) ∙ sym d ∙ ap step_answer f)
+pub count_fits : (x : Position) (count : ℕ) → x.events ≤ 128 → gives tt ≡ count_step x.line x.events count → x.events + count ≤ 128
+count_fits x count few d = elim (dec_lt 128 (x.events + count)) [
+  | yes h ↦ refuses-not (sym (counts-23 x.line x.events count (omega arith) few) ∙ sym d)
   | no h ↦ omega arith
 ]
 
-module _ {l : Line} {x : Position} {a : StepAnswer} {count : ℕ} {step : List ℕ} (R : ReadLine l x a count step) where
+-- a line that is refused when it is read
+pub line-unread : {l : Line} (x : Position) {w : StepRefusal} {step : List ℕ} → ReadLine l x (Err w) step → (N : Net) (mk : List ℕ) → x.transitions ≡ N.transitions
+    → Agrees nothing (step_refused w) (λ ts. ⊥) (line_at N x.line l x.events mk)
+line-unread {l} x {w} R N mk q = go R.answers
+  where
+    go : Agrees nothing (step_refused w) (λ ts. ⊥) (read_step x.transitions x.line l) → Agrees nothing (step_refused w) (λ ts. ⊥) (line_at N x.line l x.events mk)
+    go (giving ts p y h) = absurd h
+    go (refusing n s p y) = refusing n s (at_read N x.line l x.events mk q p) y
+
+module _ {l : Line} {x : Position} {count : ℕ} {step : List ℕ} (R : ReadLine l x (Ok count) step) where
   -- the array has the step of a line that was read
-  pub step-read : a ≡ Goes → count ≤ 128 → IsStep step count
-  step-read e h = go R.answers
+  pub step-read : count ≤ 128 → IsStep step count
+  step-read h = go R.answers
     where
-      go : Agrees nothing (step_answer a) (Named x.transitions count step) (read_step x.transitions x.line l) → IsStep step count
+      go : Agrees nothing (gives tt) (Named x.transitions count step) (read_step x.transitions x.line l) → IsStep step count
       go (giving ts p y n) = (n.holds h).step
-      go (refusing n s p y) = refuses-not (sym y ∙ ap step_answer e)
+      go (refusing n s p y) = refuses-not (sym y)
 
   module _ (N : Net) (mk : List ℕ) (q : x.transitions ≡ N.transitions) where
-    -- 21 and 22
-    pub line-unread : {w : StepRefusal} → a ≡ Refused w → Agrees nothing (step_answer a) (Enabled N x mk count step) (line_at N x.line l x.events mk)
-    line-unread {w} e = go R.answers
+    -- 23
+    pub line-uncounted : (w : StepRefusal) → step_refused w ≡ count_step x.line x.events count → Agrees nothing (step_refused w) (λ ts. ⊥) (line_at N x.line l x.events mk)
+    line-uncounted w d = go R.answers
       where
-        go : Agrees nothing (step_answer a) (Named x.transitions count step) (read_step x.transitions x.line l) → Agrees nothing (step_answer a) (Enabled N x mk count step) (line_at N x.line l x.events mk)
-        go (giving ts p y h) = refused-not w (sym (ap step_answer e) ∙ y)
-        go (refusing n s p y) = refusing n s (at_read N x.line l x.events mk q p) y
+        go : Agrees nothing (gives tt) (Named x.transitions count step) (read_step x.transitions x.line l) → Agrees nothing (step_refused w) (λ ts. ⊥) (line_at N x.line l x.events mk)
+        go (giving ts p y h) = let r = refusal_is {A = Unit {0}} w in
+            refusing r.0 r.1 (at_count N x.line l x.events mk q p (ap (count_step x.line x.events) (sym h.size) ∙ sym d ∙ r.2)) r.2
+        go (refusing n s p y) = refuses-not (sym y)
 
-    module _ (e : a ≡ Goes) where
-      -- 23
-      pub line-uncounted : {c : StepAnswer} {w : StepRefusal} → step_answer c ≡ count_step x.line x.events count → c ≡ Refused w → Agrees nothing (step_refused w) (Enabled N x mk 0 step) (line_at N x.line l x.events mk)
-      line-uncounted {c} {w} d f = go R.answers
+    -- 24 and 25
+    module _ {sets marking : List ℕ} (fits : x.events + count ≤ 128) (few : x.events ≤ 128) (A : HoldsArcs N sets x.places) (H : HoldsMarking x.places marking mk) where
+      counted : (ts : List ℕ) → count ≡ length ts → count_step x.line x.events (length ts) ≡ gives tt
+      counted ts h = counts-on x.line x.events (length ts) (omega arith) few
+
+      pub line-barred : (w : StepRefusal) → Judges step count sets marking x.places x.line (Err w) → Agrees nothing (step_refused w) (λ ts. ⊥) (line_at N x.line l x.events mk)
+      line-barred w G = go R.answers
         where
-          go : Agrees nothing (step_answer a) (Named x.transitions count step) (read_step x.transitions x.line l) → Agrees nothing (step_refused w) (Enabled N x mk 0 step) (line_at N x.line l x.events mk)
+          go : Agrees nothing (gives tt) (Named x.transitions count step) (read_step x.transitions x.line l) → Agrees nothing (step_refused w) (λ ts. ⊥) (line_at N x.line l x.events mk)
           go (giving ts p y h) = let r = refusal_is {A = Unit {0}} w in
-              refusing r.0 r.1 (at_count N x.line l x.events mk q p (ap (count_step x.line x.events) (sym h.size) ∙ sym d ∙ ap step_answer f ∙ r.2)) r.2
-          go (refusing n s p y) = refuses-not (sym y ∙ ap step_answer e)
+              refusing r.0 r.1 (at-judge N x.line l x.events mk q p (counted ts h.size) (sym (G N ts mk A (h.holds (omega arith)) (λ t i. omega (arith, h.each t i, q)) H) ∙ r.2)) r.2
+          go (refusing n s p y) = refuses-not (sym y)
 
-      -- 24 and 25
-      pub line-judged : {sets marking : List ℕ} (j : StepAnswer) → x.events + count ≤ 128 → x.events ≤ 128
-          → Judges step count sets marking x.places x.line j → HoldsArcs N sets x.places → HoldsMarking x.places marking mk
-          → Agrees nothing (step_answer j) (Enabled N x mk count step) (line_at N x.line l x.events mk)
-      line-judged j fits few G A H = go R.answers
+      pub line-judged : Judges step count sets marking x.places x.line (Ok tt)
+          → Agrees nothing (gives tt) (Enabled N x mk count step) (line_at N x.line l x.events mk)
+      line-judged G = go R.answers
         where
-          counted : (ts : List ℕ) → count ≡ length ts → count_step x.line x.events (length ts) ≡ gives tt
-          counted ts h = counts-on x.line x.events (length ts) (omega arith) few
-
-          at-step : (ts : List ℕ) (b : Answer (Unit {0})) → read_step x.transitions x.line l ≡ gives ts → Named x.transitions count step ts → judge_step N x.line mk ts ≡ b → step_answer j ≡ b
-              → Agrees nothing (step_answer j) (Enabled N x mk count step) (line_at N x.line l x.events mk)
-          at-step ts (gives v) p h u y = giving ts (at-end N x.line l x.events mk q p (counted ts h.size) u) y (record {
+          go : Agrees nothing (gives tt) (Named x.transitions count step) (read_step x.transitions x.line l) → Agrees nothing (gives tt) (Enabled N x mk count step) (line_at N x.line l x.events mk)
+          go (giving ts p y h) = let u = sym (G N ts mk A (h.holds (omega arith)) (λ t i. omega (arith, h.each t i, q)) H) in giving ts (at-end N x.line l x.events mk q p (counted ts h.size) u) refl (record {
             some = h.some;
             each = λ t i. omega (arith, h.each t i, q);
             events = fits;
             holds = h.holds (omega arith);
             judged = u;
           })
-          at-step ts (refuses n s) p h u y = refusing n s (at-judge N x.line l x.events mk q p (counted ts h.size) u) y
+          go (refusing n s p y) = refuses-not (sym y)
 
-          go : Agrees nothing (step_answer a) (Named x.transitions count step) (read_step x.transitions x.line l) → Agrees nothing (step_answer j) (Enabled N x mk count step) (line_at N x.line l x.events mk)
-          go (giving ts p y h) = at-step ts _ p h refl (G N ts mk A (h.holds (omega arith)) (λ t i. omega (arith, h.each t i, q)) H)
-          go (refusing n s p y) = refuses-not (sym y ∙ ap step_answer e)
+-- of a line that was refused it has nothing to have
+pub has-step : {l : Line} {x : Position} (r : Result ℕ StepRefusal) {step : List ℕ} → ReadLine l x r step → HasStep r step
+has-step (Ok count) R = step-read R
+has-step (Err w) R = tt

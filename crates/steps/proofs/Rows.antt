@@ -43,6 +43,20 @@ over-part f xs i n p h =
     let e : n ≡ i + (n - i) = omega arith in
     omega (arith, ap (λ (z : ℕ). over f (take z xs) p) e, ap (λ zs. over f zs p) (take-add i (n - i) xs), Laws.sum_of-append (λ t. f t p) (take i xs) (take (n - i) (drop i xs)))
 
+-- a loop over the events of a step: the one that is next, and that all have been
+module _ {xs : List ℕ} {count : ℕ} (S : IsStep xs count) where
+  events-long : length (take count xs) ≡ count
+  events-long = length-take-le count xs (omega (arith, S.long, S.few))
+
+  pub event-within : {i : ℕ} → i < length (take count xs) → i < count
+  event-within h = omega (arith, events-long, h)
+
+  pub event-told : {i : ℕ} → i < length (take count xs) → get_or (take count xs) i 0 ≡ get_or xs i 0
+  event-told {i} h = get_or-take count xs i 0 (event-within h)
+
+  pub events-done : {i : ℕ} → i ≤ length (take count xs) → length (take count xs) ≤ i → i ≡ count
+  events-done l h = omega (arith, events-long, l, h)
+
 -- the events' transitions are known
 pub step-known : {xs : List ℕ} {count : ℕ} → IsStep xs count → (t : ℕ) → In t (take count xs) → t < 32
 step-known {xs} {count} S t m =

@@ -1,6 +1,6 @@
 -- The parts in which a line of a log is judged, each with its refusals: read (21, 22), counted (23), and at a marking
 -- (24, 25).
-use Rattle.std.specs.Prelude.{ℕ, ◌+◌, ◌<◌, ◌≡◌, Bool, not, List, ltb, leb, length}
+use Rattle.std.specs.Prelude.{ℕ, ◌+◌, ◌<◌, ◌≡◌, Bool, not, Result, Ok, Err, List, ltb, leb, length}
 use Rattle.spec.specs.Answer.{Answer, gives, refuses, ◌>>=◌, ◌>>◌, refuse◌at◌when◌}
 use Rattle.spec.specs.Lists.{In, any}
 use Rattle.spec.specs.Text.{Line, most_digits}
@@ -13,8 +13,6 @@ use Rattle.steps.specs.StepArrays.{HoldsStep, HoldsMarking}
 use Rattle.steps.specs.declared.StepRefusal.{StepRefusal}
 use Rattle.steps.specs.declared.StepRefusal.TheVariants.{Malformed, UnknownTransition, OverEvents}
 use Rattle.steps.specs.declared.StepRefusal.TheVariants.{TooFewTokens, Inhibited}
-use Rattle.steps.specs.declared.StepAnswer.{StepAnswer}
-use Rattle.steps.specs.declared.StepAnswer.TheVariants.{Goes, Refused}
 
 -- the paper's number and spot of a refusal
 abbrev pub step_refused : {A : Type 0} → StepRefusal → Answer A
@@ -24,9 +22,10 @@ step_refused (OverEvents k) = refuses 23 k
 step_refused (TooFewTokens k) = refuses 24 k
 step_refused (Inhibited k) = refuses 25 k
 
-abbrev pub step_answer : StepAnswer → Answer (Unit {0})
-step_answer Goes = gives tt
-step_answer (Refused x) = step_refused x
+-- the refusal, or that the line goes, whatever comes with it
+abbrev pub step_answer : {A : Type 0} → Result A StepRefusal → Answer (Unit {0})
+step_answer (Ok a) = gives tt
+step_answer (Err x) = step_refused x
 
 -- no value comes with an answer
 abbrev pub nothing : {A : Type 0} → A → Unit {0}
@@ -70,7 +69,7 @@ IsShort xs count sets marking m r =
     → r ≡ short N mk ts
 
 -- a step is judged as the definitions say, for every net and marking that are held
-abbrev pub Judges : (xs : List ℕ) (count : ℕ) (sets marking : List ℕ) (m k : ℕ) → StepAnswer → Type 0
+abbrev pub Judges : (xs : List ℕ) (count : ℕ) (sets marking : List ℕ) (m k : ℕ) → Result (Unit {0}) StepRefusal → Type 0
 Judges xs count sets marking m k a =
     (N : Net) (ts mk : List ℕ) → HoldsArcs N sets m → HoldsStep xs count ts
     → ((t : ℕ) → In t ts → t < N.transitions) → HoldsMarking m marking mk

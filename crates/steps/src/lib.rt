@@ -8,8 +8,8 @@ ghost use Rattle.steps.specs.StepArrays.{marking_long, IsStep, Addable, AddedRow
 ghost use Rattle.steps.specs.StepArrays.{Payable, Paid, Within32, falls, Joined, SomePlace, Playable, MovedBy};
 ghost use Rattle.steps.specs.Judged.{IsShort, Judges};
 
-use arc_sets::{GUARDS, MADE, READ, SETS, lowest, set_at, weight};
-use machine_numbers::wide;
+use arc_sets::{GUARDS, MADE, READ, SETS, set_at, weight};
+use bit_sets::members;
 use net::TOKENS;
 
 // A step: the transitions of its events. A marking: the tokens of each place.
@@ -19,7 +19,7 @@ pub const MARKING: usize = 32;
 
 // What a line of a log is refused for without its record being built, with its line: it is malformed, it names an
 // unknown transition, it has more events than are left, or its step is not enabled at the marking.
-#[derive(Clone, Copy)]
+#[derive(Clone, Copy, Debug, PartialEq, Eq)]
 pub enum StepRefusal {
     Malformed(usize),
     UnknownTransition(usize),
@@ -28,14 +28,8 @@ pub enum StepRefusal {
     Inhibited(usize),
 }
 
-#[derive(Clone, Copy)]
-pub enum StepAnswer {
-    Goes,
-    Refused(StepRefusal),
-}
-
 // How far a sequence of steps has come: the line that is next, and its events; and how large its net is.
-#[derive(Clone, Copy)]
+#[derive(Clone, Copy, Debug, PartialEq, Eq)]
 pub struct Position {
     pub places: usize,
     pub transitions: usize,
@@ -50,11 +44,8 @@ fn add_row(xs: &mut [u32], from: usize, sets: &[u64; SETS], row: usize)
     requires { (row < row_count) × Addable from (weight_at sets.now row) xs.old }
     ensures { AddedRow from (weight_at sets.now row) xs.old xs.new }
 {
-    let mut bits = set_at(sets, row);
-    while bits != 0 {
-        let p = lowest(bits);
+    for p in members(set_at(sets, row)) {
         xs[from + p] += weight(sets, row, p) as u32;
-        bits = bits & (bits ^ (1 << p));
     }
 }
 
@@ -71,10 +62,8 @@ pub fn add_all(
     ensures { Summed (arc_at sets.now at) (take count step.now) from
         xs.old xs.new }
 {
-    let mut i: usize = 0;
-    while i < count {
-        add_row(xs, from, sets, at + wide(step[i]));
-        i += 1;
+    for t in &step[..count] {
+        add_row(xs, from, sets, at + usize::from(*t));
     }
 }
 
@@ -83,11 +72,8 @@ fn take_row(xs: &mut [u32; MARKING], sets: &[u64; SETS], row: usize)
     requires { (row < row_count) × (length xs.old ≡ marking_long) × Payable (weight_at sets.now row) xs.old }
     ensures { TakenRow (weight_at sets.now row) xs.old xs.new }
 {
-    let mut bits = set_at(sets, row);
-    while bits != 0 {
-        let p = lowest(bits);
+    for p in members(set_at(sets, row)) {
         xs[p] -= weight(sets, row, p) as u32;
-        bits = bits & (bits ^ (1 << p));
     }
 }
 
@@ -97,10 +83,8 @@ fn take_all(step: &[u8; STEP], count: usize, sets: &[u64; SETS], marking: &mut [
     ensures { Paid (arc_at sets.now 0) (take count step.now)
         marking.old marking.new }
 {
-    let mut i: usize = 0;
-    while i < count {
-        take_row(marking, sets, wide(step[i]));
-        i += 1;
+    for t in &step[..count] {
+        take_row(marking, sets, usize::from(*t));
     }
 }
 
@@ -111,14 +95,7 @@ fn falls(marking: &[u32; MARKING], taken: &[u32; MARKING], places: usize) -> boo
     requires { places ≤ 32 }
     ensures { result ≡ falls marking.now taken.now places }
 {
-    let mut p: usize = 0;
-    while p < places {
-        if marking[p] < taken[p] {
-            return true;
-        }
-        p += 1;
-    }
-    false
+    (0..places).any(|p| marking[p] < taken[p])
 }
 
 // The places that one of the step's events is joined to, by the sets that start at `at`.
@@ -127,10 +104,8 @@ fn joined(step: &[u8; STEP], count: usize, sets: &[u64; SETS], at: usize) -> u64
     ensures { Joined (arc_at sets.now at) (take count step.now) result }
 {
     let mut set: u64 = 0;
-    let mut i: usize = 0;
-    while i < count {
-        set = set | sets[at + wide(step[i])];
-        i += 1;
+    for t in &step[..count] {
+        set |= sets[at + usize::from(*t)];
     }
     set
 }
@@ -140,13 +115,10 @@ fn some_place(marking: &[u32; MARKING], set: u64, filled: bool) -> bool
     requires { Within32 set }
     ensures { SomePlace marking.now set filled result }
 {
-    let mut bits = set;
-    while bits != 0 {
-        let p = lowest(bits);
+    for p in members(set) {
         if (0 < marking[p]) == filled {
             return true;
         }
-        bits = bits & (bits ^ (1 << p));
     }
     false
 }
@@ -179,17 +151,17 @@ pub fn judge(
     marking: &[u32; MARKING],
     places: usize,
     line: usize,
-) -> StepAnswer
+) -> Result<(), StepRefusal>
     requires { IsStep step.now count × (places ≤ 32) × Within 32 sets.now }
     ensures { Judges step.now count sets.now marking.now places line result }
 {
     if short(step, count, sets, marking, places) {
-        return StepAnswer::Refused(StepRefusal::TooFewTokens(line));
+        return Err(StepRefusal::TooFewTokens(line));
     }
     if some_place(marking, joined(step, count, sets, GUARDS), true) {
-        return StepAnswer::Refused(StepRefusal::Inhibited(line));
+        return Err(StepRefusal::Inhibited(line));
     }
-    StepAnswer::Goes
+    Ok(())
 }
 
 // The marking after a step that is enabled: what its events take is taken first, and then what they make is there.
@@ -202,23 +174,13 @@ pub fn play(step: &[u8; STEP], count: usize, sets: &[u64; SETS], marking: &mut [
     add_all(step, count, sets, MADE, marking, 0);
 }
 
-// A token count of a net as one of a marking.
-fn wide_count(k: u16) -> u32
-    ensures { result ≡ k }
-{
-    k as u32
-}
-
 // The token counts of a net, put into an array from `at` on.
 pub fn put_tokens(tokens: &[u16; TOKENS], counts: &mut [u32], at: usize)
     requires { at + marking_long ≤ length counts.old }
     ensures { MappedFrom counts.old at marking_long (λ p. get_or tokens.now p 0)
         counts.new }
 {
-    let mut p: usize = 0;
-    while p < TOKENS {
-        let i = at + p;
-        counts[i] = wide_count(tokens[p]);
-        p += 1;
+    for (p, k) in tokens.iter().enumerate() {
+        counts[at + p] = u32::from(*k);
     }
 }

@@ -1,13 +1,13 @@
 // The program on each of the files that its arguments name; what is printed of a file stands behind its name.
 #![tactic(auto)]
 
-use answering::{INPUT_BYTES, Outcome, answer};
+use answering::{INPUT_BYTES, answer};
 use pti::PROGRAM_BYTES;
 use std::env::{Env, FillError};
 use std::process::ExitCode;
 use std::rt::Files;
 use std::{fs, io};
-use streams::{Output, write_all};
+use streams::write_all;
 
 // The longest name, in bytes.
 const NAME_BYTES: usize = 4096;
@@ -16,19 +16,12 @@ const NAME_BYTES: usize = 4096;
 fn run_file(rt: &(impl Files + Print), name: &str) -> io::Result<()> {
     let mut file = fs::open(rt, name)?;
     let mut to = io::writer(rt);
-    if let Output::Failed(e) = write_all(&mut to, name.as_bytes()) {
-        return Err(e);
-    }
-    if let Output::Failed(e) = write_all(&mut to, b"\n") {
-        return Err(e);
-    }
+    write_all(&mut to, name.as_bytes())?;
+    write_all(&mut to, b"\n")?;
     let mut input = [0u8; INPUT_BYTES];
     let mut out = [0u8; PROGRAM_BYTES];
-    match answer(&mut file, &mut to, &mut input, &mut out) {
-        Outcome::Printed(_, _) => Ok(()),
-        Outcome::Unwritten(_, _, e) => Err(e),
-        Outcome::Unread(e) => Err(e),
-    }
+    answer(&mut file, &mut to, &mut input, &mut out)?;
+    Ok(())
 }
 
 // A file that cannot be read, or whose answer cannot be written, is said on standard error. Was all of it written?

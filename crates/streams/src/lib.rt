@@ -6,24 +6,10 @@ ghost use Rattle.std.specs.Prelude.{◌≡◌, ◌≢◌, ◌+◌, ◌≤◌, �
 ghost use Rattle.std.specs.IoError.{error_kind};
 ghost use Rattle.std.specs.Io.{ReadsAtMost, WritesAtMost};
 ghost use Rattle.std.specs.Io.KnownBytes.{Appends, Consumes, IsAtEnd, Keeps};
-ghost use Rattle.streams.specs.Streams.{Within, Took, Whole, Gave, IsInputLasting, IsOutputLasting};
+ghost use Rattle.streams.specs.Streams.{Within, Took, Whole, Gave};
 
 use std::io;
 use std::io::{ErrorKind, Read, Write};
-
-// How many bytes were read, or why a read failed.
-#[derive(Clone, Copy)]
-pub enum Input {
-    Read(usize),
-    Failed(io::Error),
-}
-
-// How many bytes were written, or why a write failed.
-#[derive(Clone, Copy)]
-pub enum Output {
-    Written(usize),
-    Failed(io::Error),
-}
 
 // One read, made again where a signal interrupts it. A proved loop has to end, so the turns are counted up to a number
 // that no run uses up.
@@ -62,27 +48,26 @@ fn read_some<R: Read>(from: &mut R, buf: &mut [u8], at: usize) -> io::Result<usi
     read_once(from, &mut buf[at..])
 }
 
-// Reads until the input ends or the buffer is full.
-pub fn read_all<R: Read>(from: &mut R, buf: &mut [u8]) -> Input
+// Reads until the input ends or the buffer is full; the answer is how many bytes were read.
+pub fn read_all<R: Read>(from: &mut R, buf: &mut [u8]) -> io::Result<usize>
     ensures within { Within (length buf.new) result }
     ensures took { Took (R.remaining from.old) (R.remaining from.new) buf.new result }
-    ensures retried { IsInputLasting result }
+    ensures retried { IfErr result (λ e. error_kind e ≢ ErrorKind.Interrupted) }
 {
-    let mut at: usize = 0;
-    while at < buf.len() {
-        let more = match read_some(from, buf, at) {
-            Ok(more) => more,
-            Err(e) => return Input::Failed(e),
-        };
+    let mut read = 0;
+    // A while: the place moves by what a read gave, which no range or iterator says.
+    while read < buf.len() {
+        let more = read_some(from, buf, read)?;
         if more == 0 {
-            return Input::Read(at);
+            break;
         }
-        at += more;
+        read += more;
     }
-    Input::Read(at)
+    Ok(read)
 }
 
-// One write, made again where a signal interrupts it.
+// One write, made again where a signal interrupts it. It is not one function with `read_once` over what is called: a
+// closure that changes the writer that it captures would have to say in its contract all that these two say in theirs.
 fn write_once<W: Write>(to: &mut W, buf: &[u8]) -> io::Result<usize>
     ensures bound { WritesAtMost result buf.now }
     ensures ok { IfOk result (λ n. Appends (W.contents to.old) (W.contents to.new) (take n buf.now)) }
@@ -113,24 +98,23 @@ fn write_some<W: Write>(to: &mut W, buf: &[u8], at: usize) -> io::Result<usize>
     write_once(to, &buf[at..])
 }
 
-// Writes every byte once.
-pub fn write_all<W: Write>(to: &mut W, buf: &[u8]) -> Output
+// Writes every byte once; the answer is how many there were. `Write::write_all` says nothing of what a writer has where a
+// write fails.
+pub fn write_all<W: Write>(to: &mut W, buf: &[u8]) -> io::Result<usize>
     ensures whole { Whole (length buf.now) result }
     ensures gave { Gave (W.contents to.old) (W.contents to.new) buf.now result }
-    ensures retried { IsOutputLasting result }
+    ensures retried { IfErr result (λ e. error_kind e ≢ ErrorKind.Interrupted) }
 {
-    let mut at: usize = 0;
-    while at < buf.len() {
-        let more = match write_some(to, buf, at) {
-            Ok(more) => more,
-            Err(e) => return Output::Failed(e),
-        };
+    let mut written = 0;
+    // A while: the place moves by what a write took, which no range or iterator says.
+    while written < buf.len() {
+        let more = write_some(to, buf, written)?;
         if more == 0 {
-            return Output::Failed(ErrorKind::WriteZero.into());
+            return Err(ErrorKind::WriteZero.into());
         }
-        at += more;
+        written += more;
     }
-    Output::Written(at)
+    Ok(written)
 }
 
 #[cfg(test)]
@@ -204,10 +188,10 @@ mod tests {
     fn reads_all_or_as_much_as_fits(rt: HostRuntime) {
         let mut from = slow_file(b"a net", 100);
         let mut buf = [7u8; 8];
-        assert!(rt; matches!(read_all(&mut from, &mut buf), Input::Read(5)));
+        assert!(rt; matches!(read_all(&mut from, &mut buf), Ok(5)));
         assert!(rt; buf == *b"a net\x07\x07\x07");
         let mut from = slow_file(b"a net and a log", 100);
-        assert!(rt; matches!(read_all(&mut from, &mut buf), Input::Read(8)));
+        assert!(rt; matches!(read_all(&mut from, &mut buf), Ok(8)));
         assert!(rt; buf == *b"a net an");
         assert!(rt; from.unread == b"d a log".as_slice());
     }
@@ -217,23 +201,23 @@ mod tests {
         let mut from = slow_file(b"a net and a log", 4);
         let mut buf = [7u8; 32];
         match read_all(&mut from, &mut buf) {
-            Input::Read(_) => panic!(rt; "no failure"),
-            Input::Failed(e) => assert_eq!(rt; e.kind(), ErrorKind::ConnectionReset),
+            Ok(_) => panic!(rt; "no failure"),
+            Err(e) => assert_eq!(rt; e.kind(), ErrorKind::ConnectionReset),
         }
     }
 
     #[test]
     fn writes_all_or_says_that_a_write_failed(rt: HostRuntime) {
         let mut to = slow_file(b"", 100);
-        assert!(rt; matches!(write_all(&mut to, b"E,0\nE,1\n"), Output::Written(8)));
+        assert!(rt; matches!(write_all(&mut to, b"E,0\nE,1\n"), Ok(8)));
         assert!(rt; to.kept == *b"E,0\nE,1\n");
         match write_all(&mut to, b"E") {
-            Output::Written(_) => panic!(rt; "written where there is no room"),
-            Output::Failed(e) => assert_eq!(rt; e.kind(), ErrorKind::WriteZero),
+            Ok(_) => panic!(rt; "written where there is no room"),
+            Err(e) => assert_eq!(rt; e.kind(), ErrorKind::WriteZero),
         }
         match write_all(&mut slow_file(b"", 2), b"E,0\nE,1\n") {
-            Output::Written(_) => panic!(rt; "no failure"),
-            Output::Failed(e) => assert_eq!(rt; e.kind(), ErrorKind::ConnectionReset),
+            Ok(_) => panic!(rt; "no failure"),
+            Err(e) => assert_eq!(rt; e.kind(), ErrorKind::ConnectionReset),
         }
     }
 }

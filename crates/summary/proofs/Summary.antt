@@ -4,6 +4,7 @@ use Prim.Native.Nat.{ℕ, ◌+◌, ◌≤◌}
 use native.Mathlib.Omega.{arith}
 use mathlib.Core.List.{List, [], ◌∷◌}
 use lib.ListN.{length}
+use Rattle.std.proofs.Common.{Option}
 use Rattle.spec.specs.Answer.{gives}
 use Rattle.spec.specs.Net.{read_net}
 use Rattle.spec.specs.Text.{line_with}
@@ -45,7 +46,7 @@ module _ (net text : List ℕ) where
 
 -- ---- a record that is held by bytes
 
-module _ {s : Counts} {rec words t : List ℕ} {g : ℕ} (K : Noted s rec words) (O : Ordered K.run t g) where
+module _ {s : Counts} {rec words t : List ℕ} {g : Option ℕ} (K : Noted s rec words) (O : Ordered K.run t g) where
   pub noted-order : Ready s.events t × Order s.events (cell_of t)
   noted-order = (subst (λ (n : ℕ). Ready n t) (sym K.held.bytes.events) O.order.ready, order-held K.net K.run K.held.well_formed K.process s.events t K.held.bytes.events O.order)
 

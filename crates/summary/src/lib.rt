@@ -43,5 +43,5 @@ pub fn put_counts(s: Counts, rec: &[u8], marks: &[u64], out: &mut [u8], n: usize
         Field::Number(independent_pairs(&w, events)),
         Field::Number(lines_of(&w, events)),
     ];
-    put_line(out, n, b'Z', fields, 4)
+    put_line(out, n, b'Z', &fields)
 }

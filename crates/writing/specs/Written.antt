@@ -1,5 +1,5 @@
 -- What a write leaves behind.
-use Rattle.std.specs.Prelude.{◌≡◌, ℕ, ◌+◌, ◌/◌, ◌%◌, ◌≤◌, List, [], ◌∷◌, ◌++◌, length, set}
+use Rattle.std.specs.Prelude.{◌≡◌, ℕ, ◌+◌, ◌/◌, ◌%◌, List, [], ◌∷◌, ◌++◌, length, set}
 use Rattle.spec.specs.Text.{fields_bytes}
 use Rattle.spec.specs.declared.Field.{Field}
 
@@ -20,12 +20,3 @@ last_two n = (48 + n / 10 % 10) ∷ (48 + n % 10) ∷ []
 -- the line with this letter, as its byte, and these fields
 abbrev pub line_bytes : ℕ → List Field → List ℕ
 line_bytes b fs = b ∷ fields_bytes fs ++ 10 ∷ []
-
--- the fields that a line is passed in
-abbrev pub fields_long : ℕ
-fields_long = 4
-
--- so many of the fields passed are to be written, and their bytes have room in the buffer from a position on
-abbrev pub FieldsFit : ℕ → List Field → ℕ → List ℕ → List ℕ → Type 0
-FieldsFit count fields at bytes out =
-    (count ≤ fields_long) × (length fields ≡ fields_long) × (at + length bytes ≤ length out)

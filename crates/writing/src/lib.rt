@@ -1,15 +1,12 @@
 // Writing texts: bytes, numbers, fields and lines, each from a position on; the answer is the next position.
 #![tactic(auto)]
 
-ghost use Rattle.std.specs.Prelude.{◌+◌, ◌<◌, ◌≤◌, ◌∷◌, [], length, take};
+ghost use Rattle.std.specs.Prelude.{◌+◌, ◌<◌, ◌≤◌, ◌∷◌, [], length};
 ghost use Rattle.spec.specs.Text.{digits, field_bytes, fields_bytes};
 ghost use Rattle.spec.specs.declared.Field.TheVariants.{Number};
-ghost use Rattle.writing.specs.Written.{Wrote, last_two, line_bytes, FieldsFit};
+ghost use Rattle.writing.specs.Written.{Wrote, last_two, line_bytes};
 
 use spec::Field;
-
-// The fields that a line is passed in.
-pub const FIELDS: usize = 4;
 
 pub fn put_byte(out: &mut [u8], at: usize, b: u8) -> usize
     requires { at < length out.old }
@@ -77,33 +74,24 @@ pub fn put_field(out: &mut [u8], at: usize, f: Field) -> usize
     put_value(out, next, f)
 }
 
-// The first `count` of the fields, each behind a comma.
-fn put_fields(out: &mut [u8], at: usize, fields: [Field; FIELDS], count: usize) -> usize
-    requires { FieldsFit count fields at (fields_bytes (take count fields)) out.old }
-    ensures { Wrote out.old at (fields_bytes (take count fields)) result out.new }
+// The fields, each behind a comma.
+fn put_fields(out: &mut [u8], at: usize, fields: &[Field]) -> usize
+    requires { at + length (fields_bytes fields.now) ≤ length out.old }
+    ensures { Wrote out.old at (fields_bytes fields.now) result out.new }
 {
     let mut next = at;
-    let mut i: usize = 0;
-    while i < count {
-        let f = fields[i];
-        next = put_field(out, next, f);
-        i += 1;
+    for f in fields {
+        next = put_field(out, next, *f);
     }
     next
 }
 
-// A line: the letter, the first `count` of the fields, and byte 10.
-pub fn put_line(
-    out: &mut [u8],
-    at: usize,
-    letter: u8,
-    fields: [Field; FIELDS],
-    count: usize,
-) -> usize
-    requires { FieldsFit count fields at (line_bytes letter (take count fields)) out.old }
-    ensures { Wrote out.old at (line_bytes letter (take count fields)) result out.new }
+// A line: the letter, the fields, and byte 10.
+pub fn put_line(out: &mut [u8], at: usize, letter: u8, fields: &[Field]) -> usize
+    requires { at + length (line_bytes letter fields.now) ≤ length out.old }
+    ensures { Wrote out.old at (line_bytes letter fields.now) result out.new }
 {
     let first = put_byte(out, at, letter);
-    let end = put_fields(out, first, fields, count);
-    put_byte(out, end, 10)
+    let end = put_fields(out, first, fields);
+    put_byte(out, end, b'\n')
 }

@@ -4,37 +4,26 @@ use Rattle.lines.specs.Agree.{giving, refusing}
 use Rattle.accepting.proofs.Judging.{broken-35, broken-36, broken-37, broken-38, broken-39, none-broken}
 use Rattle.accepting.proofs.judge.Goals as goal
 
-pub wrong_initial-p-requires : goal.wrong_initial-p-requires
-wrong_initial-p-requires c = (c.requires.0.places, c.requires.1)
+pub returns-in-Some : goal.returns-in-Some
+returns-in-Some c = (refl, λ N R h u. refusing 35 _ (broken-35 N R (c.in-Some.ensures _ N R refl refl h)) refl)
 
-pub returns-then-p-places : goal.returns-then-p-places
-returns-then-p-places c = (refl, λ N R h u. refusing 35 _ (broken-35 _ _ _ N R h (c.wrong_initial-p.ensures _ N R refl refl h) c.if-p-places.true) refl)
+pub returns-in-Some-wrong_arcs : goal.returns-in-Some-wrong_arcs
+returns-in-Some-wrong_arcs c = (refl, λ N R h u. refusing 36 _ (broken-36 N R (c.in_default.ensures _ N R refl refl h) (c.in-Some-wrong_arcs.ensures _ N R refl refl refl h)) refl)
 
-pub wrong_arcs-d-requires : goal.wrong_arcs-d-requires
-wrong_arcs-d-requires c = (c.requires.0.places, c.requires.1)
+pub returns-in-Some-wrong_marks : goal.returns-in-Some-wrong_marks
+returns-in-Some-wrong_marks c =
+    (refl, λ N R h u. refusing 37 _ (broken-37 N R (c.in_default.ensures _ N R refl refl h) (c.in_default-wrong_arcs.ensures _ N R refl refl refl h) (c.in-Some-wrong_marks.ensures _ N R refl refl refl refl h u)) refl)
 
-pub returns-then-d-s : goal.returns-then-d-s
-returns-then-d-s c = (refl, λ N R h u. refusing 36 _ (broken-36 _ _ _ N R h (c.wrong_initial-p.ensures _ N R refl refl h) c.if-p-places.false (c.wrong_arcs-d.ensures _ N R refl refl refl h) c.if-d-s.true) refl)
+pub returns-in-Some-wrong_kind : goal.returns-in-Some-wrong_kind
+returns-in-Some-wrong_kind c =
+    (refl, λ N R h u. refusing 38 _ (broken-38 N R (c.in_default.ensures _ N R refl refl h) (c.in_default-wrong_arcs.ensures _ N R refl refl refl h) (c.in_default-wrong_marks.ensures _ N R refl refl refl refl h u) (c.in-Some-wrong_kind.ensures _ N R h u)) refl)
 
-pub wrong_marks-e-requires : goal.wrong_marks-e-requires
-wrong_marks-e-requires c = (c.requires.0.places, c.requires.0.transitions, c.requires.1, c.requires.2.room)
-
-pub returns-then-e-s : goal.returns-then-e-s
-returns-then-e-s c = (refl, λ N R h u. refusing 37 _ (broken-37 _ _ _ N R h (c.wrong_initial-p.ensures _ N R refl refl h) c.if-p-places.false (c.wrong_arcs-d.ensures _ N R refl refl refl h) c.if-d-s.false (c.wrong_marks-e.ensures _ N R refl refl refl refl h u) c.if-e-s.true) refl)
-
-pub wrong_kind-f-requires : goal.wrong_kind-f-requires
-wrong_kind-f-requires c = (c.requires.1, c.requires.2.room)
-
-pub returns-then-f-s : goal.returns-then-f-s
-returns-then-f-s c = (refl, λ N R h u. refusing 38 _ (broken-38 _ _ _ N R h (c.wrong_initial-p.ensures _ N R refl refl h) c.if-p-places.false (c.wrong_arcs-d.ensures _ N R refl refl refl h) c.if-d-s.false (c.wrong_marks-e.ensures _ N R refl refl refl refl h u) c.if-e-s.false (c.wrong_kind-f.ensures _ N R h u) c.if-f-s.true) refl)
-
-pub order-g-requires : goal.order-g-requires
-order-g-requires c = (c.requires.1, c.requires.2, c.requires.3)
-
-pub returns-then-g-s : goal.returns-then-g-s
-returns-then-g-s c = let o = c.order-g.ensures in
-    (o.0, λ N R h u. refusing 39 _ (broken-39 _ _ _ N R h (c.wrong_initial-p.ensures _ N R refl refl h) c.if-p-places.false (c.wrong_arcs-d.ensures _ N R refl refl refl h) c.if-d-s.false (c.wrong_marks-e.ensures _ N R refl refl refl refl h u) c.if-e-s.false (c.wrong_kind-f.ensures _ N R h u) c.if-f-s.false (o.1 _ N R h u).lowest c.if-g-s.true) refl)
+pub returns-in-Some-order : goal.returns-in-Some-order
+returns-in-Some-order c =
+    let o = c.in-Some-order.ensures in
+    (o.0, λ N R h u. refusing 39 _ (broken-39 N R (c.in_default.ensures _ N R refl refl h) (c.in_default-wrong_arcs.ensures _ N R refl refl refl h) (c.in_default-wrong_marks.ensures _ N R refl refl refl refl h u) (c.in_default-wrong_kind.ensures _ N R h u) (o.1 _ N R h u).lowest) refl)
 
 pub returns : goal.returns
-returns c = let o = c.order-g.ensures in
-    (o.0, λ N R h u. giving tt (none-broken _ _ _ N R h (c.wrong_initial-p.ensures _ N R refl refl h) c.if-p-places.false (c.wrong_arcs-d.ensures _ N R refl refl refl h) c.if-d-s.false (c.wrong_marks-e.ensures _ N R refl refl refl refl h u) c.if-e-s.false (c.wrong_kind-f.ensures _ N R h u) c.if-f-s.false (o.1 _ N R h u).lowest c.if-g-s.false) refl (o.1 _ N R h u).order)
+returns c =
+    let o = c.in_default-order.ensures in
+    (o.0, λ N R h u. giving tt (none-broken N R (c.in_default.ensures _ N R refl refl h) (c.in_default-wrong_arcs.ensures _ N R refl refl refl h) (c.in_default-wrong_marks.ensures _ N R refl refl refl refl h u) (c.in_default-wrong_kind.ensures _ N R h u) (o.1 _ N R h u).lowest) refl (o.1 _ N R h u).order)

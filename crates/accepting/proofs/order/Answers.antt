@@ -4,17 +4,11 @@ use Rattle.row_pairs.proofs.Raising.{filled}
 use Rattle.accepting.proofs.RecordOrder.{marks-raised, ordered}
 use Rattle.accepting.proofs.order.Goals as goal
 
-pub raise_marks-requires : goal.raise_marks-requires
-raise_marks-requires c = (c.requires.0.conditions, c.requires.0.long, c.requires.1.room, c.requires.1.sub, c.requires.2.long, c.requires.2.good)
-
 pub raise_conditions-requires : goal.raise_conditions-requires
 raise_conditions-requires c = let x = c.raise_marks.ensures in (c.requires.0.conditions, c.requires.0.long, x.long ∙ c.requires.2.long, x.good c.requires.2.good)
 
 pub close-requires : goal.close-requires
 close-requires c = let x = c.raise_marks.ensures in let y = c.raise_conditions.ensures in (c.requires.0.events, y.long ∙ x.long ∙ c.requires.2.long, y.good (x.good c.requires.2.good))
-
-pub first_loop-requires : goal.first_loop-requires
-first_loop-requires c = (c.requires.0.events, c.close.ensures.1.good)
 
 pub returns : goal.returns
 returns c = let k = c.close.ensures in

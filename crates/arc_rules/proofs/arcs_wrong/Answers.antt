@@ -13,10 +13,10 @@ unfolding any_arc_wrong
 starts counts e arcs t end = any-start (arc_wrong counts e arcs t) end
 
 pub loop-p-init : goal.loop-p-init
-loop-p-init c = (omega arith, starts _ _ _ _ _)
+loop-p-init c = starts _ _ _ _ _
 
 pub loop-p-preserved : goal.loop-p-preserved
-loop-p-preserved c = (omega arith, any-turn _ _ _ c.loop-p.wrong _ c.loop-p-test.true (arc-said _ _ _ _ _ _ c.requires.3 (omega arith)) ∙ c.loop-p.invariant.1)
+loop-p-preserved c = any-turn _ _ _ c.loop-p.wrong _ c.loop-p-test.true (arc-said _ _ _ _ _ _ c.requires.3 (omega arith)) ∙ c.loop-p.invariant
 
 pub returns : goal.returns
-returns c = all-turned _ _ _ c.loop-p.wrong c.loop-p-test.false ∙ c.loop-p.invariant.1
+returns c = all-turned _ _ _ c.loop-p.wrong c.loop-p-test.false ∙ c.loop-p.invariant

@@ -1,63 +1,18 @@
-use Prim.Native.Nat.{◌<◌}
-use native.Mathlib.Omega.{arith}
-use mathlib.Core.Path.{◌∙◌}
-use Rattle.lists.specs.Search.{lowest_start, first_on}
-use Rattle.lists.specs.Lowest.{lowest-hit, lowest-end}
-use Rattle.arc_rules.proofs.Arcs.{arcs-said, arcs-lowest}
+-- `arc_rules::wrong_counted` meets its contract: the lowest event with wrong arcs is found, or none is. A count cut off
+-- at 255 differs from an arc, which weighs 16 at most, where the whole count does.
+use Rattle.std.proofs.Common.{◌≡◌, true, false, arith, rules, tests}
+use Rattle.std.proofs.lemmas.Iterator.{first_from_Range}
+use Rattle.lists.specs.Lowest.{lowest-found}
+use Rattle.columns.specs.Columns.{column}
+use Rattle.arc_rules.specs.Tests.{arcs_wrong}
+use Rattle.arc_rules.proofs.Arcs.{arcs-lowest}
 use Rattle.arc_rules.proofs.wrong_counted.Goals as goal
-use Rattle.arc_rules.proofs.wrong_counted.Goals.{After-wide-t}
-
-pub tally-requires : goal.tally-requires
-tally-requires c =
-    let s = c.requires.1 in (record { few = s.conditions; long = s.long; linked = s.consumers }, omega arith, c.requires.2)
-
-pub tally-requires-2 : goal.tally-requires-2
-tally-requires-2 c =
-    let s = c.requires.1 in (record { few = s.conditions; long = s.long; linked = s.producers }, omega arith, c.requires.3)
-
-pub loop-e-init : goal.loop-e-init
-loop-e-init c = (omega arith, lowest_start _ _)
-
-pub bounds-rec-e : goal.bounds-rec-e
-bounds-rec-e c =
-    let s = c.requires.1 in
-    omega (arith, s.events, s.long, c.loop-e-test.true)
-
--- the transition of an event is a row of the array of arcs
-known-transition : (c : After-wide-t) → c.wide-t.result < 32
-known-transition c =
-    omega (arith, c.wide-t.ensures.0, c.requires.1.transition c.loop-e.e c.loop-e-test.true)
-
-pub arcs_wrong-requires : goal.arcs_wrong-requires
-arcs_wrong-requires c = (
-  omega (arith, c.tally.ensures.1.room, c.loop-e-test.true),
-  omega (arith, c.requires.1.events, c.loop-e-test.true),
-  omega arith,
-  known-transition (goal.at.arcs_wrong-requires c).After-wide-t,
-  c.requires.0,
-)
-
-pub arcs_wrong-requires-in-loop-e : goal.arcs_wrong-requires-in-loop-e
-arcs_wrong-requires-in-loop-e c = (
-  omega (arith, c.tally-2.ensures.1.room, c.loop-e-test.true),
-  omega (arith, c.requires.1.events, c.loop-e-test.true),
-  omega arith,
-  known-transition (goal.at.arcs_wrong-requires-in-loop-e c).After-wide-t,
-  c.requires.0,
-)
-
-pub returns-then-arcs_wrong : goal.returns-then-arcs_wrong
-returns-then-arcs_wrong c net N R ep ei eo h =
-    let wrong = arcs-said _ _ _ _ _ _ _ _ _ _ c.wide-t.ensures.0 c.arcs_wrong.ensures c.arcs_wrong-in-loop-e.ensures in
-    arcs-lowest net _ _ N R h _ _ c.tally.ensures.1 c.tally-2.ensures.1 _
-    (rw (ep, ei, eo) (lowest-hit _ _ _ c.loop-e.invariant.1 c.loop-e-test.true (wrong ∙ c.if-arcs_wrong.true)))
-
-pub loop-e-preserved : goal.loop-e-preserved
-loop-e-preserved c =
-    let wrong = arcs-said _ _ _ _ _ _ _ _ _ _ c.wide-t.ensures.0 c.arcs_wrong.ensures c.arcs_wrong-in-loop-e.ensures in
-    (omega arith, first_on _ _ _ c.loop-e-test.true (wrong ∙ c.if-arcs_wrong.false) ∙ c.loop-e.invariant.1)
 
 pub returns : goal.returns
+unfolding arcs_wrong
 returns c net N R ep ei eo h =
+    let q = arcs_wrong c.args.rec.now c.tally.new.t (column 0 1024 c.args.arcs.now) c.tally-2.new.t (column 1024 1024 c.args.arcs.now) c.args.places in
     arcs-lowest net _ _ N R h _ _ c.tally.ensures.1 c.tally-2.ensures.1 _
-    (rw (ep, ei, eo) (lowest-end _ _ _ c.loop-e.invariant.1 c.loop-e.invariant.0 c.loop-e-test.false))
+    (rw (ep, ei, eo)
+    (lowest-found q _ _
+    (first_from_Range _ _ _ _ (λ e. q e ≡ true) (λ e. q e ≡ false) c.find.ensures.ran (λ e f k. grind (arith, tests)) (λ e f k. (search rules, grind (arith, tests))))))

@@ -1,21 +1,16 @@
-use native.Mathlib.Omega.{arith}
-use mathlib.Core.Path.{◌∙◌}
-use Rattle.lists.specs.Search.{lowest_start, first_on}
-use Rattle.lists.specs.Lowest.{lowest-hit, lowest-end}
-use Rattle.arc_rules.proofs.Arcs.{initial-lowest, initial-yes, initial-no}
+-- `arc_rules::wrong_initial` meets its contract: the lowest place that is wrong is found, or none is.
+use Rattle.std.proofs.Common.{◌≡◌, true, false, arith, rules, tests}
+use Rattle.std.proofs.lemmas.Iterator.{first_from_Range}
+use Rattle.lists.specs.Lowest.{lowest-found}
+use Rattle.arc_rules.specs.Tests.{initial_wrong}
+use Rattle.arc_rules.proofs.Arcs.{initial-lowest}
 use Rattle.arc_rules.proofs.wrong_initial.Goals as goal
 
-pub initial-found-requires : goal.initial-found-requires
-initial-found-requires c = let s = c.requires.1 in record { few = s.conditions; long = s.long; linked = s.producers }
-
-pub loop-p-init : goal.loop-p-init
-loop-p-init c = (omega arith, lowest_start _ _)
-
-pub returns-then-found-p : goal.returns-then-found-p
-returns-then-found-p c net N R ep et h = initial-lowest net _ _ N R h _ _ c.initial-found.ensures (rw (ep, et) (lowest-hit _ _ _ c.loop-p.invariant.1 c.loop-p-test.true (initial-yes _ _ _ c.if-found-p.true)))
-
-pub loop-p-preserved : goal.loop-p-preserved
-loop-p-preserved c = (omega arith, first_on _ _ _ c.loop-p-test.true (initial-no _ _ _ c.if-found-p.false) ∙ c.loop-p.invariant.1)
-
 pub returns : goal.returns
-returns c net N R ep et h = initial-lowest net _ _ N R h _ _ c.initial-found.ensures (rw (ep, et) (lowest-end _ _ _ c.loop-p.invariant.1 c.loop-p.invariant.0 c.loop-p-test.false))
+unfolding initial_wrong
+returns c net N R ep et h =
+    let q = initial_wrong c.args.tokens.now c.initial-found.result in
+    initial-lowest net _ _ N R h _ _ c.initial-found.ensures
+    (rw (ep, et)
+    (lowest-found q _ _
+    (first_from_Range _ _ _ _ (λ p. q p ≡ true) (λ p. q p ≡ false) c.find.ensures.ran (λ p f k. grind (arith, tests)) (λ p f k. (search rules, grind (arith, tests))))))

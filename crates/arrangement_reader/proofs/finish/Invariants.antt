@@ -1,11 +1,7 @@
 -- `arrangement_reader::finish` meets its contract. The loop's invariant: the lowest event from e on that has no line is
 -- the lowest of all.
-use Prim.Native.Nat.{◌-◌, ◌≤◌}
 use Rattle.arrangement_reader.proofs.Finishing.{MissingFrom}
 use Rattle.arrangement_reader.proofs.finish.Given as goal
 
 abbrev pub invariant-loop-e : goal.invariant-loop-e
-invariant-loop-e l = (l.e ≤ l.n) × MissingFrom l.stands l.n l.e
-
-abbrev pub decreases-loop-e : goal.decreases-loop-e
-decreases-loop-e l = l.n - l.e
+invariant-loop-e l = MissingFrom l.stands l.n l.e

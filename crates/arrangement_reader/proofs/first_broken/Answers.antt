@@ -1,42 +1,39 @@
-use Prim.Native.Nat.{◌≤◌}
-use native.Mathlib.Omega.{arith}
-use Rattle.arrangement_reader.proofs.Lateness.{behind-all, behind-before, behind-none, lines-most, line-ends}
+use Rattle.std.proofs.Common.{◌≡◌, ◌+◌, ◌-◌, arith, cond, Some}
+use Rattle.arrangement_reader.specs.Lined.{EventsIn}
+use Rattle.arrangement_reader.proofs.Lateness.{Behind, behind-all, behind_more, behind-none, lines-most, line-ends, part-events}
 use Rattle.arrangement_reader.proofs.first_broken.Goals as goal
-use Rattle.arrangement_reader.proofs.first_broken.Goals.{At-loop-k}
-
-pub behind_lacking-late-requires : goal.behind_lacking-late-requires
-behind_lacking-late-requires c = (c.requires.0, lines-most c.requires.2.taken c.requires.0)
+use Rattle.arrangement_reader.proofs.first_broken.Goals.{After-from-to, After-union-late}
 
 pub loop-k-init : goal.loop-k-init
-loop-k-init c = (omega arith, behind-all c.requires.0 c.behind_lacking-late.ensures)
-
--- there are no more lines than events
-few-lines : (c : At-loop-k) → c.args.lines ≤ 128
-few-lines c = lines-most c.requires.2.taken c.requires.0
-
-pub overflow_add-k : goal.overflow_add-k
-overflow_add-k c = omega (arith, few-lines (goal.at.overflow_add-k c).At-loop-k)
-
-pub bounds-lined-k : goal.bounds-lined-k
-bounds-lined-k c = omega (arith, few-lines (goal.at.bounds-lined-k c).At-loop-k)
-
-pub overflow_add-k-in-loop-k : goal.overflow_add-k-in-loop-k
-overflow_add-k-in-loop-k c = omega (arith, few-lines (goal.at.overflow_add-k-in-loop-k c).At-loop-k)
+loop-k-init c = behind-all c.requires.0 c.behind_lacking-late.ensures
 
 pub bounds-lined-k-in-loop-k : goal.bounds-lined-k-in-loop-k
-bounds-lined-k-in-loop-k c = omega (arith, few-lines (goal.at.bounds-lined-k-in-loop-k c).At-loop-k)
+bounds-lined-k-in-loop-k c = omega (arith, lines-most c.requires.2.taken c.requires.0)
+
+-- where the line starts and ends
+ends : (c : After-from-to) → EventsIn c.args.lined.now c.from-from.result c.from-to.result
+ends c = line-ends c.requires.2.taken c.requires.0 (omega arith) c.from-from.ensures c.from-to.ensures
+
+pub slice_bounds-group_of-count : goal.slice_bounds-group_of-count
+slice_bounds-group_of-count c = (ends (goal.at.slice_bounds-group_of-count c).After-from-to).order
+
+pub slice_bounds-group_of-start : goal.slice_bounds-group_of-start
+slice_bounds-group_of-start c = let e = ends (goal.at.slice_bounds-group_of-start c).After-from-to in omega (arith, e.order, e.most, e.long)
 
 pub group_of-g-requires : goal.group_of-g-requires
-group_of-g-requires c =
-    line-ends c.requires.2.taken c.requires.0 c.loop-k-test.true c.loop-k.invariant.0 c.wide-from.ensures.0 c.wide-to.ensures.0
+group_of-g-requires c = part-events (ends (goal.at.group_of-g-requires c).After-from-to)
+
+-- with this line
+with_line : (c : After-union-late) → Behind c.args.n c.args.lines c.args.w.now c.args.stands.now c.args.lined.now (c.loop-k.k - 1) (cond c.meets-breaks.result (Some (c.loop-k.k - 1 + 1)) c.loop-k.broken) c.union-late.result
+with_line c =
+    let z : c.loop-k.k - 1 + 1 ≡ c.loop-k.k = omega arith in
+    behind_more (c.loop-k.k - 1) c.requires.0 c.requires.1 (omega arith) c.from-from.ensures c.from-to.ensures c.group_of-g.ensures c.union.ensures c.meets-breaks.ensures c.union-late.ensures (rw z c.loop-k.invariant)
+
+pub loop-k-preserved-then-breaks : goal.loop-k-preserved-then-breaks
+loop-k-preserved-then-breaks c = rw c.if-breaks.true at (with_line (goal.at.loop-k-preserved-then-breaks c).After-union-late)
 
 pub loop-k-preserved : goal.loop-k-preserved
-loop-k-preserved c = (
-  omega arith,
-  behind-before c.requires.0 c.requires.1 c.loop-k-test.true c.loop-k.invariant.0 c.wide-from.ensures.0 c.wide-to.ensures.0
-      c.group_of-g.ensures c.union.ensures c.meets.ensures c.choose-r.ensures c.union-late.ensures
-      c.loop-k.invariant.1,
-)
+loop-k-preserved c = rw c.if-breaks.false at (with_line (goal.at.loop-k-preserved c).After-union-late)
 
 pub returns : goal.returns
-returns c = behind-none c.loop-k-test.false c.loop-k.invariant.1
+returns c = let z : c.loop-k.k ≡ 0 = omega arith in behind-none (rw z at c.loop-k.invariant)

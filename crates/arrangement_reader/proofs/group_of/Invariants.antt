@@ -1,12 +1,7 @@
--- `arrangement_reader::group_of` meets its contract. The loop's invariant: the sets are those of the events that stand
--- before place i.
-use Prim.Native.Nat.{◌-◌, ◌≤◌}
-use lib.ListN.{take, drop}
+-- `arrangement_reader::group_of` meets its contract. The loop's invariant: the sets are those of the events passed.
+use Rattle.std.proofs.Common.{take}
 use Rattle.arrangement_reader.specs.Lined.{Grouped}
 use Rattle.arrangement_reader.proofs.group_of.Given as goal
 
-abbrev pub invariant-loop-i : goal.invariant-loop-i
-invariant-loop-i l = (l.from ≤ l.i) × (l.i ≤ l.to) × Grouped l.w (take (l.i - l.from) (drop l.from l.lined)) (record { line = l.line; path = l.path; strict = l.strict })
-
-abbrev pub decreases-loop-i : goal.decreases-loop-i
-decreases-loop-i l = l.to - l.i
+abbrev pub invariant-loop-event : goal.invariant-loop-event
+invariant-loop-event l = Grouped l.w (take l.event-index l.events) (record { line = l.line; path = l.path; strict = l.strict })

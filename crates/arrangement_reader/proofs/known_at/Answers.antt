@@ -9,32 +9,27 @@ use Rattle.arrangement_reader.proofs.known_at.Goals.{then-at-c+else-at-f, else-a
 
 pub list_at-f-requires : goal.list_at-f-requires
 list_at-f-requires c =
-    (c.requires.0, letter-group, ahead_of c.requires.2 _ c.if-at-c.true, c.requires.4)
+    (letter-group, ahead_of c.requires.1 _ c.if-at-c.true, c.requires.3)
 
 pub returns-then-n-f : goal.returns-then-n-f
 returns-then-n-f c =
-    rw c.line_known.ensures
-    (plain-unknown c.list_at-f.ensures c.if-at-f.true _ _ c.if-n-f.true)
+    plain-unknown c.list_at-f.ensures c.if-at-f.true _ _ c.if-n-f.true
 
 pub returns-then-at-f : goal.returns-then-at-f
 returns-then-at-f c =
-    rw c.line_known-then-at-f.ensures
-    (plain-kept c.list_at-f.ensures c.if-at-f.true _ _ c.if-n-f.false)
-
-pub line_at-line-requires : goal.line_at-line-requires
-line_at-line-requires c = (c.requires.0, c.requires.1)
+    plain-kept c.list_at-f.ensures c.if-at-f.true _ _ c.if-n-f.false
 
 -- the array is as long as it was, whether a list line was looked for or not
 as_long : (c : Joined-at-c) → length c.if-at-c.events ≡ 128
 as_long c =
     elim c.if-at-c.branch [
       | then-at-c+else-at-f w ↦ ap length w.events-is ∙ w.list_at-f.ensures.long
-      | else-at-c w ↦ ap length w.events-is ∙ c.requires.4
+      | else-at-c w ↦ ap length w.events-is ∙ c.requires.3
     ]
 
 pub known_line-requires : goal.known_line-requires
 known_line-requires c =
-    (c.requires.0, c.requires.3, as_long (goal.at.known_line-requires c).Joined-at-c)
+    (c.requires.2, as_long (goal.at.known_line-requires c).Joined-at-c)
 
 pub returns : goal.returns
 returns c = line-known-at c.line_at-line.ensures c.known_line.ensures

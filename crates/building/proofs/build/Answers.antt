@@ -6,5 +6,5 @@ use lib.ListN.{length-replicate}
 use Rattle.lists.specs.Arrays.{blank}
 use Rattle.building.proofs.build.Goals as goal
 
-pub build_into-built-requires : goal.build_into-built-requires
-build_into-built-requires c = (omega (arith, length-replicate {A = ℕ} 1664 0), blank 1)
+pub build_into-requires : goal.build_into-requires
+build_into-requires c = (omega (arith, length-replicate {A = ℕ} 1664 0), blank 1)

@@ -7,7 +7,7 @@ use Rattle.condition_sets.proofs.enter_places.Goals as goal
 use Rattle.condition_sets.proofs.enter_places.Goals.{In-loop-c}
 
 pub loop-c-init : goal.loop-c-init
-loop-c-init c = (omega arith, placed-none _ c.requires.zero, c.requires.sets-long)
+loop-c-init c = (placed-none _ c.requires.zero, c.requires.sets-long)
 
 -- the place of a condition is one of the net's
 low-place : (c : In-loop-c) → get_or c.args.rec.now (128 + c.loop-c.c) 0 < 32
@@ -36,11 +36,10 @@ bounds-places-i-in-loop-c c = omega (arith, low-place (goal.at.bounds-places-i-i
 
 pub loop-c-preserved : goal.loop-c-preserved
 loop-c-preserved c = (
-  omega arith,
-  placed-more c.args.rec.now c.loop-c.places c.loop-c.c _ (omega (arith, c.requires.few)) (low-place (goal.at.loop-c-preserved c).In-loop-c) c.loop-c.invariant.2
-      refl c.loop-c.invariant.1,
-  simp length-set c.loop-c.invariant.2,
+  placed-more c.args.rec.now c.loop-c.places c.loop-c.c _ (omega (arith, c.requires.few)) (low-place (goal.at.loop-c-preserved c).In-loop-c) c.loop-c.invariant.1
+      refl c.loop-c.invariant.0,
+  simp length-set c.loop-c.invariant.1,
 )
 
 pub returns : goal.returns
-returns c = placed_end _ (omega arith) c.loop-c.invariant.1
+returns c = placed_end _ (omega arith) c.loop-c.invariant.0

@@ -1,5 +1,4 @@
 -- The tokens of the events up to the next are made.
-use Prim.Native.Nat.{◌-◌, ◌≤◌}
 use mathlib.Core.List.{map}
 use lib.ListN.{take}
 use Rattle.arc_sets.specs.Sets.{arc_at}
@@ -9,7 +8,4 @@ use Rattle.conditions.specs.Conditions.{MadeAt}
 use Rattle.conditions.proofs.make_step.Given as goal
 
 abbrev pub invariant-loop-i : goal.invariant-loop-i
-invariant-loop-i l = (l.i ≤ l.count) × MadeAt (map made_of (flows (arc_at l.sets 32) 64 l.e (take l.i l.step))) l.initial.r l.initial.rec l.r l.rec
-
-abbrev pub decreases-loop-i : goal.decreases-loop-i
-decreases-loop-i l = l.count - l.i
+invariant-loop-i l = MadeAt (map made_of (flows (arc_at l.sets 32) 64 l.e (take l.i l.step))) l.initial.r l.initial.rec l.r l.rec

@@ -1,25 +1,10 @@
-use mathlib.Core.Path.{refl, sym, ◌∙◌}
+-- `fields::all_numbers` meets its contract: `all` asks each of the fields that are left.
+use Rattle.std.proofs.Common.{rules, tests, refl}
+use Rattle.std.proofs.lemmas.Iterator.Consumers.{YieldsList-from_first}
+use Rattle.std.proofs.lemmas.Iterator.Search.{all_from_yields_List}
 use Rattle.line_forms.specs.Rows.{a_number}
-use Rattle.lists.specs.Along.{every-next, every-fails, every-none}
-use Rattle.fields.proofs.Fields.{fields-none}
+use Rattle.fields.specs.Left.{fields_left}
 use Rattle.fields.proofs.all_numbers.Goals as goal
 
-pub loop-i-init : goal.loop-i-init
-loop-i-init c = (c.requires.0, c.requires.1, c.requires.2, refl)
-
-pub field_at-f-requires : goal.field_at-f-requires
-field_at-f-requires c = let w = c.loop-i.invariant in (w.0, w.1, c.loop-i-test.true)
-
-pub returns-then-not-a_number : goal.returns-then-not-a_number
-returns-then-not-a_number c =
-    let n = sym c.a_number.ensures ∙ c.if-not-a_number.true in
-    sym (every-fails a_number c.field_at-f.ensures.fields n) ∙ c.loop-i.invariant.3
-
-pub loop-i-preserved : goal.loop-i-preserved
-loop-i-preserved c =
-    let w = c.loop-i.invariant in
-    let n = sym c.a_number.ensures ∙ c.if-not-a_number.false in
-    (w.0, w.1, c.field_at-f.ensures.next, every-next a_number c.field_at-f.ensures.fields n ∙ w.3)
-
 pub returns : goal.returns
-returns c = sym (every-none a_number (fields-none _ _ _ c.loop-i-test.false)) ∙ c.loop-i.invariant.3
+returns c = all_from_yields_List a_number c.all.new.self _ _ c.all.ensures.ran (YieldsList-from_first (λ f. f) fields_left _ refl) (λ x b q k. search (rules, tests))

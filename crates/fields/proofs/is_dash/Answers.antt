@@ -7,9 +7,6 @@ use Rattle.spec.specs.declared.Class.TheVariants.{Dash}
 use Rattle.fields.proofs.Pieces.{class-read}
 use Rattle.fields.proofs.is_dash.Goals as goal
 
-pub entry_of-requires : goal.entry_of-requires
-entry_of-requires c = c.requires
-
 pub returns-then-p-eq1 : goal.returns-then-p-eq1
 unfolding is_dash is_only
 returns-then-p-eq1 c =

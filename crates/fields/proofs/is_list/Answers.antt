@@ -1,30 +1,15 @@
--- `fields::is_list` meets its contract: the fields behind the letter are those of the line, so that the three tests are
--- those of `is_list`; there is a field if the first would start inside the line (`fields-left`).
-use mathlib.Core.Path.{sym, ap, ap₂, ◌∙◌}
-use mathlib.Core.Bool.{◌&&◌}
-use native.Mathlib.Omega.{arith}
-use lib.Dec.{leb}
-use lib.ListN.{length}
-use Rattle.spec.specs.Lists.{every}
-use Rattle.line_forms.specs.Rows.{a_number, is_list}
-use Rattle.spec.specs.Classes.{alike}
-use Rattle.fields.proofs.Fields.{fields-left}
+-- `fields::is_list` meets its contract: the three tests that it joins are those of `list_told`.
+use Rattle.std.proofs.Common.{arith}
+use Rattle.std.proofs.lemmas.Bool.Decides.{nat_tests}
+use Rattle.fields.proofs.Laws.{list_told}
 use Rattle.fields.proofs.is_list.Goals as goal
 
-pub letter_at-a-requires : goal.letter_at-a-requires
-letter_at-a-requires c = c.requires.0
+pub returns-then-k-l : goal.returns-then-k-l
+returns-then-k-l c =
+    let e = list_told c.args.most c.args.letter c.args.l.now c.letter_at-k.result c.letter_at-k.ensures in
+    grind (arith, nat_tests)
 
-pub all_numbers-requires : goal.all_numbers-requires
-all_numbers-requires c =
-    (c.requires.0, c.requires.1, omega arith)
-
-pub returns : goal.returns
-unfolding is_list
-returns c =
-    let a = c.letter_at-a.ensures in
-    let f = a.fields c.args.most in
-    ap₂ ◌&&◌
-    (ap₂ ◌&&◌
-    (c.alike.ensures ∙ ap (λ z. alike z c.args.k) a.letter)
-    (sym (fields-left c.args.most c.args.l.now c.letter_at-a.result.next) ∙ ap (λ z. leb 1 (length z)) f))
-    (c.all_numbers.ensures ∙ ap (every a_number) f)
+pub returns-else-k-l : goal.returns-else-k-l
+returns-else-k-l c =
+    let e = list_told c.args.most c.args.letter c.args.l.now c.letter_at-k.result c.letter_at-k.ensures in
+    grind (arith, nat_tests)

@@ -4,14 +4,11 @@ use mathlib.Core.Path.{◌∙◌}
 use native.Mathlib.Omega.{arith}
 use Rattle.spec.specs.declared.Class.TheVariants.{Comma}
 use Rattle.byte_entries.proofs.Scans.{first-of-class}
-use Rattle.fields.proofs.Fields.{letter-first, fields-first}
+use Rattle.fields.proofs.Laws.{letter-first, fields-first}
 use Rattle.fields.proofs.letter_at.Goals as goal
 
 pub end_of-end-requires : goal.end_of-end-requires
-end_of-end-requires c = (c.requires, omega arith)
-
-pub letter_of-letter-requires : goal.letter_of-letter-requires
-letter_of-letter-requires c = c.requires
+end_of-end-requires c = omega arith
 
 pub returns : goal.returns
 returns c = let e = first-of-class Comma (omega arith) 0 _ _ c.end_of-end.ensures.0 in record {

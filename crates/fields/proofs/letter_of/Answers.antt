@@ -7,9 +7,6 @@ use Rattle.byte_entries.specs.Entries.{class_by}
 use Rattle.byte_entries.proofs.Classes.{class-named}
 use Rattle.fields.proofs.letter_of.Goals as goal
 
-pub entry_of-requires : goal.entry_of-requires
-entry_of-requires c = c.requires
-
 pub returns-then-p-eq1 : goal.returns-then-p-eq1
 unfolding letter_of
 returns-then-p-eq1 c =

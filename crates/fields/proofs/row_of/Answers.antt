@@ -1,33 +1,10 @@
--- `fields::row_of` meets its contract: each field is read where the one before it ended, so that the four are the first
--- four of the line (`row_made`).
-use native.Mathlib.Omega.{arith}
-use Rattle.fields.proofs.Fields.{row_made}
+-- `fields::row_of` meets its contract: each field is the first of those left, or `Absent` where none is (`first_left`), so that the
+-- four are the first four of the line (`row_made`).
+use Rattle.std.proofs.Common.{◌∙◌}
+use Rattle.fields.proofs.Laws.{first_left, row_made}
 use Rattle.fields.proofs.row_of.Goals as goal
-
-pub letter_at-k-requires : goal.letter_at-k-requires
-letter_at-k-requires c = c.requires.0
-
-pub may_field_at-a-requires : goal.may_field_at-a-requires
-may_field_at-a-requires c =
-    (c.requires.0, c.requires.1, omega arith)
-
-pub may_field_at-b-requires : goal.may_field_at-b-requires
-may_field_at-b-requires c =
-    (c.requires.0, c.requires.1, omega arith)
-
-pub may_field_at-c-requires : goal.may_field_at-c-requires
-may_field_at-c-requires c =
-    (c.requires.0, c.requires.1, omega arith)
-
-pub may_field_at-d-requires : goal.may_field_at-d-requires
-may_field_at-d-requires c =
-    (c.requires.0, c.requires.1, omega arith)
 
 pub returns : goal.returns
 returns c =
-    row_made
-    c.letter_at-k.ensures
-    c.may_field_at-a.ensures
-    c.may_field_at-b.ensures
-    c.may_field_at-c.ensures
-    c.may_field_at-d.ensures
+    row_made _ _ c.letter_at-k.ensures.letter (c.fields_from-fields.ensures ∙ c.letter_at-k.ensures.fields _) (first_left _ c.next.ensures.steps c.unwrap_or.ensures) (first_left _ c.next-2.ensures.steps c.unwrap_or-2.ensures)
+    (first_left _ c.next-3.ensures.steps c.unwrap_or-3.ensures) (first_left _ c.next-4.ensures.steps c.unwrap_or-4.ensures)

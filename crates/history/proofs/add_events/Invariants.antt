@@ -1,11 +1,8 @@
 -- The events up to the next are added.
-use Prim.Native.Nat.{◌+◌, ◌-◌, ◌≤◌}
+use Prim.Native.Nat.{◌+◌}
 use lib.ListN.{take}
 use Rattle.history.specs.HistoryColumns.{AddedAt}
 use Rattle.history.proofs.add_events.Given as goal
 
 abbrev pub invariant-loop-i : goal.invariant-loop-i
-invariant-loop-i l = (l.i ≤ l.count) × AddedAt l.k (take l.i l.step) l.n l.initial.rec l.initial.steps (l.n + l.i) l.rec l.steps
-
-abbrev pub decreases-loop-i : goal.decreases-loop-i
-decreases-loop-i l = l.count - l.i
+invariant-loop-i l = AddedAt l.k (take l.i l.step) l.n l.initial.rec l.initial.steps (l.n + l.i) l.rec l.steps

@@ -1,5 +1,5 @@
-use Prim.Native.Nat.{ℕ, ◌-◌}
-use mathlib.Core.Path.{sym, ap, ◌∙◌}
+use Prim.Native.Nat.{ℕ, ◌+◌, ◌-◌}
+use mathlib.Core.Path.{◌≡◌, sym, ap, ◌∙◌}
 use native.Mathlib.Decide.{ℕ_discrete}
 use native.Mathlib.Omega.{arith}
 use lib.ListN.{get_or}
@@ -8,31 +8,17 @@ use Rattle.spec.specs.declared.Class.TheVariants.{LineEnd}
 use Rattle.lines.proofs.Lines.{end-entry, no-end-entry}
 use Rattle.lines.proofs.ended_to.Goals as goal
 
-pub loop-r-init : goal.loop-r-init
-loop-r-init c = (c.requires, omega arith, λ i p q. absurd (omega arith))
-
-pub bounds-s-r : goal.bounds-s-r
-bounds-s-r c = omega (arith, c.loop-r.invariant.1)
-
-pub entry_of-requires : goal.entry_of-requires
-entry_of-requires c = c.loop-r.invariant.0
-
 pub returns-then-entry_of-eq-LINE_END : goal.returns-then-entry_of-eq-LINE_END
-returns-then-entry_of-eq-LINE_END c = record {
-  within = c.loop-r.invariant.1;
-  ends = λ p. end-entry _ (sym c.entry_of.ensures ∙ c.if-entry_of-eq-LINE_END.true);
-  last = c.loop-r.invariant.2;
-}
+returns-then-entry_of-eq-LINE_END c =
+    let i : c.loop-i.i - 1 + 1 ≡ c.loop-i.i = omega arith in
+    rw i (record {
+      within = omega arith;
+      ends = λ p. end-entry _ (sym c.entry_of.ensures ∙ c.if-entry_of-eq-LINE_END.true);
+      last = c.loop-i.invariant;
+    })
 
-pub loop-r-preserved : goal.loop-r-preserved
-loop-r-preserved c = (
-  c.loop-r.invariant.0,
-  omega (arith, c.loop-r.invariant.1),
-  λ i p q. elim (ℕ_discrete i (c.loop-r.r - 1)) [
-    | yes e ↦ ap (λ (j : ℕ). is_a LineEnd (get_or c.args.s.now j 0)) e ∙ no-end-entry _ (λ z. c.if-entry_of-eq-LINE_END.false (c.entry_of.ensures ∙ z))
-    | no d ↦ c.loop-r.invariant.2 i (omega arith) q
-  ],
-)
-
-pub returns : goal.returns
-returns c = record { within = omega arith; ends = λ p. absurd (omega arith); last = c.loop-r.invariant.2 }
+pub loop-i-preserved : goal.loop-i-preserved
+loop-i-preserved c = λ k p q. elim (ℕ_discrete k (c.loop-i.i - 1)) [
+  | yes e ↦ ap (λ (j : ℕ). is_a LineEnd (get_or c.args.s.now j 0)) e ∙ no-end-entry _ (λ z. c.if-entry_of-eq-LINE_END.false (c.entry_of.ensures ∙ z))
+  | no d ↦ c.loop-i.invariant k (omega arith) q
+]

@@ -1,4 +1,4 @@
--- `lines::ended_to` meets its contract. The loop's invariant: no line end stands from r on; so the first one met from the
+-- `lines::ended_to` meets its contract. The loop's invariant: no line end stands from i on; so the first one met from the
 -- end of the text is the last.
 use Prim.Native.Nat.{ℕ, ◌≤◌, ◌<◌}
 use mathlib.Core.Path.{◌≡◌}
@@ -6,11 +6,7 @@ use mathlib.Core.Bool.{false}
 use lib.ListN.{length, get_or}
 use Rattle.spec.specs.Text.{is_a}
 use Rattle.spec.specs.declared.Class.TheVariants.{LineEnd}
-use Rattle.byte_classes.specs.Table.{byte_table}
 use Rattle.lines.proofs.ended_to.Given as goal
 
-abbrev pub invariant-loop-r : goal.invariant-loop-r
-invariant-loop-r l = (l.table ≡ byte_table) × (l.r ≤ length l.s) × ((i : ℕ) → l.r ≤ i → i < length l.s → is_a LineEnd (get_or l.s i 0) ≡ false)
-
-abbrev pub decreases-loop-r : goal.decreases-loop-r
-decreases-loop-r l = l.r
+abbrev pub invariant-loop-i : goal.invariant-loop-i
+invariant-loop-i l = (k : ℕ) → l.i ≤ k → k < length l.s → is_a LineEnd (get_or l.s k 0) ≡ false

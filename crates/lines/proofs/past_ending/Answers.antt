@@ -15,20 +15,17 @@ unfolding past_by
 returns-then-entry-ne-RETURN c = sym (rw (ne_eqb _ _ c.if-entry-eq-LINE_END.false, ne_eqb _ _ c.if-entry-ne-RETURN.true))
 
 pub overflow_add-at : goal.overflow_add-at
-overflow_add-at c = omega (arith, c.requires.2)
+overflow_add-at c = omega (arith, c.requires.1)
 
 pub bounds-s-at : goal.bounds-s-at
-bounds-s-at c = c.requires.1 c.if-entry-ne-RETURN.false
-
-pub entry_of-requires : goal.entry_of-requires
-entry_of-requires c = c.requires.0
+bounds-s-at c = c.requires.0 c.if-entry-ne-RETURN.false
 
 pub returns-then-entry_of-ne-LINE_END : goal.returns-then-entry_of-ne-LINE_END
 unfolding past_by
 returns-then-entry_of-ne-LINE_END c = sym (rw (ne_eqb _ _ c.if-entry-eq-LINE_END.false, ← c.entry_of.ensures, ne_eqb _ _ c.if-entry_of-ne-LINE_END.true, and-false _))
 
 pub overflow_add-result-2 : goal.overflow_add-result-2
-overflow_add-result-2 c = omega (arith, c.requires.2)
+overflow_add-result-2 c = omega (arith, c.requires.1)
 
 pub returns : goal.returns
 unfolding past_by

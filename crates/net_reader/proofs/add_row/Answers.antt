@@ -73,4 +73,4 @@ returns-then-is_two-4 c m d = rw (no_place (goal.at.returns-then-is_two-4 c).Els
 
 pub returns : goal.returns
 unfolding add_row
-returns c m d = rw (c.refused.ensures, no_place (goal.at.returns c).Else-is_one, no-transition (goal.at.returns c).Else-is_alone, no-input (goal.at.returns c).Else-is_two, no-weighted-input (goal.at.returns c).Else-is_triple, no_output (goal.at.returns c).Else-is_two-2, no-weighted-output (goal.at.returns c).Else-is_triple-2, no-inhibitor (goal.at.returns c).Else-is_two-3, no_read (goal.at.returns c).Else-is_two-4) (refusing 11 _ refl refl)
+returns c m d = rw (no_place (goal.at.returns c).Else-is_one, no-transition (goal.at.returns c).Else-is_alone, no-input (goal.at.returns c).Else-is_two, no-weighted-input (goal.at.returns c).Else-is_triple, no_output (goal.at.returns c).Else-is_two-2, no-weighted-output (goal.at.returns c).Else-is_triple-2, no-inhibitor (goal.at.returns c).Else-is_two-3, no_read (goal.at.returns c).Else-is_two-4) (refusing 11 _ refl refl)

@@ -1,27 +1,16 @@
-use Prim.Native.Nat.{ℕ, ◌-◌}
-use mathlib.Core.Path.{◌≡◌, sym, ap, ◌∙◌}
-use mathlib.Core.List.{List}
-use native.Mathlib.Omega.{arith}
-use lib.Dec.{ltb}
-use borrow.Author.Tests.{lt-ltb, le-ltb}
-use Rattle.spec.specs.Lists.{any, from}
+-- `net_reader::any_cell` meets its contract: the chain asks the test of the definition of each place below `places`.
+use Rattle.std.proofs.Common.{rules, tests, arith, refl, ℕ, ◌+◌, ◌*◌, ◌∙◌, get_or, ltb}
+use Rattle.std.proofs.lemmas.Iterator.{YieldsList-from_range}
+use Rattle.std.proofs.lemmas.Iterator.Search.{any_from_yields_List}
+use Rattle.spec.specs.Lists.{up_to}
+use Rattle.columns.specs.Columns.{column}
+use Rattle.net.proofs.Chains.{any_is}
 use Rattle.net_reader.specs.Reads.{any_cell}
-use Rattle.lists.specs.Search.{any-start, any-hit, any-on, any-end}
 use Rattle.net_reader.proofs.any_cell.Goals as goal
-use Rattle.net_reader.proofs.any_cell.Invariants.{marked}
-
-starts : (xs : List ℕ) (t n : ℕ) → any (marked xs t) (from 0 (n - 0)) ≡ any_cell xs t n
-unfolding any_cell
-starts xs t n = any-start (marked xs t) n
-
-pub loop-p-init : goal.loop-p-init
-loop-p-init c = (omega arith, starts _ _ _)
-
-pub returns-then-arc_at-gt0 : goal.returns-then-arc_at-gt0
-returns-then-arc_at-gt0 c = sym (any-hit _ _ _ c.loop-p-test.true (ap (ltb 0) (sym c.arc_at.ensures) ∙ lt-ltb _ _ c.if-arc_at-gt0.true)) ∙ c.loop-p.invariant.1
-
-pub loop-p-preserved : goal.loop-p-preserved
-loop-p-preserved c = (omega arith, any-on _ _ _ c.loop-p-test.true (ap (ltb 0) (sym c.arc_at.ensures) ∙ le-ltb _ _ c.if-arc_at-gt0.false) ∙ c.loop-p.invariant.1)
 
 pub returns : goal.returns
-returns c = sym (any-end _ _ _ c.loop-p-test.false) ∙ c.loop-p.invariant.1
+unfolding any_cell up_to
+returns c =
+    let q = λ (p : ℕ). ltb 0 (get_or (column c.args.at 1024 c.args.arcs.now) (32 * c.args.t + p) 0) in
+    any_from_yields_List q _ _ _ c.any.ensures.ran (YieldsList-from_range 0 c.args.places c.args.places refl (omega arith)) (λ x b q k. search (rules, tests))
+    ∙ any_is q 0 c.args.places

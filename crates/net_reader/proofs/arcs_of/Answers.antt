@@ -1,15 +1,12 @@
-use Prim.Native.Nat.{ℕ}
-use mathlib.Core.Path.{refl}
+-- `net_reader::arcs_of` meets its contract: what is copied is the column.
+use Prim.Native.Nat.{ℕ, ◌+◌, ◌-◌}
+use mathlib.Core.Path.{◌≡◌, ap, ◌∙◌}
 use native.Mathlib.Omega.{arith}
-use lib.ListN.{length-replicate}
-use Rattle.lists.specs.Mapped.{mapped-none, mapped-more, mapped_end}
+use lib.ListN.{take, drop}
+use Rattle.columns.specs.Columns.{column}
 use Rattle.net_reader.proofs.arcs_of.Goals as goal
 
-pub loop-i-init : goal.loop-i-init
-loop-i-init c = (omega arith, mapped-none _ _)
-
-pub loop-i-preserved : goal.loop-i-preserved
-loop-i-preserved c = (omega arith, mapped-more _ (omega (arith, length-replicate {A = ℕ} 1024 0)) refl c.loop-i.invariant.1)
-
 pub returns : goal.returns
-returns c = mapped_end 1024 (omega arith) c.loop-i.invariant.1
+unfolding column
+returns c = let e : c.args.at + 1024 - c.args.at ≡ 1024 = omega arith in
+    c.copy_from_slice.ensures.after ∙ ap (λ (n : ℕ). take n (drop c.args.at c.args.arcs.now)) e

@@ -1,6 +1,6 @@
 -- `net_reader::finish` meets its contract. The loop's invariant: the lowest transition from t on that lacks an input or
--- an output is the lowest of all. A refused line stays the answer.
-use Prim.Native.Nat.{◌-◌, ◌≤◌}
+-- an output is the lowest of all.
+use Prim.Native.Nat.{◌-◌}
 use mathlib.Core.Path.{◌≡◌}
 use Rattle.spec.specs.Lists.{from, first, lowest}
 use Rattle.columns.specs.Columns.{column}
@@ -8,7 +8,4 @@ use Rattle.net_reader.specs.Reads.{lacks_of}
 use Rattle.net_reader.proofs.finish.Given as goal
 
 abbrev pub invariant-loop-t : goal.invariant-loop-t
-invariant-loop-t l = (l.t ≤ l.end) × (first (lacks_of (column 0 1024 l.arcs) (column 1024 1024 l.arcs) l.places) (from l.t (l.end - l.t)) ≡ lowest (lacks_of (column 0 1024 l.arcs) (column 1024 1024 l.arcs) l.places) l.end)
-
-abbrev pub decreases-loop-t : goal.decreases-loop-t
-decreases-loop-t l = l.end - l.t
+invariant-loop-t l = first (lacks_of (column 0 1024 l.arcs) (column 1024 1024 l.arcs) l.size.places) (from l.t (l.t-end - l.t)) ≡ lowest (lacks_of (column 0 1024 l.arcs) (column 1024 1024 l.arcs) l.size.places) l.t-end

@@ -1,26 +1,14 @@
-use mathlib.Core.Path.{sym, ap, ◌∙◌}
-use native.Mathlib.Omega.{arith}
-use borrow.Author.Tests.{le-leb, lt-leb}
-use lib.Dec.{leb}
-use Rattle.spec.specs.Lists.{any}
-use Rattle.lists.specs.Along.{any-first, any_next, any-nil}
-use Rattle.fields.proofs.Fields.{numbers-first, numbers-none}
+-- `number_lines::any_unknown` meets its contract: `any` asks each number of the line, in its order.
+use Rattle.std.proofs.Common.{rules, tests, leb, ◌∙◌}
+use Rattle.std.proofs.lemmas.Iterator.Consumers.{YieldsList-from_first}
+use Rattle.std.proofs.lemmas.Iterator.Search.{any_from_yields_List}
+use Rattle.line_forms.specs.Rows.{value_of, values_of}
+use Rattle.fields.specs.Left.{fields_left}
+use Rattle.number_lines.proofs.Lines.{any-values}
 use Rattle.number_lines.proofs.any_unknown.Goals as goal
 
-pub letter_at-a-requires : goal.letter_at-a-requires
-letter_at-a-requires c = c.requires
-
-pub loop-at-init : goal.loop-at-init
-loop-at-init c = (omega arith, ap (any (leb _)) (numbers-first 4 c.letter_at-a.ensures))
-
-pub number_at-v-requires : goal.number_at-v-requires
-number_at-v-requires c = (c.requires, omega arith, omega arith)
-
-pub returns-then-known-v : goal.returns-then-known-v
-returns-then-known-v c = sym (any-first (leb _) c.number_at-v.ensures.numbers (le-leb _ _ c.if-known-v.true)) ∙ c.loop-at.invariant.1
-
-pub loop-at-preserved : goal.loop-at-preserved
-loop-at-preserved c = (omega arith, any_next (leb _) c.number_at-v.ensures.numbers (lt-leb _ _ c.if-known-v.false) ∙ c.loop-at.invariant.1)
-
 pub returns : goal.returns
-returns c = sym (any-nil (leb _) (numbers-none 4 _ _ c.loop-at-test.false)) ∙ c.loop-at.invariant.1
+unfolding values_of
+returns c =
+    any_from_yields_List (λ f. leb c.args.known (value_of f)) c.any.new.self _ _ c.any.ensures.ran (YieldsList-from_first (λ f. f) fields_left _ c.fields_of.ensures) (λ x b q k. search (rules, tests))
+    ∙ any-values (leb c.args.known) _

@@ -8,10 +8,6 @@ use Rattle.lines.specs.Lines.{line_of}
 use Rattle.line_forms.proofs.Ties.{list-line}
 use Rattle.number_lines.proofs.is_step_line.Goals as goal
 
-pub is_list_line-requires : goal.is_list_line-requires
-unfolding is_step_line alike class_of named in_digits
-is_list_line-requires c = c.requires
-
 pub returns : goal.returns
 unfolding is_step_line alike class_of named in_digits
 returns c = c.is_list_line.ensures ∙ sym (list-line "S" refl (line_of _ _))

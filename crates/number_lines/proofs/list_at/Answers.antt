@@ -5,27 +5,21 @@ use Rattle.number_lines.proofs.Listing.{return-on, listed, no-list}
 use Rattle.number_lines.proofs.list_at.Goals as goal
 
 pub bounds-text-at : goal.bounds-text-at
-bounds-text-at c = here c.requires.2
-
-pub entry_of-requires : goal.entry_of-requires
-entry_of-requires c = c.requires.0
+bounds-text-at c = here c.requires.1
 
 pub returns-then-entry_of-letter : goal.returns-then-entry_of-letter
-returns-then-entry_of-letter c = no-list c.requires.3
+returns-then-entry_of-letter c = no-list c.requires.2
 
 pub overflow_add-end : goal.overflow_add-end
-overflow_add-end c = omega (arith, here c.requires.2)
+overflow_add-end c = omega (arith, here c.requires.1)
 
 pub bounds-text-end : goal.bounds-text-end
 bounds-text-end c =
-    here (letter-on c.requires.1 c.requires.2 c.entry_of.ensures c.if-entry_of-letter.false)
-
-pub entry_of-stop-requires : goal.entry_of-stop-requires
-entry_of-stop-requires c = c.requires.0
+    here (letter-on c.requires.0 c.requires.1 c.entry_of.ensures c.if-entry_of-letter.false)
 
 pub loop-stop-init : goal.loop-stop-init
 loop-stop-init c =
-    walk_start c.requires.1 c.requires.2 c.entry_of.ensures c.if-entry_of-letter.false c.requires.3 c.entry_of-stop.ensures
+    walk_start c.requires.0 c.requires.1 c.entry_of.ensures c.if-entry_of-letter.false c.requires.2 c.entry_of-stop.ensures
 
 pub overflow_add-end-in-loop-stop : goal.overflow_add-end-in-loop-stop
 overflow_add-end-in-loop-stop c = omega (arith, here c.loop-stop.invariant.ahead)
@@ -49,7 +43,7 @@ loop-stop-smaller c =
 pub loop-stop-preserved : goal.loop-stop-preserved
 loop-stop-preserved c =
     let f = c.number_from-v.ensures.number c.if-v-eq-FOREIGN.false in
-    rw c.greater-high.ensures (walk-on c.loop-stop.invariant c.loop-stop-test.true f c.put.ensures)
+    rw c.max-high.ensures (walk-on c.loop-stop.invariant c.loop-stop-test.true f c.put.ensures)
 
 pub returns-then-seen-eq0 : goal.returns-then-seen-eq0
 returns-then-seen-eq0 c = no-list c.loop-stop.invariant.kept.long
@@ -60,14 +54,14 @@ returns-then-next-end c = no-list c.loop-stop.invariant.kept.long
 pub returns : goal.returns
 returns c =
     let p = c.requires in
-    let k = letter-class p.1 p.2 c.entry_of.ensures c.if-entry_of-letter.false in
+    let k = letter-class p.0 p.1 c.entry_of.ensures c.if-entry_of-letter.false in
     listed c.loop-stop.invariant k (omega arith) c.past_ending-next.ensures c.if-next-end.false
 
 pub number_from-v-requires : goal.number_from-v-requires
 number_from-v-requires c =
-    (c.requires.0, omega arith, omega arith, comma-on c.loop-stop.invariant c.loop-stop-test.true)
+    (omega arith, omega arith, comma-on c.loop-stop.invariant c.loop-stop-test.true)
 
 pub past_ending-next-requires : goal.past_ending-next-requires
 past_ending-next-requires c =
     let w = c.loop-stop.invariant in
-    (c.requires.0, return-on w, omega (arith, here w.ahead))
+    (return-on w, omega (arith, here w.ahead))

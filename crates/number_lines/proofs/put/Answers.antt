@@ -3,8 +3,8 @@ use native.Mathlib.Omega.{arith}
 use Rattle.number_lines.proofs.Listing.{puts}
 use Rattle.number_lines.proofs.put.Goals as goal
 
-pub returns-then-i-ge-NUMBERS : goal.returns-then-i-ge-NUMBERS
-returns-then-i-ge-NUMBERS c = record { long = c.requires; put = λ h. absurd (omega arith) }
+pub returns-then-i-lt-NUMBERS : goal.returns-then-i-lt-NUMBERS
+returns-then-i-lt-NUMBERS c = puts _ _ _ c.requires
 
-pub returns : goal.returns
-returns c = puts _ _ _ c.requires
+pub returns-else-i-lt-NUMBERS : goal.returns-else-i-lt-NUMBERS
+returns-else-i-lt-NUMBERS c = record { long = c.requires; put = λ h. absurd (omega arith) }

@@ -11,30 +11,24 @@ use Rattle.plain_lines.proofs.field_from.Goals as goal
 use Rattle.plain_lines.proofs.field_from.Goals.{Then-entry_of-eq-DASH}
 
 pub bounds-s-at : goal.bounds-s-at
-bounds-s-at c = here c.requires.3
-
-pub entry_of-requires : goal.entry_of-requires
-entry_of-requires c = c.requires.0
+bounds-s-at c = here c.requires.2
 
 pub overflow_add-end : goal.overflow_add-end
-overflow_add-end c = omega (arith, here c.requires.3)
+overflow_add-end c = omega (arith, here c.requires.2)
 
 -- a dash ends no line
 behind : (c : Then-entry_of-eq-DASH) → Ahead c.args.s.now (c.args.at + 1)
-behind c = on-by c.requires.3 c.entry_of.ensures (λ z. omega (arith, c.if-entry_of-eq-DASH.true))
+behind c = on-by c.requires.2 c.entry_of.ensures (λ z. omega (arith, c.if-entry_of-eq-DASH.true))
 
 pub bounds-s-end : goal.bounds-s-end
 bounds-s-end c = here (behind (goal.at.bounds-s-end c).Then-entry_of-eq-DASH)
-
-pub entry_of-requires-then-entry_of-eq-DASH : goal.entry_of-requires-then-entry_of-eq-DASH
-entry_of-requires-then-entry_of-eq-DASH c = c.requires.0
 
 pub returns-then-entry_of-eq-DASH : goal.returns-then-entry_of-eq-DASH
 returns-then-entry_of-eq-DASH c = let a = behind (goal.at.returns-then-entry_of-eq-DASH c).Then-entry_of-eq-DASH in record {
   within = omega (arith, here a);
   field = λ d. record {
     start = omega arith;
-    field = dash-field _ (record { within = here c.requires.3; byte = dash-entry _ (sym c.entry_of.ensures ∙ c.if-entry_of-eq-DASH.true) });
+    field = dash-field _ (record { within = here c.requires.2; byte = dash-entry _ (sym c.entry_of.ensures ∙ c.if-entry_of-eq-DASH.true) });
     stops = c.entry_of-then-entry_of-eq-DASH.ensures;
     ahead = a;
   };

@@ -6,13 +6,13 @@ use Rattle.plain_lines.proofs.two_at.Goals as goal
 use Rattle.plain_lines.proofs.two_at.Goals.{Else-x-ne-COMMA}
 
 pub overflow_add-at : goal.overflow_add-at
-overflow_add-at c = omega (arith, c.requires.3.begins.within)
+overflow_add-at c = omega (arith, c.requires.2.begins.within)
 
 pub number_from-x-requires : goal.number_from-x-requires
-number_from-x-requires c = (c.requires.0, c.requires.1, c.requires.2, c.requires.3.ahead)
+number_from-x-requires c = (c.requires.0, c.requires.1, c.requires.2.ahead)
 
 pub returns-then-x-ne-COMMA : goal.returns-then-x-ne-COMMA
-returns-then-x-ne-COMMA c = stays c.requires.3.begins.within
+returns-then-x-ne-COMMA c = stays c.requires.2.begins.within
 
 -- a comma stands behind the first number
 number : (c : Else-x-ne-COMMA) → Parted c.number_from-x.ensures.number
@@ -22,16 +22,16 @@ pub overflow_add-x : goal.overflow_add-x
 overflow_add-x c = omega (arith, (number (goal.at.overflow_add-x c).Else-x-ne-COMMA).comma.within)
 
 pub number_from-y-requires : goal.number_from-y-requires
-number_from-y-requires c = (c.requires.0, c.requires.1, c.requires.2, (number (goal.at.number_from-y-requires c).Else-x-ne-COMMA).ahead)
+number_from-y-requires c = (c.requires.0, c.requires.1, (number (goal.at.number_from-y-requires c).Else-x-ne-COMMA).ahead)
 
 pub past_ending-next-requires : goal.past_ending-next-requires
-past_ending-next-requires c = let n = c.number_from-y.ensures in (c.requires.0, returns-on n.number, n.within)
+past_ending-next-requires c = let n = c.number_from-y.ensures in (returns-on n.number, n.within)
 
 pub returns-then-next-y : goal.returns-then-next-y
-returns-then-next-y c = stays c.requires.3.begins.within
+returns-then-next-y c = stays c.requires.2.begins.within
 
 pub returns : goal.returns
-returns c = let l = c.requires.3 in let n = number (goal.at.returns c).Else-x-ne-COMMA in
+returns c = let l = c.requires.2 in let n = number (goal.at.returns c).Else-x-ne-COMMA in
     let e = ended_by c.number_from-y.ensures.number c.past_ending-next.ensures c.if-next-y.false in record {
       within = e.within;
       line = λ h. plain-line l.begins l.comma (more-fields n.field.start n.field.field n.comma (last-field e.field.start e.field.field e.ending));

@@ -8,11 +8,8 @@ use Rattle.printing.proofs.program.Goals as goal
 pub returns-then-input-gt65536 : goal.returns-then-input-gt65536
 returns-then-input-gt65536 c = prints _ (too_long _ c.if-input-gt65536.true) c.put_refusal.ensures
 
-pub slice_bounds-print_run-count-in-At : goal.slice_bounds-print_run-count-in-At
-slice_bounds-print_run-count-in-At c = (parted-at _ c.part_input.ensures c.in-At.is).log
+pub returns-in-Some : goal.returns-in-Some
+returns-in-Some c = prints _ (program-parted _ c.if-input-gt65536.false (parted-at _ c.part_input.ensures c.in-Some.is)) c.print_run.ensures
 
-pub returns-in-At : goal.returns-in-At
-returns-in-At c = prints _ (program-parted _ c.if-input-gt65536.false (parted-at _ c.part_input.ensures c.in-At.is)) c.print_run.ensures
-
-pub returns-in-Nothing : goal.returns-in-Nothing
-returns-in-Nothing c = prints _ (unparted _ c.if-input-gt65536.false (parted-nowhere _ c.part_input.ensures c.in-Nothing.is)) c.put_refusal-in-Nothing.ensures
+pub returns-in-None : goal.returns-in-None
+returns-in-None c = prints _ (unparted _ c.if-input-gt65536.false (parted-nowhere _ c.part_input.ensures c.in-None.is)) c.put_refusal-in-None.ensures

@@ -1,6 +1,5 @@
 -- `printing::put_refusal` meets its contract: the line of a refusal is short enough for the buffer (`refusal-size`),
 -- and a line written from its start is what is printed (`wrote-printed`).
-use mathlib.Core.Path.{refl}
 use native.Mathlib.Omega.{arith}
 use Rattle.spec.specs.Text.{line_with}
 use Rattle.spec.specs.Printing.{printed}
@@ -10,7 +9,7 @@ use Rattle.printing.proofs.put_refusal.Goals as goal
 
 pub put_line-requires : goal.put_line-requires
 unfolding printed line_with
-put_line-requires c = (omega arith, refl, omega (arith, refusal-size c.args.number c.args.spot, c.requires))
+put_line-requires c = omega (arith, refusal-size c.args.number c.args.spot, c.requires)
 
 pub returns : goal.returns
 unfolding printed line_with

@@ -24,11 +24,8 @@ returns-then-s-at c = no_bytes c.if-s-at.true
 pub bounds-s-at : goal.bounds-s-at
 bounds-s-at c = omega (arith, c.if-s-at.false)
 
-pub entry_of-entry-requires : goal.entry_of-entry-requires
-entry_of-entry-requires c = c.requires.0
-
 pub overflow_add-second : goal.overflow_add-second
-overflow_add-second c = omega (arith, c.requires.1)
+overflow_add-second c = omega (arith, c.requires)
 
 pub returns-then-entry-s : goal.returns-then-entry-s
 returns-then-entry-s c = let e = c.entry_of-entry in let z = and-true (eqb e.result (code_of Return)) _ c.if-entry-s.true in
@@ -39,7 +36,7 @@ second : (c : Else-entry-s) → c.entry_of-entry.result ≡ code_of Return → c
 second c q = leb-false _ _ (rw (eq-eqb c.entry_of-entry.result (code_of Return) q) at c.if-entry-s.false)
 
 pub past_ending-requires : goal.past_ending-requires
-past_ending-requires c = (c.requires.0, second (goal.at.past_ending-requires c).Else-entry-s, c.requires.1)
+past_ending-requires c = (second (goal.at.past_ending-requires c).Else-entry-s, c.requires)
 
 pub returns : goal.returns
 returns c = subst (PastEnding _ _) (sym c.past_ending.ensures) (past-told _ _ c.entry_of-entry.ensures (omega (arith, c.if-s-at.false)) (second (goal.at.returns c).Else-entry-s))

@@ -7,16 +7,16 @@ use Rattle.program_input.proofs.Laws.{no_sign, sign-unended, sign-ended}
 use Rattle.program_input.proofs.parts_at.Goals as goal
 
 pub bounds-s-at : goal.bounds-s-at
-bounds-s-at c = omega (arith, c.requires.1)
+bounds-s-at c = omega (arith, c.requires)
 
 pub returns-then-s-at-ne61 : goal.returns-then-s-at-ne61
 returns-then-s-at-ne61 c = no_sign _ _ c.if-s-at-ne61.true
 
 pub overflow_add-end : goal.overflow_add-end
-overflow_add-end c = omega (arith, c.requires.1)
+overflow_add-end c = omega (arith, c.requires)
 
 pub log_from-log-requires : goal.log_from-log-requires
-log_from-log-requires c = (c.requires.0, omega (arith, c.requires.1))
+log_from-log-requires c = omega (arith, c.requires)
 
 pub returns-then-log-end : goal.returns-then-log-end
 returns-then-log-end c = sign-unended _ _ c.log_from-log.ensures (omega (arith, c.if-log-end.true))

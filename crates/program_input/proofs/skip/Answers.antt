@@ -1,20 +1,31 @@
-use native.Mathlib.Omega.{arith}
-use Rattle.byte_slices.specs.Counts.{chunk}
+use Rattle.std.proofs.Common.{sym, ap, ◌∙◌, arith}
+use Rattle.std.specs.Slice.Iter.{chunks_exact_rest, chunks_exact_size}
+use Rattle.byte_slices.specs.Counts.{count_of}
+use Rattle.byte_slices.proofs.Parts.{part_is, rest_is, part_within}
 use Rattle.program_input.proofs.Laws.{begun, leap}
 use Rattle.program_input.proofs.skip.Goals as goal
 
-pub loop-at-init : goal.loop-at-init
-loop-at-init c = begun _
+pub loop-part-init : goal.loop-part-init
+loop-part-init c =
+    let i = c.into_iter-part-iterator.ensures.into_iter_gives in
+    let p = c.chunks_exact-part-items.ensures in
+    (omega (arith, ap chunks_exact_size i ∙ p.size), tt, ap chunks_exact_size i ∙ p.size, sym (ap chunks_exact_rest i ∙ p.rest), begun _)
 
 pub overflow_add-at : goal.overflow_add-at
-overflow_add-at c = omega (arith, c.loop-at.invariant.within)
+overflow_add-at c =
+    let i = c.loop-part.invariant in
+    let s = c.in-Some.ensures.steps in
+    omega (arith, part_within c.args.s.now c.in-Some.part.now _ c.loop-part.at 128 (i.3 ∙ s.1.0) (s.1.1 ∙ i.2) i.4.within)
 
-pub loop-at-preserved : goal.loop-at-preserved
-loop-at-preserved c =
-    leap _ chunk _ c.loop-at.invariant c.loop-at-test.true (omega arith)
-
-pub returns-after-loop-at : goal.returns-after-loop-at
-returns-after-loop-at c = c.loop-at.invariant
-
-pub returns-then-count_at-gt0 : goal.returns-then-count_at-gt0
-returns-then-count_at-gt0 c = c.loop-at.invariant
+pub loop-part-preserved : goal.loop-part-preserved
+loop-part-preserved c =
+    let i = c.loop-part.invariant in
+    let s = c.in-Some.ensures.steps in
+    let text = c.args.s.now in
+    let at = c.loop-part.at in
+    let e = i.3 ∙ s.1.0 in
+    let l = s.1.1 ∙ i.2 in
+    let size = s.0 ∙ i.2 in
+    let within = part_within text c.in-Some.part.now _ at 128 e l i.4.within in
+    let count = c.count_in.ensures ∙ ap (count_of 61) (part_is text c.in-Some.part.now _ at 128 e l) in
+    (omega (arith, size), tt, size, sym (rest_is text c.in-Some.part.now _ at 128 e l), leap text 128 at i.4 within (omega (arith, count)))

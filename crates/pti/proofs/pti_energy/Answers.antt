@@ -4,4 +4,4 @@ use Rattle.spec.specs.Energy.{as_energy}
 use Rattle.pti.proofs.pti_energy.Goals as goal
 
 pub returns : goal.returns
-returns c = c.of_energy.ensures ∙ ap as_energy c.energy.ensures
+returns c = c.energies_of.ensures ∙ ap as_energy c.energy.ensures

@@ -10,6 +10,6 @@ pub returns : goal.returns
 returns c =
     let o = c.program.ensures in
     record {
-      answer = c.of_program.ensures ∙ ap (λ (n : ℕ). as_numbers (gives (n, 0, 0))) o.count;
+      answer = c.returned.ensures ∙ ap (λ (n : ℕ). as_numbers (gives (n, 0, 0))) o.count;
       buffer = o.buffer;
     }

@@ -1,8 +1,9 @@
--- `pti::pti_refused_line` meets its contract: the numbers of the answer are those of what `refused_line_answer`
--- promises.
-use mathlib.Core.Path.{ap, ◌∙◌}
+-- `pti::pti_refused_line` meets its contract: the numbers of the answer are those of what `refused_line_answer` promises.
+use Rattle.std.proofs.Common.{ap, ◌∙◌, refl}
 use Rattle.spec.specs.Values.{as_numbers}
+use Rattle.refused_lines.specs.Shown.{answer_of}
+use Rattle.pti.proofs.Answered.{by_cases}
 use Rattle.pti.proofs.pti_refused_line.Goals as goal
 
 pub returns : goal.returns
-returns c = c.of_line.ensures ∙ ap as_numbers c.refused_line_answer.ensures
+returns c = c.numbers_of.ensures ∙ ap as_numbers (by_cases answer_of _ _ _ (λ x. refl) (λ e. refl) ∙ c.refused_line_answer.ensures)

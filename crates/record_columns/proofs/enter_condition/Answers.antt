@@ -3,7 +3,6 @@
 use mathlib.Core.Path.{refl, ap, ◌∙◌}
 use native.Mathlib.Omega.{arith}
 use borrow.Author.Tests.{le-leb, lt-leb, eq-eqb, ne_eqb}
-use lib.ListN.{length-set}
 use mathlib.Core.Bool.{not}
 use Rattle.line_forms.specs.Rows.{event_of}
 use Rattle.spec.specs.Checking.{with_condition}
@@ -15,12 +14,12 @@ use Rattle.record_columns.proofs.enter_condition.Goals.{Else-not-p-b}
 
 pub returns-then-s-ne0 : goal.returns-then-s-ne0
 returns-then-s-ne0 c N words d =
-    line_refused _ c.refused.ensures (λ R h.
+    line_refused _ (λ R h.
     condition-is h.columns _ _ N _ d ∙ first _ _ _ _ _ _ _ _ (ap not (ne_eqb _ _ c.if-s-ne0.true)))
 
 pub returns-then-lim-s : goal.returns-then-lim-s
 returns-then-lim-s c N words d =
-    line_refused _ c.refused-then-lim-s.ensures (λ R h.
+    line_refused _ (λ R h.
     condition-is h.columns _ _ N _ d
     ∙ second _ _ _ _ _ _ _ _ (ap not (eq-eqb _ _ c.if-s-ne0.false)) (le-leb _ _ c.if-lim-s.true))
 
@@ -36,25 +35,19 @@ overflow_cast-rec c = omega (arith, declared (goal.at.overflow_cast-rec c).Else-
 pub overflow_cast-rec-2 : goal.overflow_cast-rec-2
 overflow_cast-rec-2 c = omega (arith, declared (goal.at.overflow_cast-rec-2 c).Else-not-p-b)
 
-pub bounds-rec-c-2 : goal.bounds-rec-c-2
-bounds-rec-c-2 c = simp length-set (omega arith)
-
 pub overflow_cast-rec-3 : goal.overflow_cast-rec-3
 overflow_cast-rec-3 c = omega (arith, declared (goal.at.overflow_cast-rec-3 c).Else-not-p-b)
 
-pub bounds-rec-c-3 : goal.bounds-rec-c-3
-bounds-rec-c-3 c = simp length-set (omega arith)
-
 pub returns-then-not-p-b : goal.returns-then-not-p-b
 returns-then-not-p-b c N words d =
-    line_refused _ c.refused-then-not-p-b.ensures (λ R h.
+    line_refused _ (λ R h.
     condition-is h.columns _ _ N _ d
     ∙ third _ _ _ _ _ _ _ _ (ap not (eq-eqb _ _ c.if-s-ne0.false)) (lt-leb _ _ c.if-lim-s.false)
     (rw (← c.event_below.ensures, ← c.event_below-2.ensures) (ap not c.if-not-p-b.true)))
 
 pub returns : goal.returns
 returns c N words d =
-    line-entered _ c.entered.ensures (with_condition _) (λ R h. (
+    line-entered _ (with_condition _) (λ R h. (
       condition-is h.columns _ _ N _ d
           ∙ through _ _ _ _ _ _ _ _ (ap not (eq-eqb _ _ c.if-s-ne0.false)) (lt-leb _ _ c.if-lim-s.false)
           (rw (← c.event_below.ensures, ← c.event_below-2.ensures) (ap not c.if-not-p-b.false)),

@@ -11,24 +11,24 @@ use Rattle.record_columns.proofs.enter_event.Goals as goal
 
 pub returns-then-s : goal.returns-then-s
 returns-then-s c N words d =
-    line_refused _ c.refused.ensures (λ R h.
+    line_refused _ (λ R h.
     event-is h.columns _ _ N _ d ∙ first _ _ _ _ _ _ _ _ c.if-s.true)
 
 pub returns-then-lim-s : goal.returns-then-lim-s
 returns-then-lim-s c N words d =
-    line_refused _ c.refused-then-lim-s.ensures (λ R h.
+    line_refused _ (λ R h.
     event-is h.columns _ _ N _ d
     ∙ second _ _ _ _ _ _ _ _ c.if-s.false (le-leb _ _ c.if-lim-s.true))
 
 pub returns-then-b-t : goal.returns-then-b-t
 returns-then-b-t c N words d =
-    line_refused _ c.refused-then-b-t.ensures (λ R h.
+    line_refused _ (λ R h.
     event-is h.columns _ _ N _ d
     ∙ third _ _ _ _ _ _ _ _ c.if-s.false (lt-leb _ _ c.if-lim-s.false) (le-leb _ _ c.if-b-t.true))
 
 pub returns : goal.returns
 returns c N words d =
-    line-entered _ c.entered.ensures (with_event _) (λ R h. (
+    line-entered _ (with_event _) (λ R h. (
       event-is h.columns _ _ N _ d
           ∙ through _ _ _ _ _ _ _ _ c.if-s.false (lt-leb _ _ c.if-lim-s.false) (lt-leb _ _ c.if-b-t.false),
       record { columns = event-stored h.columns _ (omega (arith, c.if-lim-s.false, c.requires.0.events)); marks = event-marks h.marks _ },

@@ -18,19 +18,19 @@ use Rattle.record_columns.proofs.enter_mark.Goals.{After-mark_row-row, After-rel
 
 pub returns-then-lim-s : goal.returns-then-lim-s
 returns-then-lim-s c rec =
-    line_refused _ c.refused.ensures (λ R h.
+    line_refused _ (λ R h.
     mark-is h.columns _ _ _ ∙ first _ _ _ _ _ _ _ _ (le-leb _ _ c.if-lim-s.true))
 
 pub returns-then-s-c : goal.returns-then-s-c
 returns-then-s-c c rec =
-    line_refused _ c.refused-then-s-c.ensures (λ R h.
+    line_refused _ (λ R h.
     mark-is h.columns _ _ _
     ∙ second _ _ _ _ _ _ _ _ (lt-leb _ _ c.if-lim-s.false)
     (no-condition c.args.c c.args.s.conditions c.args.e c.args.s.events c.if-s-c.true))
 
 pub returns-then-s-e : goal.returns-then-s-e
 returns-then-s-e c rec =
-    line_refused _ c.refused-then-s-e.ensures (λ R h.
+    line_refused _ (λ R h.
     mark-is h.columns _ _ _
     ∙ second _ _ _ _ _ _ _ _ (lt-leb _ _ c.if-lim-s.false)
     (no-event c.args.c c.args.s.conditions c.args.e c.args.s.events c.if-s-e.true))
@@ -53,7 +53,7 @@ found-is c = rw (row_is c.before) at c.related.ensures
 
 pub returns-then-related : goal.returns-then-related
 returns-then-related c rec =
-    line_refused _ c.refused-then-related.ensures (λ R h.
+    line_refused _ (λ R h.
     mark-is h.columns _ _ _
     ∙ third _ _ _ _ _ _ _ _ (lt-leb _ _ c.if-lim-s.false) (both-declared _ _ _ _ c.if-s-c.false c.if-s-e.false)
     (mark-read h.marks _ _ _ (slot-few _) ∙ sym (found-is (goal.at.returns-then-related c).After-related) ∙ c.if-related.true))
@@ -64,7 +64,7 @@ raise-requires c =
 
 pub returns : goal.returns
 returns c rec =
-    line-entered _ c.entered.ensures (with_mark _) (λ R h. (
+    line-entered _ (with_mark _) (λ R h. (
       mark-is h.columns _ _ _
           ∙ through _ _ _ _ _ _ _ _ (lt-leb _ _ c.if-lim-s.false) (both-declared _ _ _ _ c.if-s-c.false c.if-s-e.false)
           (mark-read h.marks _ _ _ (slot-few _) ∙ sym (found-is (goal.at.returns c).After-related) ∙ c.if-related.false),

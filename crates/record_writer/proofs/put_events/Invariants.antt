@@ -1,11 +1,7 @@
--- `record_writer::put_events` meets its contract. The loop's invariant: the lines of the events below e are written.
-use Prim.Native.Nat.{◌-◌, ◌≤◌}
+-- The lines of the events up to the next are written.
 use Rattle.writing.specs.Written.{Wrote}
 use Rattle.record_writer.specs.Bytes.{event_lines}
 use Rattle.record_writer.proofs.put_events.Given as goal
 
-abbrev pub invariant-loop-e : goal.invariant-loop-e
-invariant-loop-e l = (l.e ≤ l.n) × Wrote l.initial.out l.at (event_lines l.rec l.e) l.next l.out
-
-abbrev pub decreases-loop-e : goal.decreases-loop-e
-decreases-loop-e l = l.n - l.e
+abbrev pub invariant-loop-t : goal.invariant-loop-t
+invariant-loop-t l = Wrote l.initial.out l.at (event_lines l.rec l.t-index) l.next l.out

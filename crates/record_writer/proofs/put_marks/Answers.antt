@@ -18,7 +18,6 @@ enter_places-requires c =
 
 pub loop-e-init : goal.loop-e-init
 loop-e-init c = (
-  omega arith,
   ready-none (length-replicate {A = ℕ} 32 0) (length-replicate {A = ℕ} 256 0) (blank 256) (blank 32),
   λ h. passed_none _ _ _ _ (length-replicate {A = ℕ} 32 0) (blank 32),
   marks-none c.args.arcs.now c.args.rec.now c.args.steps.now c.args.s.conditions _ _ _,
@@ -40,7 +39,7 @@ in-places sets W i h p = W i p h
 
 pub ready-requires : goal.ready-requires
 ready-requires c =
-    (low-row (goal.at.ready-requires c).In-loop-e, in-places c.args.arcs.now c.requires.1 _ (omega (arith, low-row (goal.at.ready-requires c).In-loop-e)), c.loop-e.invariant.1)
+    (low-row (goal.at.ready-requires c).In-loop-e, in-places c.args.arcs.now c.requires.1 _ (omega (arith, low-row (goal.at.ready-requires c).In-loop-e)), c.loop-e.invariant.0)
 
 pub overflow_add-t : goal.overflow_add-t
 overflow_add-t c = omega (arith, low-row (goal.at.overflow_add-t c).In-loop-e)
@@ -54,33 +53,23 @@ bounds-arcs-t c = omega (arith, low-row (goal.at.bounds-arcs-t c).In-loop-e)
 pub reads_of-reads-requires : goal.reads_of-reads-requires
 reads_of-reads-requires c = (
   in-places c.args.arcs.now c.requires.1 _ (omega (arith, low-row (goal.at.reads_of-reads-requires c).In-loop-e)),
-  record { event = omega (arith, c.requires.0.events, c.loop-e-test.true); few = c.requires.0.conditions; long = c.requires.0.long; coded = c.requires.0.coded },
-  c.loop-e.invariant.2 c.loop-e-test.true,
+  c.loop-e.invariant.1 c.loop-e-test.true,
 )
 
 pub put_row-next-requires : goal.put_row-next-requires
 put_row-next-requires c = (
-  omega (arith, c.requires.0.events, c.loop-e-test.true),
-  c.requires.0.long,
   low-row (goal.at.put_row-next-requires c).In-loop-e,
   λ d h b. c.requires.0.coded.consumer d (watched-low c.args.arcs.now c.loop-e.e c.enter_places.ensures c.requires.0.conditions c.requires.0.place c.ready.ensures.1 c.reads_of-reads.ensures.0 (λ p. low-place _ p (in-places c.args.arcs.now c.requires.1 _ (omega (arith, low-row (goal.at.put_row-next-requires c).In-loop-e)))) d h b),
-  marks-room c.args.arcs.now c.args.rec.now c.args.steps.now c.args.s.conditions c.loop-e.e c.loop-e-test.true (row-notes c.args.arcs.now c.loop-e.e c.enter_places.ensures c.requires.0.conditions c.requires.0.place c.ready.ensures.1 c.reads_of-reads.ensures.0 (λ p. low-place _ p (in-places c.args.arcs.now c.requires.1 _ (omega (arith, low-row (goal.at.put_row-next-requires c).In-loop-e))))) c.loop-e.invariant.3 c.requires.2,
+  marks-room c.args.arcs.now c.args.rec.now c.args.steps.now c.args.s.conditions c.loop-e.e c.loop-e-test.true (row-notes c.args.arcs.now c.loop-e.e c.enter_places.ensures c.requires.0.conditions c.requires.0.place c.ready.ensures.1 c.reads_of-reads.ensures.0 (λ p. low-place _ p (in-places c.args.arcs.now c.requires.1 _ (omega (arith, low-row (goal.at.put_row-next-requires c).In-loop-e))))) c.loop-e.invariant.2 c.requires.2,
 )
-
-pub overflow_add-e : goal.overflow_add-e
-overflow_add-e c = omega (arith, c.requires.0.events, c.loop-e-test.true)
-
-pub loop-e-smaller : goal.loop-e-smaller
-loop-e-smaller c = omega (arith, c.loop-e-test.true)
 
 pub loop-e-preserved : goal.loop-e-preserved
 loop-e-preserved c = (
-  omega (arith, c.loop-e-test.true),
   c.ready.ensures.0,
   λ h. passed_later (c.requires.0.ascend c.loop-e.e _ (omega arith) h) c.reads_of-reads.ensures.1,
-  marks-next c.args.arcs.now c.args.rec.now c.args.steps.now c.args.s.conditions c.loop-e.e (row-notes c.args.arcs.now c.loop-e.e c.enter_places.ensures c.requires.0.conditions c.requires.0.place c.ready.ensures.1 c.reads_of-reads.ensures.0 (λ p. low-place _ p (in-places c.args.arcs.now c.requires.1 _ (omega (arith, low-row (goal.at.loop-e-preserved c).In-loop-e))))) c.loop-e.invariant.3 c.put_row-next.ensures,
+  marks-next c.args.arcs.now c.args.rec.now c.args.steps.now c.args.s.conditions c.loop-e.e (row-notes c.args.arcs.now c.loop-e.e c.enter_places.ensures c.requires.0.conditions c.requires.0.place c.ready.ensures.1 c.reads_of-reads.ensures.0 (λ p. low-place _ p (in-places c.args.arcs.now c.requires.1 _ (omega (arith, low-row (goal.at.loop-e-preserved c).In-loop-e))))) c.loop-e.invariant.2 c.put_row-next.ensures,
 )
 
 pub returns : goal.returns
 returns c =
-    marks-end c.args.arcs.now c.args.rec.now c.args.steps.now c.args.s.conditions (omega (arith, c.loop-e-test.false, c.loop-e.invariant.0)) c.loop-e.invariant.3
+    marks-end c.args.arcs.now c.args.rec.now c.args.steps.now c.args.s.conditions (omega (arith, c.loop-e-test.false)) c.loop-e.invariant.2

@@ -4,37 +4,33 @@ use Rattle.record_writer.proofs.Marks.{row-none, row_room, row-consumer, row_nex
 use Rattle.record_writer.proofs.put_row.Goals as goal
 
 pub overflow_cast-t : goal.overflow_cast-t
-overflow_cast-t c = omega (arith, c.requires.2)
+overflow_cast-t c = omega (arith, c.requires.0)
 
 pub loop-w-init : goal.loop-w-init
-loop-w-init c = (omega arith, row-none _ _ _ _ _ _ _ _ _)
+loop-w-init c = row-none _ _ _ _ _ _ _ _ _
 
 pub overflow_mul-part : goal.overflow_mul-part
-overflow_mul-part c = omega (arith, c.requires.2)
+overflow_mul-part c = omega (arith, c.requires.0)
 
 pub overflow_add-part : goal.overflow_add-part
-overflow_add-part c = omega (arith, c.requires.2)
+overflow_add-part c = omega (arith, c.requires.0)
 
 pub offset_bounds-watched-t : goal.offset_bounds-watched-t
-offset_bounds-watched-t c = omega (arith, c.requires.2)
+offset_bounds-watched-t c = omega (arith, c.requires.0)
 
 pub bounds-watched-t : goal.bounds-watched-t
-bounds-watched-t c = omega (arith, c.requires.2)
+bounds-watched-t c = omega (arith, c.requires.0)
 
 pub put_part-next-requires : goal.put_part-next-requires
 put_part-next-requires c = (
-  c.requires.0,
   omega arith,
-  c.requires.1,
-  row-consumer c.args.watched.now c.args.reads.now c.args.rec.now c.args.steps.now c.args.turn.event (get_or c.args.rec.now c.args.turn.event 0) c.loop-w.w (omega arith) c.requires.3,
-  row_room c.args.watched.now c.args.reads.now c.args.rec.now c.args.steps.now c.args.turn.event (get_or c.args.rec.now c.args.turn.event 0) c.loop-w.w (omega arith) c.loop-w.invariant.1 c.requires.4,
+  row-consumer c.args.watched.now c.args.reads.now c.args.m.now.rec.now c.args.m.now.steps.now c.args.m.now.event (get_or c.args.m.now.rec.now c.args.m.now.event 0) c.loop-w.w (omega arith) c.requires.1,
+  row_room c.args.watched.now c.args.reads.now c.args.m.now.rec.now c.args.m.now.steps.now c.args.m.now.event (get_or c.args.m.now.rec.now c.args.m.now.event 0) c.loop-w.w (omega arith) c.loop-w.invariant c.requires.2,
 )
 
 pub loop-w-preserved : goal.loop-w-preserved
-loop-w-preserved c = (
-  omega arith,
-  row_next c.args.watched.now c.args.reads.now c.args.rec.now c.args.steps.now c.args.turn.event (get_or c.args.rec.now c.args.turn.event 0) c.loop-w.w (omega arith) c.loop-w.invariant.1 c.put_part-next.ensures,
-)
+loop-w-preserved c =
+    row_next c.args.watched.now c.args.reads.now c.args.m.now.rec.now c.args.m.now.steps.now c.args.m.now.event (get_or c.args.m.now.rec.now c.args.m.now.event 0) c.loop-w.w (omega arith) c.loop-w.invariant c.put_part-next.ensures
 
 pub returns : goal.returns
-returns c = let v = c.loop-w.invariant in row-end _ _ _ _ _ _ (omega arith) v.1
+returns c = row-end _ _ _ _ _ _ (omega arith) c.loop-w.invariant

@@ -4,11 +4,11 @@ use native.Mathlib.Omega.{arith}
 use Rattle.refused_lines.proofs.Laws.{chosen-net, chosen-second, none-chosen, found_in}
 use Rattle.refused_lines.proofs.find.Goals as goal
 
-pub returns-then-choice-eq0 : goal.returns-then-choice-eq0
-returns-then-choice-eq0 c = let q = c.if-choice-eq0.true in found_in _ _ _ _ _ _ (omega arith) (chosen-net _ _ _ q) c.find_line.ensures
+pub returns-in-0 : goal.returns-in-0
+returns-in-0 c = found_in _ _ _ _ _ _ (omega arith) (chosen-net _ _ _ c.in-0.is) c.find_line.ensures
 
-pub returns-then-choice-eq1 : goal.returns-then-choice-eq1
-returns-then-choice-eq1 c = let q = c.if-choice-eq1.true in found_in _ _ _ _ _ _ (omega arith) (chosen-second _ _ _ q) c.find_line-then-choice-eq1.ensures
+pub returns-in-1 : goal.returns-in-1
+returns-in-1 c = found_in _ _ _ _ _ _ (omega arith) (chosen-second _ _ _ c.in-1.is) c.find_line-in-1.ensures
 
-pub returns : goal.returns
-returns c = none-chosen _ _ _ _ (omega (arith, c.if-choice-eq0.false, c.if-choice-eq1.false))
+pub returns-in_default : goal.returns-in_default
+returns-in_default c = none-chosen _ _ _ _ (omega arith)

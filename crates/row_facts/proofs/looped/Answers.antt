@@ -4,4 +4,4 @@ use Rattle.row_facts.proofs.looped.Goals as goal
 
 pub returns : goal.returns
 returns c =
-    looped_is _ _ c.row_at-r.result _ c.requires.1 c.requires.0 c.row_at-r.ensures c.holds.ensures
+    looped_is _ _ c.row_at.result _ c.requires.1 c.requires.0 c.row_at.ensures c.holds.ensures

@@ -1,6 +1,6 @@
 -- `row_independence::synchronous_pairs` meets its contract. The loop's invariant: the pairs of the events below e are
 -- counted, each at its higher event, and those of them that are on loops are sorted by their rows.
-use Prim.Native.Nat.{◌-◌, ◌*◌, ◌≤◌}
+use Prim.Native.Nat.{◌*◌, ◌≤◌}
 use mathlib.Core.Path.{◌≡◌}
 use Rattle.reach.specs.Rows.{cell_of}
 use Rattle.row_independence.specs.Pairs.{synchronous_pairs}
@@ -9,7 +9,4 @@ use Rattle.row_independence.proofs.synchronous_pairs.Given as goal
 
 abbrev pub invariant-loop-e : goal.invariant-loop-e
 invariant-loop-e l =
-    (l.e ≤ l.n) × (l.pairs ≤ 128 * l.e) × (l.pairs ≡ synchronous_pairs l.e (cell_of l.w)) × ByRows l.n (cell_of l.w) l.e l.sets
-
-abbrev pub decreases-loop-e : goal.decreases-loop-e
-decreases-loop-e l = l.n - l.e
+    (l.pairs ≤ 128 * l.e) × (l.pairs ≡ synchronous_pairs l.e (cell_of l.w)) × ByRows l.n (cell_of l.w) l.e l.sets

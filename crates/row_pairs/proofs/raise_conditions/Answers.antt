@@ -4,20 +4,15 @@ use Rattle.row_pairs.proofs.Raising.{overall-none, overall-more, overall-end, co
 use Rattle.row_pairs.proofs.raise_conditions.Goals as goal
 
 pub loop-c-init : goal.loop-c-init
-loop-c-init c = (omega arith, refl, overall-none _ _)
+loop-c-init c = overall-none _ _
 
 pub raise_pair-requires : goal.raise_pair-requires
 raise_pair-requires c =
-    (omega (arith, c.requires.2), c.loop-c.invariant.2.good c.requires.3)
+    (omega (arith, c.loop-c.invariant.long, c.requires.2), c.loop-c.invariant.good c.requires.3)
 
 pub loop-c-preserved : goal.loop-c-preserved
 loop-c-preserved c =
-    let v = c.loop-c.invariant in (
-      omega arith,
-      omega (arith, c.raise_pair.ensures.long),
-      overall-more _ v.2
-          (condition-raised _ _ c.wide.ensures.0 c.wide-in-loop-c.ensures.0 c.raise_pair.ensures),
-    )
+    overall-more _ c.loop-c.invariant (condition-raised _ _ refl refl c.raise_pair.ensures)
 
 pub returns : goal.returns
-returns c = overall-end _ _ (omega arith) c.loop-c.invariant.2
+returns c = overall-end _ _ (omega arith) c.loop-c.invariant

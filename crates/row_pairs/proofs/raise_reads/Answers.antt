@@ -1,7 +1,6 @@
--- `row_pairs::raise_reads` meets its contract: in the second row of a condition the path set has the events of its marks R;
--- where it is empty there is no such mark.
+-- `row_pairs::raise_reads` meets its contract: in the second row of a condition the path set has the events of its marks R.
 use native.Mathlib.Omega.{arith}
-use Rattle.row_pairs.proofs.Raising.{reads_none, reads-raised}
+use Rattle.row_pairs.proofs.Raising.{reads-raised}
 use Rattle.row_pairs.proofs.raise_reads.Goals as goal
 
 pub mark_row-requires : goal.mark_row-requires
@@ -10,18 +9,8 @@ mark_row-requires c = (c.requires.0, omega arith)
 pub row_in-row-requires : goal.row_in-row-requires
 row_in-row-requires c = omega (arith, c.mark_row.ensures, c.requires.2)
 
-pub returns-then-is_none : goal.returns-then-is_none
-returns-then-is_none c =
-    reads_none _ _ _ c.row_in-row.ensures c.requires.3 c.mark_row.ensures _ (c.is_none.ensures c.if-is_none.true)
-
-pub raise_afters-requires : goal.raise_afters-requires
-raise_afters-requires c = (c.requires.4, c.requires.5)
-
-pub raise_befores-requires : goal.raise_befores-requires
-raise_befores-requires c =
-    (omega (arith, c.requires.4, c.raise_afters.ensures.long), c.raise_afters.ensures.good c.requires.5)
+pub raise_sides-requires : goal.raise_sides-requires
+raise_sides-requires c = (c.requires.4, c.requires.5)
 
 pub returns : goal.returns
-returns c =
-    reads-raised _ _ _ c.row_in-row.ensures c.requires.3 c.mark_row.ensures
-    c.wide.ensures.0 c.wide-2.ensures.0 c.raise_afters.ensures c.raise_befores.ensures
+returns c = reads-raised _ _ _ c.row_in-row.ensures c.requires.3 c.mark_row.ensures c.raise_sides.ensures

@@ -7,7 +7,7 @@ use Rattle.row_table.proofs.Laws.{octets}
 use Rattle.row_table.proofs.put_word.Goals as goal
 
 pub loop-j-init : goal.loop-j-init
-loop-j-init c = (omega arith, refl, run_none _ _ _)
+loop-j-init c = run_none _ _ _
 
 pub put_eight-requires : goal.put_eight-requires
 put_eight-requires c = (
@@ -17,7 +17,7 @@ put_eight-requires c = (
 )
 
 pub loop-j-preserved : goal.loop-j-preserved
-loop-j-preserved c = let r = c.put_eight.ensures in (omega arith, omega (arith, r.long, c.loop-j.invariant.1), octets _ _ _ _ _ _ _ c.loop-j.invariant.2 r)
+loop-j-preserved c = octets _ _ _ _ _ _ _ c.loop-j.invariant c.put_eight.ensures
 
 pub returns : goal.returns
-returns c = run-same (omega arith) (λ i l. refl) c.loop-j.invariant.2
+returns c = run-same (omega arith) (λ i l. refl) c.loop-j.invariant

@@ -15,7 +15,7 @@ use Rattle.step_lines.proofs.read_step.Goals.{then-at-c+else-at-plain, else-at-c
 
 pub list_at-plain-requires : goal.list_at-plain-requires
 list_at-plain-requires c =
-    (c.requires.0, letter-step, ahead_of c.requires.2 _ c.if-at-c.true, c.requires.3.long)
+    (letter-step, ahead_of c.requires.1 _ c.if-at-c.true, c.requires.2.long)
 
 pub returns-then-x-plain : goal.returns-then-x-plain
 returns-then-x-plain c =
@@ -23,7 +23,7 @@ returns-then-x-plain c =
     let r = c.list_at-plain.ensures in
     let l = r.line c.if-at-plain.true in
     let u = sym (l.high x.transitions) ∙ le-leb _ _ c.if-x-plain.true in
-    rw c.refused.ensures record {
+    record {
       found = list-to l c.if-at-plain.true;
       read = reads-22 (line_of l.bytes true) x r.long (list-step l.bytes l.list) u;
     }
@@ -31,44 +31,30 @@ returns-then-x-plain c =
 pub returns-then-at-plain : goal.returns-then-at-plain
 returns-then-at-plain c =
     let x = c.args.x in
-    let k = c.requires.3.known in
+    let k = c.requires.2.known in
     let r = c.list_at-plain.ensures in
     let l = r.line c.if-at-plain.true in
     let u = sym (l.high x.transitions) ∙ lt-leb _ _ c.if-x-plain.false in
-    rw c.going.ensures record {
+    record {
       found = list-to l c.if-at-plain.true;
       read = reads-step (line_of l.bytes true) x r.long (list-step l.bytes l.list) k u l.count
           (λ h. l.numbers (few-known 256 x.transitions _ (omega (arith, l.count)) u (omega (arith, k))));
     }
 
-pub line_at-any-requires : goal.line_at-any-requires
-line_at-any-requires c = (c.requires.0, c.requires.1)
-
-pub slice_bounds-any_line-count : goal.slice_bounds-any_line-count
-slice_bounds-any_line-count c = omega (arith, c.line_at-any.ensures.start)
+pub slice_bounds-any_line-start : goal.slice_bounds-any_line-start
+slice_bounds-any_line-start c = omega (arith, c.line_at-any.ensures.start)
 
 -- the array is as long as it was, whether a list line was looked for or not
 as_long : (c : Joined-at-c) → length c.if-at-c.step ≡ 128
 as_long c =
     elim c.if-at-c.branch [
       | then-at-c+else-at-plain w ↦ ap length w.step-is ∙ w.list_at-plain.ensures.long
-      | else-at-c w ↦ ap length w.step-is ∙ c.requires.3.long
+      | else-at-c w ↦ ap length w.step-is ∙ c.requires.2.long
     ]
 
 pub any_line-requires : goal.any_line-requires
 any_line-requires c =
-    (c.requires.0, record { known = c.requires.3.known; events = c.requires.3.events; long = as_long (goal.at.any_line-requires c).Joined-at-c })
+    record { known = c.requires.2.known; events = c.requires.2.events; long = as_long (goal.at.any_line-requires c).Joined-at-c }
 
 pub returns : goal.returns
-returns c =
-    let r = c.line_at-any.ensures in
-    let e = c.any_line.ensures.0 in
-    record {
-      found = record {
-        line = (line-to r).line;
-        lines = rw e r.lines;
-        on = omega (arith, r.start, r.on);
-        within = omega (arith, r.next);
-      };
-      read = c.any_line.ensures.1;
-    }
+returns c = record { found = line-to c.line_at-any.ensures; read = c.any_line.ensures }

@@ -1,26 +1,15 @@
-use Prim.Native.Nat.{ℕ, ◌-◌}
-use mathlib.Core.Path.{◌≡◌, sym, ◌∙◌}
-use mathlib.Core.List.{List}
-use native.Mathlib.Omega.{arith}
-use borrow.Author.Tests.{lt-ltb, le-ltb}
-use Rattle.spec.specs.Lists.{any, from}
-use Rattle.lists.specs.Search.{any-start, any-hit, any-on, any-end}
+-- `steps::falls` meets its contract: the chain asks the test of the definition of each place below `places`.
+use Rattle.std.proofs.Common.{rules, tests, arith, refl, ℕ, ◌∙◌, get_or, ltb}
+use Rattle.std.proofs.lemmas.Iterator.{YieldsList-from_range}
+use Rattle.std.proofs.lemmas.Iterator.Search.{any_from_yields_List}
+use Rattle.spec.specs.Lists.{up_to}
+use Rattle.net.proofs.Chains.{any_is}
 use Rattle.steps.specs.StepArrays.{falls}
 use Rattle.steps.proofs.falls.Goals as goal
-use Rattle.steps.proofs.falls.Invariants.{less}
-
-starts : (xs ys : List ℕ) (n : ℕ) → any (less xs ys) (from 0 (n - 0)) ≡ falls xs ys n
-unfolding falls
-starts xs ys n = any-start (less xs ys) n
-
-pub loop-p-init : goal.loop-p-init
-loop-p-init c = (omega arith, starts _ _ _)
-
-pub returns-then-marking-p : goal.returns-then-marking-p
-returns-then-marking-p c = sym (any-hit (less c.args.marking.now c.args.taken.now) _ _ c.loop-p-test.true (lt-ltb _ _ c.if-marking-p.true)) ∙ c.loop-p.invariant.1
-
-pub loop-p-preserved : goal.loop-p-preserved
-loop-p-preserved c = (omega arith, any-on (less c.args.marking.now c.args.taken.now) _ _ c.loop-p-test.true (le-ltb _ _ c.if-marking-p.false) ∙ c.loop-p.invariant.1)
 
 pub returns : goal.returns
-returns c = sym (any-end (less c.args.marking.now c.args.taken.now) _ _ c.loop-p-test.false) ∙ c.loop-p.invariant.1
+unfolding falls up_to
+returns c =
+    let q = λ (p : ℕ). ltb (get_or c.args.marking.now p 0) (get_or c.args.taken.now p 0) in
+    any_from_yields_List q _ _ _ c.any.ensures.ran (YieldsList-from_range 0 c.args.places c.args.places refl (omega arith)) (λ x b q k. search (rules, tests))
+    ∙ any_is q 0 c.args.places

@@ -1,11 +1,7 @@
 -- The entries from `at` on, up to the place that is next, are the net's.
-use Prim.Native.Nat.{◌-◌, ◌≤◌}
 use lib.ListN.{get_or}
 use Rattle.lists.specs.Stretch.{MappedFrom}
 use Rattle.steps.proofs.put_tokens.Given as goal
 
 abbrev pub invariant-loop-p : goal.invariant-loop-p
-invariant-loop-p l = (l.p ≤ 32) × MappedFrom l.initial.counts l.at l.p (λ i. get_or l.tokens i 0) l.counts
-
-abbrev pub decreases-loop-p : goal.decreases-loop-p
-decreases-loop-p l = 32 - l.p
+invariant-loop-p l = MappedFrom l.initial.counts l.at l.p (λ i. get_or l.tokens i 0) l.counts

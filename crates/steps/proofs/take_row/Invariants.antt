@@ -1,4 +1,4 @@
--- What the places below d weigh is taken, and `bits` holds the others.
+-- What the places below d weigh is taken, and the iterator has the others.
 use Prim.Native.Nat.{ℕ}
 use lib.ListN.{get_or}
 use Rattle.arc_sets.specs.Sets.{weight_at}
@@ -6,8 +6,5 @@ use Rattle.arc_sets.specs.Walk.{Left}
 use Rattle.steps.proofs.Walking.{TakenTo}
 use Rattle.steps.proofs.take_row.Given as goal
 
-abbrev pub invariant-loop-bits : goal.invariant-loop-bits
-invariant-loop-bits l = (d : ℕ) × Left (get_or l.sets l.row 0) l.bits d × TakenTo (weight_at l.sets l.row) d l.initial.xs l.xs
-
-abbrev pub decreases-loop-bits : goal.decreases-loop-bits
-decreases-loop-bits l = l.bits
+abbrev pub invariant-loop-p : goal.invariant-loop-p
+invariant-loop-p l = (d : ℕ) × Left (get_or l.sets l.row 0) l.p-iterator.left d × TakenTo (weight_at l.sets l.row) d l.initial.xs l.xs

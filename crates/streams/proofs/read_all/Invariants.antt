@@ -3,12 +3,12 @@ use Rattle.std.proofs.Common.{◌≡◌, ◌-◌, ◌≤◌, length, take}
 use Rattle.std.specs.Io.KnownBytes.{Consumes}
 use Rattle.streams.proofs.read_all.Given as goal
 
-abbrev pub invariant-loop-at : goal.invariant-loop-at
-invariant-loop-at g l = record {
+abbrev pub invariant-loop-read : goal.invariant-loop-read
+invariant-loop-read g l = record {
   same : length l.buf ≡ length l.initial.buf;
-  within : l.at ≤ length l.buf;
-  took : Consumes (g.R.Read.remaining l.initial.from) (g.R.Read.remaining l.from) (take l.at l.buf);
+  within : l.read ≤ length l.buf;
+  took : Consumes (g.R.Read.remaining l.initial.from) (g.R.Read.remaining l.from) (take l.read l.buf);
 }
 
-abbrev pub decreases-loop-at : goal.decreases-loop-at
-decreases-loop-at g l = length l.initial.buf - l.at
+abbrev pub decreases-loop-read : goal.decreases-loop-read
+decreases-loop-read g l = length l.initial.buf - l.read

@@ -1,8 +1,0 @@
--- `bit_sets::less` meets its contract: bit for bit a & (a ^ b) is a without b, and `both` carries that from the words
--- to the set.
-use mathlib.Core.Path.{refl}
-use Rattle.bit_sets.proofs.Laws.{has-less}
-use Rattle.bit_sets.proofs.less.Goals as goal
-
-pub returns : goal.returns
-returns c = has-less _ _ _ refl refl

@@ -1,7 +1,0 @@
--- `bit_sets::none` meets its contract: words that are 0 have no bit.
-use mathlib.Core.Path.{refl}
-use Rattle.bit_sets.specs.Sets.{no_words}
-use Rattle.bit_sets.proofs.none.Goals as goal
-
-pub returns : goal.returns
-returns c = no_words _ refl refl
