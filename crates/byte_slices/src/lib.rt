@@ -27,10 +27,11 @@ pub fn bytes_at(t: &[u8], at: usize) -> [u8; CHUNK]
     r
 }
 
-// How many bytes of a part, no longer than a chunk, are b. One byte holds the sum, so that the compiler adds 16 of them at a time.
+// How many bytes of a part, no longer than a chunk, are b. One byte holds the sum, so that the compiler adds 16 of them
+// at a time.
 pub fn count_in(b: u8, part: &[u8]) -> usize
     requires { length part.now ≤ chunk }
-    ensures { result ≡ count_of b part.now }
+    ensures { (result ≡ count_of b part.now) × (result ≤ chunk) }
 {
     let n: u8 = part.iter().map(|x| u8::from(*x == b)).sum();
     usize::from(n)

@@ -17,7 +17,7 @@ use spec::Class;
 
 // Why an energy text is refused: a line that is malformed, has the wrong letter or a number out of range; or too many
 // or too few lines.
-#[derive(Clone, Copy)]
+#[derive(Clone, Copy, Debug, PartialEq, Eq)]
 pub enum EnergyRefusal {
     WrongLine(usize),
     LineCount,

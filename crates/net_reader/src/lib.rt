@@ -256,6 +256,7 @@ fn add_lines(
     };
     let mut k: usize = 1;
     let mut at: usize = 0;
+    // A while: the position moves from line to line, as they are read.
     while at < text.len() {
         let line = Cursor { line: k, at, ended };
         let took = add_at(&table, text, line, s, tokens, arcs)?;

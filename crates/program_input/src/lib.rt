@@ -11,7 +11,7 @@ use byte_slices::{CHUNK, count_in};
 use lines::past_ending;
 
 // Where the net ends, in front of the line `=`, and where the log starts behind it.
-#[derive(Clone, Copy)]
+#[derive(Clone, Copy, Debug, PartialEq, Eq)]
 pub struct Parted {
     pub end: usize,
     pub start: usize,

@@ -13,14 +13,14 @@ use byte_slices::{CHUNK, count_in};
 use lines::line_at;
 
 // Where a line starts in its text, and how long it is without its ending.
-#[derive(Clone, Copy)]
+#[derive(Clone, Copy, Debug, PartialEq, Eq)]
 pub struct LinePart {
     pub start: usize,
     pub length: usize,
 }
 
 // No line has this number.
-#[derive(Clone, Copy)]
+#[derive(Clone, Copy, Debug, PartialEq, Eq)]
 pub struct NoSuchLine(pub usize);
 
 // A position, and how many line ends stand from it on in front of a line.

@@ -27,5 +27,5 @@ loop-part-preserved c =
     let l = s.1.1 ∙ i.2 in
     let size = s.0 ∙ i.2 in
     let within = part_within text c.in-Some.part.now _ at 128 e l i.4.within in
-    let count = c.count_in.ensures ∙ ap (count_of 61) (part_is text c.in-Some.part.now _ at 128 e l) in
+    let count = c.count_in.ensures.0 ∙ ap (count_of 61) (part_is text c.in-Some.part.now _ at 128 e l) in
     (omega (arith, size), tt, size, sym (rest_is text c.in-Some.part.now _ at 128 e l), leap text 128 at i.4 within (omega (arith, count)))

@@ -22,6 +22,6 @@ loop-part-preserved c =
     let l = s.1.1 ∙ i.2 in
     let size = s.0 ∙ i.2 in
     let within = part_within text c.in-Some.part.now _ at 128 e l i.4 in
-    let count = c.count_in-c.ensures ∙ ap (count_of 10) (part_is text c.in-Some.part.now _ at 128 e l) in
+    let count = c.count_in-c.ensures.0 ∙ ap (count_of 10) (part_is text c.in-Some.part.now _ at 128 e l) in
     (omega arith, tt, size, sym (rest_is text c.in-Some.part.now _ at 128 e l), within, leap text c.args.line c.loop-part.left at i.5 _ within count (omega arith))
 
