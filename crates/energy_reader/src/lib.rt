@@ -85,11 +85,7 @@ fn capacitor_row(w: Row) -> Option<Capacitor>
     ensures { Rated result (row_ratings w) }
 {
     if is_triple(Class::LetterK, w) {
-        return capacitor_in(
-            number_in(w.first),
-            number_in(w.second),
-            number_in(w.third),
-        );
+        return capacitor_in(number_in(w.first), number_in(w.second), number_in(w.third));
     }
     None
 }

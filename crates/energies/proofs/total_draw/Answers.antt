@@ -15,4 +15,4 @@ loop-t-preserved c =
     let e : t ≡ get_or c.args.events.now i 0 = c.from.ensures in
     let l = c.loop-t-test.true in
     λ ns d. next-event d i c.loop-t.sum c.event_draw-sum.result l (c.loop-t.invariant ns d)
-        (c.event_draw-sum.ensures (get_or ns t 0) (d.stand t (subst (λ (n : ℕ). n < length ns) (sym e) (d.known i l))) ∙ ap (λ (n : ℕ). float_of (get_or ns n 0)) e)
+    (c.event_draw-sum.ensures (get_or ns t 0) (d.stand t (subst (λ (n : ℕ). n < length ns) (sym e) (d.known i l))) ∙ ap (λ (n : ℕ). float_of (get_or ns n 0)) e)

@@ -24,4 +24,3 @@ loop-part-preserved c =
     let within = part_within text c.in-Some.part.now _ at 128 e l i.4 in
     let count = c.count_in-c.ensures.0 ∙ ap (count_of 10) (part_is text c.in-Some.part.now _ at 128 e l) in
     (omega arith, tt, size, sym (rest_is text c.in-Some.part.now _ at 128 e l), within, leap text c.args.line c.loop-part.left at i.5 _ within count (omega arith))
-
