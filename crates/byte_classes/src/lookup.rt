@@ -7,14 +7,16 @@ ghost use Rattle.byte_classes.specs.Table.{byte_table};
 use super::table::TABLE;
 
 // The table, made once for a text and lent to all that reads it.
-#[derive(Drop)]
+#[derive(Clone, Copy)]
 pub struct Table {
-    entries: [u8; 256],
-    ghost tabulated: { entries ≡ byte_table },
+    pub entries: [u8; 256],
+    pub ghost tabulated: { entries ≡ byte_table },
 }
 
 // It is made here alone: a constant is built anew wherever it is named.
-pub fn byte_table() -> Table {
+pub fn byte_table() -> Table
+    ensures { result.entries ≡ byte_table }
+{
     Table { entries: TABLE }
 }
 
