@@ -17,7 +17,8 @@ use Rattle.lines.proofs.Answers.{refuses≢gives, same-given}
 use Rattle.lines.proofs.ByLines.{Running, turn, stop, done}
 use Rattle.spec.specs.Values.{net_values}
 use Rattle.net.specs.NetArrays.{Arrays, arrays, arrays_at, Cells, Holds, net_with, net_at, HoldsAt, no_size, Draft, DraftOf, Few, answer_of, answer_so_far}
-use Rattle.net_reader.specs.Reads.{Blank, Takes, ReadsLines, lacks_of, Finishes, ReadsInto, Reads}
+use Rattle.net_reader.specs.Reads.{Blank, Takes, ReadsLines, lacks_of, Finishes, ReadsInto, Reads, no_net, ReadsNet}
+use Rattle.net.specs.declared.Net.{Net}
 use Rattle.net.specs.declared.Size.{Size}
 use Rattle.net.specs.declared.NetSize.{NetSize}
 use Rattle.net.specs.declared.NetRefusal.{NetRefusal}
@@ -119,3 +120,11 @@ read-value net n tokens arcs r a b c e = record { answer = r.answer; net = λ m 
 pub read_none : (net : List ℕ) (x : NetRefusal) {tokens arcs : List ℕ} → ReadsInto net (Err x) tokens arcs → Reads net (Err x)
 unfolding returned
 read_none net x r = record { answer = r.answer; net = λ m f. absurd (refuses≢gives (r.answer ∙ ap (returned net_values) f)) }
+
+-- the net of a text that declares one, and of one that is refused
+pub declared-net : (net : List ℕ) (n : Net) → Reads net (Ok n) → ReadsNet net n
+unfolding returned
+declared-net net n r = record { net = r.net; none = λ k s f. absurd (refuses≢gives (sym (ap (returned net_values) f) ∙ sym r.answer)) }
+
+pub refused-net : (net : List ℕ) (x : NetRefusal) (n : Net) → Reads net (Err x) → n ≡ no_net → ReadsNet net n
+refused-net net x n r h = record { net = λ m f. absurd (r.net m f); none = λ k s f. h }

@@ -1,7 +1,7 @@
 -- What the functions of the reader promise.
 use Rattle.std.specs.Prelude.{ℕ, ◌+◌, ◌*◌, ◌≤◌, ◌<◌, ◌≡◌, ◌⊎◌, Bool, not, ◌||◌, cond, List, [], ◌∷◌, length, get_or, replicate, eqb, ltb, Option, Some, None, Result, Ok, Err}
 use Rattle.spec.specs.Answer.{Answer, gives, refuses, returned}
-use Rattle.lines.specs.Agree.{Agrees, refused_as}
+use Rattle.lines.specs.Agree.{Agrees}
 use Rattle.lines.specs.Lines.{LineTo}
 use Rattle.lines.specs.declared.Opening.{Opening}
 use Rattle.byte_entries.specs.Entries.{code_of}
@@ -22,8 +22,8 @@ use Rattle.net.specs.declared.NetSize.{NetSize}
 use Rattle.net.specs.declared.NetRefusal.{NetRefusal}
 use Rattle.net_reader.specs.declared.Took.{Took}
 use Rattle.net_reader.specs.declared.ArcLine.{ArcLine}
-use Rattle.net.specs.NetArrays.{token_count, row_size, arc_count, net_refusal}
-use Rattle.net.specs.NetArrays.{Holds, Arrays, arrays_at, Draft, DraftOf, answer_of, answer_so_far, Bears, Steps, HoldsAt}
+use Rattle.net.specs.NetArrays.{token_count, row_size, kind_count, arc_count}
+use Rattle.net.specs.NetArrays.{Holds, Arrays, arrays, arrays_at, net_with, no_size, Draft, DraftOf, answer_of, answer_so_far, Bears, Steps, HoldsAt}
 
 -- all zero
 pub record Blank (ts xs : List ℕ) : Type 0 where
@@ -122,10 +122,10 @@ Finishes s arcs v =
     (tokens : List ℕ) (m : NetD) → Draft s (arrays_at tokens arcs) m
     → Agrees net_values (answer_of v) (HoldsAt tokens arcs) (whole m)
 
--- the paper's values of a net, or its refusal
-abbrev pub values_of : Result Net NetRefusal → Answer (ℕ × ℕ × ℕ)
-values_of (Ok n) = gives (n.places, n.transitions, 0)
-values_of (Err x) = refused_as (net_refusal x)
+-- the size of a net that is given, or the refusal
+abbrev pub size_told : Result Net NetRefusal → Result NetSize NetRefusal
+size_told (Ok n) = Ok (record { places = n.places; transitions = n.transitions })
+size_told (Err x) = Err x
 
 -- a net that is given holds one of the definitions
 abbrev pub HoldsOf : Result Net NetRefusal → NetD → Type 0
@@ -134,8 +134,20 @@ HoldsOf (Err x) m = ⊥
 
 -- the answer is the paper's, and a net is given where the text declares one, and is that one
 pub record Reads (text : List ℕ) (r : Result Net NetRefusal) : Type 0 where
-  pub answer : values_of r ≡ returned net_values (read_net text)
+  pub answer : answer_of (size_told r) ≡ returned net_values (read_net text)
   pub net : (m : NetD) → read_net text ≡ gives m → HoldsOf r m
+
+-- the net of no text: no places, no transitions, arrays of zeros
+abbrev pub no_net : Net
+no_net =
+    net_with no_size
+    (arrays (replicate token_count 0)
+    (replicate kind_count 0) (replicate kind_count 0) (replicate kind_count 0) (replicate kind_count 0))
+
+-- the net is the one that the text declares, or none where it is refused
+pub record ReadsNet (text : List ℕ) (r : Net) : Type 0 where
+  pub net : (m : NetD) → read_net text ≡ gives m → Holds r m
+  pub none : (n s : ℕ) → read_net text ≡ refuses n s → r ≡ no_net
 
 -- the answer alone is the paper's
 abbrev pub Answers : List ℕ → Result NetSize NetRefusal → Type 0

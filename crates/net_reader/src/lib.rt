@@ -8,7 +8,7 @@ ghost use Rattle.net.specs.NetArrays.{kind_count, reads_at, inputs_in, outputs_i
 ghost use Rattle.net.specs.NetArrays.{offset_of, arrays_at, Fits, Few, Steps};
 ghost use Rattle.plain_lines.specs.Plain.{Listed};
 ghost use Rattle.net_reader.specs.Reads.{add_row, ArcEntry, ArcLetter, kind_by, ArcLineAt, AddsLetter, Blank, any_cell, lacks_of, Takes};
-ghost use Rattle.net_reader.specs.Reads.{ReadsLines, Finishes, ReadsInto, Reads, Answers};
+ghost use Rattle.net_reader.specs.Reads.{ReadsLines, Finishes, no_net, ReadsInto, Reads, ReadsNet, Answers};
 
 use byte_classes::{Table, byte_table};
 use byte_entries::{COMMA, LETTER_H, LETTER_I, LETTER_O, LETTER_P, LETTER_R, LETTER_T};
@@ -347,4 +347,29 @@ pub fn read_net(net: &[u8]) -> Result<Net, NetRefusal>
         inhibitors: arcs_of(&arcs, INHIBITORS),
         reads: arcs_of(&arcs, READS),
     })
+}
+
+// The net of no text.
+fn no_net() -> Net
+    ensures { result ≡ no_net }
+{
+    Net {
+        places: 0,
+        transitions: 0,
+        tokens: [0u16; TOKENS],
+        inputs: [0u8; KIND],
+        outputs: [0u8; KIND],
+        inhibitors: [0u8; KIND],
+        reads: [0u8; KIND],
+    }
+}
+
+// The net that a text declares, for those who want one whatever the text: where it is refused, the net of no text.
+pub fn net_or_empty(net: &[u8]) -> Net
+    ensures { ReadsNet net.now result }
+{
+    match read_net(net) {
+        Ok(declared) => declared,
+        Err(_) => no_net(),
+    }
 }

@@ -21,7 +21,7 @@ pub use energy_reader::EnergyRefusal;
 pub use log_steps::LogRefusal;
 pub use net::{Net, NetRefusal, NetSize};
 use net_reader::net_answer;
-pub use net_reader::read_net;
+pub use net_reader::{net_or_empty, read_net};
 pub use printing::{PROGRAM_BYTES, program};
 pub use record_columns::RecordRefusal;
 pub use refused_lines::{LinePart, NoSuchLine, refused_line, refused_line_answer};
